@@ -1,0 +1,69 @@
+-- What the order of two finite values says of their signs and sizes as fractions. Assumes nothing.
+use mathlib.Core.Path.{_≡_, refl, sym, ap, _∙_, subst}
+use mathlib.Core.Bool.{Bool, true, false, not, cond, _&&_, _||_}
+use Prim.Native.Nat.{ℕ, zero, suc, _+_, _-_, _*_, _/_, _^_, _≤_, _<_}
+use native.Mathlib.Nat.{le-trans, le-of-eq, le-of-lt, mul-comm, mul-assoc, mul-right-comm, mul-le-mul-right, add-mul, mul-sub, zero-mul}
+use native.Mathlib.Omega.{arith}
+use lib.Dec.{T, ltb, eqb, ltb→lt, eqb→eq, lit<}
+use lib.IntN.{ℤ}
+use lib.Ieee.{Float, nan, inf, fin, Format, up, down, low, emax, prec, le, lt, eq, neg, odd, units, round}
+use lib.Ieee.Fits.{down-pos, and-l, and-r}
+use lib.Ieee.Nearest.{div-mono}
+
+-- what ±x ≤ ±y says of the magnitudes
+abbrev pub Ord : Bool → ℕ → Bool → ℕ → Type 0
+Ord false x false y = x ≤ y
+Ord false x true y = (x ≡ 0) × (y ≡ 0)
+Ord true x false y = Unit {0}
+Ord true x true y = y ≤ x
+
+pub sub-mul : (a b c : ℕ) → (a - b) * c ≡ a * c - b * c
+sub-mul a b c = mul-comm (a - b) c ∙ mul-sub c a b ∙ ap (λ (z : ℕ). z - c * b) (mul-comm c a) ∙ ap (λ (z : ℕ). a * c - z) (mul-comm c b)
+
+-- ---- what `le` says
+pub le-or-eq : (a b : ℕ) (z : Bool) → T (ltb a b || (eqb a b && z)) → a ≤ b
+le-or-eq a b z = go (ltb a b) (eqb a b) (ltb→lt a b) (eqb→eq a b)
+  where
+    go : (u v : Bool) → (T u → a < b) → (T v → a ≡ b) → T (u || (v && z)) → a ≤ b
+    go true v f g t = le-of-lt (f tt)
+    go false true f g t = le-of-eq (g tt)
+    go false false f g t = absurd t
+
+ge-or-eq : (a b : ℕ) (z : Bool) → T (ltb b a || (eqb a b && z)) → b ≤ a
+ge-or-eq a b z = go (ltb b a) (eqb a b) (ltb→lt b a) (eqb→eq a b)
+  where
+    go : (u v : Bool) → (T u → b < a) → (T v → a ≡ b) → T (u || (v && z)) → b ≤ a
+    go true v f g t = le-of-lt (f tt)
+    go false true f g t = le-of-eq (sym (g tt))
+    go false false f g t = absurd t
+
+both-zero : (a b : ℕ) → T (eqb a b && (false || eqb a 0)) → (a ≡ 0) × (b ≡ 0)
+both-zero a b t =
+    let e = eqb→eq a b (and-l (eqb a b) (eqb a 0) t) in
+    let z = eqb→eq a 0 (and-r (eqb a b) (eqb a 0) t) in
+    (z, sym e ∙ z)
+
+pub ord-of-le : (s : Bool) (m : ℕ) (e : ℤ) (t : Bool) (n : ℕ) (d : ℤ) → T (le (fin s m e) (fin t n d)) → Ord s (m * up e * down d) t (n * up d * down e)
+unfolding le
+ord-of-le false m e false n d h = le-or-eq (m * up e * down d) (n * up d * down e) true h
+ord-of-le false m e true n d h = both-zero (m * up e * down d) (n * up d * down e) h
+ord-of-le true m e false n d h = tt
+ord-of-le true m e true n d h = ge-or-eq (m * up e * down d) (n * up d * down e) true h
+
+-- ---- the sign
+neg-odd : (d q k l : ℕ) → neg (odd d false q k l) ≡ odd d true q k l
+unfolding neg odd
+neg-odd d zero k l = refl
+neg-odd d (suc q) k l = refl
+
+neg-units : (f : Format) (q k : ℕ) → neg (units f false q k) ≡ units f true q k
+unfolding units neg
+neg-units f q k = go (ltb (q * 2 ^ k) (2 ^ (low f + suc (emax f))))
+  where
+    go : (b : Bool) → neg (cond b (odd (suc (prec f)) false q k (low f)) (inf false)) ≡ cond b (odd (suc (prec f)) true q k (low f)) (inf true)
+    go true = neg-odd (suc (prec f)) q k (low f)
+    go false = refl
+
+pub neg-round : (f : Format) (n d : ℕ) → neg (round f false n d) ≡ round f true n d
+unfolding round
+neg-round f n d = neg-units f _ _

@@ -1,0 +1,427 @@
+-- The dual window over f32: the operations in the order of the code, and the bound. Assumes nothing.
+use mathlib.Core.Path.{_≡_, refl, sym, ap, _∙_, subst}
+use mathlib.Core.Bool.{Bool, true, false, not, cond, true≢false}
+use mathlib.Core.List.{List, [], _∷_, _++_}
+use Prim.Native.Nat.{ℕ, suc, _+_, _-_, _*_, _^_, _≤_, _<_}
+use native.Mathlib.Nat.{mul-comm, mul-assoc, mul-left-comm, mul-right-comm, mul-pos, add-mul, le-trans, le-of-eq, le-of-lt, lt-of-le-of-lt, mul-le-mul, mul-le-mul-right, le-of-mul-le-mul-right, pow-suc, zero-add, add-assoc, add-comm, div-one}
+use native.Mathlib.Omega.{arith}
+use lib.IntN.{pos, negsuc}
+use lib.Pow.{pow-pos, pow-mono}
+use lib.Dec.{T, lit≤, not-T}
+use lib.ListN.{length, length-append}
+use lib.Ieee.{Float, nan, inf, fin, Format, binary32, prec, emax, low, fits, add, mul, div, lt, le, unlike, round, neg}
+use lib.Ieee.Scale.{overflow}
+use Rattle.float_laws.specs.Units.{mag, sign, number, real, key, keyed, mag-inf, mag-below, lt→key, le→key, real-number}
+use Rattle.float_laws.specs.Order.{larger, le-left}
+use Rattle.float_laws.specs.Round.{rnd, sign-round, mag-round, round-number, mag-zero, real-zero}
+use Rattle.float_laws.specs.Ops.{mul-round, div-round, add-sum, sum-clear}
+use Rattle.float_laws.specs.Mono.{o, rndU, rndM, real-neg}
+use Rattle.float_laws.specs.Error.{Within, Close, rnd-within, rnd-close, hi-32, lo-32}
+use Rattle.float_laws.specs.Bounds.{one, real-between}
+use Rattle.float_laws.specs.Power.{rnd-power, power-below, real-power}
+use Rattle.float_laws.specs.Near.{B, Near, near-of, near-20}
+use Rattle.float_laws.specs.Dual.{total, All, rolled, Steps, sum-near, Sq, sq, squares-near, Item, Good, prod, square, dual-near}
+
+-- ---- the code's steps
+-- the squares, summed from the left onto d
+abbrev pub energy : Format → Float → List Float → Float
+energy f d [] = d
+energy f d (x ∷ xs) = energy f (add f d (mul f x x)) xs
+
+-- the value x over the larger of that sum and c
+abbrev pub dual : Format → Float → List Float → Float → Float
+dual f c ys x = div f x (larger (energy f o ys) c)
+
+-- of each entry of the second list its dual, the sum being taken from the entry on, round the end to the first list
+abbrev pub pairs : Format → Float → List Float → List Float → List (Float × Float)
+pairs f c pre [] = []
+pairs f c pre (x ∷ xs) = (x, dual f c (x ∷ xs ++ pre) x) ∷ pairs f c (pre ++ (x ∷ [])) xs
+
+-- ---- a finite value with a clear sign
+pub record Plain (f : Format) (x : Float) (n : ℕ) : Type 0 where
+  pub is-real : T (real f x)
+  pub clear : sign x ≡ false
+  pub size : mag f x ≡ n
+
+finite-number : (f : Format) (x : Float) → T (number f x) → mag f x < overflow f → T (real f x)
+finite-number f nan p h = p
+finite-number f (inf s) p h = absurd (clash (overflow f) (mag f (inf s)) (mag-inf f s) h)
+  where
+    clash : (a b : ℕ) → b ≡ a → b < a → ⊥
+    clash a b e l = omega arith
+finite-number f (fin s m e) p h = p
+
+plain-round : (f : Format) (a c : ℕ) → rnd f a c < overflow f → Plain f (round f false a c) (rnd f a c)
+plain-round f a c h =
+    record {
+      is-real = finite-number f (round f false a c) (round-number f false a c) (lt-of-le-of-lt (le-of-eq (mag-round f false a c)) h);
+      clear = sign-round f false a c;
+      size = mag-round f false a c;
+    }
+
+unlike-self : (s : Bool) → unlike s s ≡ false
+unlike-self true = refl
+unlike-self false = refl
+
+square-plain : (f : Format) (x : Float) → T (real f x) → rndM f (mag f x) (mag f x) < overflow f → Plain f (mul f x x) (rndM f (mag f x) (mag f x))
+square-plain f x p h =
+    subst (λ (z : Float). Plain f z (rndM f (mag f x) (mag f x)))
+    (ap (λ (s : Bool). round f s (mag f x * mag f x) (2 ^ low f * 2 ^ low f)) (sym (unlike-self (sign x))) ∙ sym (mul-round f x x p p))
+    (plain-round f (mag f x * mag f x) (2 ^ low f * 2 ^ low f) h)
+
+add-plain : (f : Format) (x y : Float) (m n : ℕ) → Plain f x m → Plain f y n → rndU f (m + n) < overflow f → Plain f (add f x y) (rndU f (m + n))
+add-plain f x y m n p q h =
+    subst (λ (z : Float). Plain f z (rndU f (m + n)))
+    (sym
+    (add-sum f x y (p .is-real) (q .is-real)
+    ∙ sum-clear f (sign x) (sign y) (mag f x) (mag f y) (2 ^ low f) (p .clear) (q .clear)
+    ∙ ap (λ (z : ℕ). round f false (z + mag f y) (2 ^ low f)) (p .size)
+    ∙ ap (λ (z : ℕ). round f false (m + z) (2 ^ low f)) (q .size)))
+    (plain-round f (m + n) (2 ^ low f) h)
+
+abbrev pub mags : Format → List Float → List ℕ
+mags f [] = []
+mags f (x ∷ xs) = mag f x ∷ mags f xs
+
+-- a value whose size is at most 16
+pub record Ok (f : Format) (x : Float) : Type 0 where
+  pub is-real : T (real f x)
+  pub small : mag f x ≤ 16 * 2 ^ low f
+
+-- ---- arithmetic that is not linear, over variables
+square-le : (m L : ℕ) → m ≤ 16 * L → m * m * L ≤ 256 * L * (L * L)
+square-le m L h =
+    let a : m * m ≤ 16 * L * (16 * L) = mul-le-mul h h in
+    let e : 16 * L * (16 * L) ≡ 256 * (L * L) = simp (mul-assoc, mul-comm, mul-left-comm) (omega arith) in
+    let g : 256 * (L * L) * L ≡ 256 * L * (L * L) = simp (mul-assoc, mul-comm, mul-left-comm) in
+    le-trans (mul-le-mul-right L (le-trans a (le-of-eq e))) (le-of-eq g)
+
+strip-hi : (q m L : ℕ) → 0 < L → 8388608 * (2 * (q * (L * L))) ≤ 8388608 * (2 * (m * m * L)) + (m * m * L + 8388608 * (L * L)) → B * (q * L) ≤ 16777217 * (m * m) + 8388608 * L
+strip-hi q m L L0 h =
+    let a : B * (q * L) * L ≡ B * (q * (L * L)) = mul-assoc B (q * L) L ∙ ap (λ (z : ℕ). B * z) (mul-assoc q L L) in
+    let b : (16777217 * (m * m) + 8388608 * L) * L ≡ 16777217 * (m * m * L) + 8388608 * (L * L) = add-mul (16777217 * (m * m)) (8388608 * L) L ∙ ap (λ (z : ℕ). z + 8388608 * L * L) (mul-assoc 16777217 (m * m) L) ∙ ap (λ (z : ℕ). 16777217 * (m * m * L) + z) (mul-assoc 8388608 L L) in
+    le-of-mul-le-mul-right (omega arith) L0
+
+strip-lo : (q m L : ℕ) → 0 < L → 8388608 * (2 * (m * m * L)) ≤ 8388608 * (2 * (q * (L * L))) + (m * m * L + 8388608 * (L * L)) → 16777215 * (m * m) ≤ B * (q * L) + 8388608 * L
+strip-lo q m L L0 h =
+    let a : 16777215 * (m * m) * L ≡ 16777215 * (m * m * L) = mul-assoc 16777215 (m * m) L in
+    let b : (B * (q * L) + 8388608 * L) * L ≡ B * (q * (L * L)) + 8388608 * (L * L) = add-mul (B * (q * L)) (8388608 * L) L ∙ ap (λ (z : ℕ). z + 8388608 * L * L) (mul-assoc B (q * L) L ∙ ap (λ (z : ℕ). B * z) (mul-assoc q L L)) ∙ ap (λ (z : ℕ). B * (q * (L * L)) + z) (mul-assoc 8388608 L L) in
+    le-of-mul-le-mul-right (omega arith) L0
+
+double : (j d q L : ℕ) → 8 ≤ j → d ≤ 2 ^ j * L → q ≤ 256 * L → d + q ≤ 2 ^ suc j * L
+double j d q L h a b =
+    let c : 256 * L ≤ 2 ^ j * L = mul-le-mul-right L (pow-mono h) in
+    let e : 2 ^ suc j * L ≡ 2 ^ j * L * 2 = ap (λ (z : ℕ). z * L) (pow-suc 2 j) ∙ mul-right-comm (2 ^ j) 2 L in
+    omega arith
+
+-- ---- a format of 24 digits
+module _ (f : Format) (P : 2 ^ (prec f - 1) ≡ 8388608) (big : 2 ^ 57 ≤ 2 ^ low f) (wide : 64 ≤ emax f) where
+  L0 : 0 < 2 ^ low f
+  L0 = pow-pos (low f)
+
+  LL0 : 0 < 2 ^ low f * 2 ^ low f
+  LL0 = mul-pos (pow-pos (low f)) (pow-pos (low f))
+
+  abbrev q : ℕ → ℕ
+  q m = rndM f m m
+
+  abbrev up : ℕ → ℕ → ℕ
+  up d g = rndU f (d + g)
+
+  q-le : (m : ℕ) → m ≤ 16 * 2 ^ low f → q m ≤ 256 * 2 ^ low f
+  q-le m h = rnd-power f 8 (m * m) (2 ^ low f * 2 ^ low f) (le-trans (lit≤ tt) wide) LL0 (square-le m (2 ^ low f) h)
+
+  q-below : (m : ℕ) → m ≤ 16 * 2 ^ low f → q m < overflow f
+  q-below m h = lt-of-le-of-lt (q-le m h) (power-below f 8 (le-trans (lit≤ tt) wide))
+
+  q-sq : (m : ℕ) → m ≤ 16 * 2 ^ low f → Sq (2 ^ low f) q m
+  q-sq m h =
+      let w = subst (λ (z : ℕ). Within z (m * m * 2 ^ low f) (2 ^ low f * 2 ^ low f) (q m)) P (rnd-within f (m * m) (2 ^ low f * 2 ^ low f) LL0 (q-below m h)) in
+      record { hi = strip-hi (q m) m (2 ^ low f) L0 (w .hi); lo = strip-lo (q m) m (2 ^ low f) L0 (w .lo) }
+
+  near-up : (n : ℕ) → rndU f n < overflow f → Near 1 (rndU f n) n
+  near-up n h =
+      let w = subst (λ (z : ℕ). Close z n (rndU f n)) P (rnd-close f n h) in
+      near-of 1 (rndU f n) n n n (omega (arith, w .hi)) (omega (arith, w .lo)) (omega arith) (omega arith)
+
+  up-le : (j d g : ℕ) → 8 ≤ j → suc j ≤ 64 → d ≤ 2 ^ j * 2 ^ low f → g ≤ 256 * 2 ^ low f → up d g ≤ 2 ^ suc j * 2 ^ low f
+  up-le j d g h k a b = rnd-power f (suc j) (d + g) (2 ^ low f) (le-trans k wide) L0 (mul-le-mul-right (2 ^ low f) (double j d g (2 ^ low f) h a b))
+
+  up-below : (j d g : ℕ) → 8 ≤ j → suc j ≤ 64 → d ≤ 2 ^ j * 2 ^ low f → g ≤ 256 * 2 ^ low f → up d g < overflow f
+  up-below j d g h k a b = lt-of-le-of-lt (up-le j d g h k a b) (power-below f (suc j) (le-trans k wide))
+
+  -- the sum's roundings, and the sum
+  steps : (j d : ℕ) (xs : List Float) → 8 ≤ j → j + length xs ≤ 64 → d ≤ 2 ^ j * 2 ^ low f → All (Ok f) xs → Steps up q d (mags f xs)
+  steps j d [] h k a b = tt
+  steps j d (x ∷ xs) h k a b =
+      let g = q-le (mag f x) (b .0 .small) in
+      let s : suc j ≤ 64 = omega arith in
+      (near-up (d + q (mag f x)) (up-below j d (q (mag f x)) h s a g), steps (suc j) (up d (q (mag f x))) xs (omega arith) (omega arith) (up-le j d (q (mag f x)) h s a g) (b .1))
+
+  energy-plain : (j : ℕ) (d : Float) (n : ℕ) (xs : List Float) → 8 ≤ j → j + length xs ≤ 64 → Plain f d n → n ≤ 2 ^ j * 2 ^ low f → All (Ok f) xs → Plain f (energy f d xs) (rolled up q n (mags f xs))
+  energy-plain j d n [] h k p a b = p
+  energy-plain j d n (x ∷ xs) h k p a b =
+      let m = mag f x in
+      let g = q-le m (b .0 .small) in
+      let s : suc j ≤ 64 = omega arith in
+      energy-plain (suc j) (add f d (mul f x x)) (up n (q m)) xs (omega arith) (omega arith)
+      (add-plain f d (mul f x x) n (q m) p (square-plain f x (b .0 .is-real) (q-below m (b .0 .small))) (up-below j n (q m) h s a g))
+      (up-le j n (q m) h s a g) (b .1)
+
+-- ---- the divisor, over variables
+floor : (L Q S : ℕ) → Near 2 (Q * L) S → L * L ≤ 2 ^ 30 * S → 0 < L → L ≤ 2 ^ 31 * Q
+floor L Q S n h L0 =
+    let a : L * L ≤ 2 ^ 31 * (Q * L) = omega (arith, n .under) in
+    le-of-mul-le-mul-right (le-trans a (le-of-eq (sym (mul-assoc (2 ^ 31) Q L)))) L0
+
+floor-e : (L Q e : ℕ) → L ≤ 2 ^ 31 * Q → Near 16 e Q → L ≤ 2 ^ 32 * e
+floor-e L Q e h n = omega (arith, n .under)
+
+over : (K c e s : ℕ) → K + e < s → s ≤ K + c → (L : ℕ) → L ≤ 2 ^ 32 * e → 2 ^ 39 * c ≤ L → ⊥
+over K c e s h g L a b = omega arith
+
+keyed-le : (K : ℕ) (s : Bool) (m : ℕ) → keyed K s m ≤ K + m
+keyed-le K false m = omega arith
+keyed-le K true m = omega arith
+
+cond-no : (b : Bool) (x y : Float) → T (not b) → cond b x y ≡ y
+cond-no true x y h = absurd h
+cond-no false x y h = refl
+
+quot-le : (m e L : ℕ) → m ≤ 16 * L → L ≤ 2 ^ 32 * e → m * L ≤ 2 ^ 36 * L * e
+quot-le m e L h k =
+    let a : m ≤ 2 ^ 36 * e = omega arith in
+    le-trans (mul-le-mul-right L a) (le-of-eq (mul-right-comm (2 ^ 36) e L))
+
+unlike-clear : (s t : Bool) → t ≡ false → unlike s t ≡ s
+unlike-clear true false h = refl
+unlike-clear false false h = refl
+unlike-clear s true h = absurd (true≢false h)
+
+total-append : {A : Type 0} (g : A → ℕ) (a b : List A) → total g (a ++ b) ≡ total g a + total g b
+unfolding total
+total-append g [] b = sym (zero-add (total g b))
+total-append g (x ∷ a) b = ap (λ (z : ℕ). g x + z) (total-append g a b) ∙ sym (add-assoc (g x) (total g a) (total g b))
+
+mags-append : (f : Format) (a b : List Float) → mags f (a ++ b) ≡ mags f a ++ mags f b
+mags-append f [] b = refl
+mags-append f (x ∷ a) b = ap (λ (z : List ℕ). mag f x ∷ z) (mags-append f a b)
+
+all-append : {A : Type 0} (Q : A → Type 0) (a b : List A) → All Q a → All Q b → All Q (a ++ b)
+all-append Q [] b h k = k
+all-append Q (x ∷ a) b h k = (h .0, all-append Q a b (h .1) k)
+
+mags-length : (f : Format) (xs : List Float) → length (mags f xs) ≡ length xs
+mags-length f [] = refl
+mags-length f (x ∷ xs) = ap suc (mags-length f xs)
+
+-- ---- one quotient: ys are the values whose squares are summed, and Q is the sum of the rounded squares
+module _ (f : Format) (P : 2 ^ (prec f - 1) ≡ 8388608) (big : 2 ^ 57 ≤ 2 ^ low f) (wide : 64 ≤ emax f) (c : Float) (cr : T (real f c)) (cs : 2 ^ 39 * mag f c ≤ 2 ^ low f) (Q : ℕ) (fl : 2 ^ low f ≤ 2 ^ 31 * Q) where
+  module _ (ys : List Float) (ok : All (Ok f) ys) (few : length ys ≤ 16) (same : total (λ m. rndM f m m) (mags f ys) ≡ Q) where
+    e : ℕ
+    e = rolled (λ d g. rndU f (d + g)) (λ m. rndM f m m) 0 (mags f ys)
+
+    plain-o : Plain f o 0
+    plain-o = record { is-real = real-zero f false; clear = refl; size = mag-zero f false (pos 0) }
+
+    plain-e : Plain f (energy f o ys) e
+    unfolding e
+    plain-e = energy-plain f P big wide 8 o 0 ys (omega arith) (omega arith) plain-o (omega arith) ok
+
+    near-e : Near 16 e Q
+    unfolding e
+    near-e =
+        let l : length (mags f ys) ≤ 16 = le-trans (le-of-eq (mags-length f ys)) few in
+        subst (λ (z : ℕ). Near 16 (rolled (λ d g. rndU f (d + g)) (λ m. rndM f m m) 0 (mags f ys)) z) same
+        (sum-near (λ d g. rndU f (d + g)) (λ m. rndM f m m) (mags f ys) l (steps f P big wide 8 0 ys (omega arith) (omega arith) (omega arith) ok))
+
+    floor-is : 2 ^ low f ≤ 2 ^ 32 * e
+    floor-is = floor-e (2 ^ low f) Q e fl near-e
+
+    key-e : key f (energy f o ys) ≡ overflow f + e
+    key-e = ap (λ (s : Bool). keyed (overflow f) s (mag f (energy f o ys))) (plain-e .clear) ∙ ap (λ (z : ℕ). overflow f + z) (plain-e .size)
+
+    divisor-is : larger (energy f o ys) c ≡ energy f o ys
+    divisor-is =
+        let E = energy f o ys in
+        cond-no (lt E c) c E
+        (not-T (lt E c)
+        (λ (h : T (lt E c)).
+        over (overflow f) (mag f c) e (key f c) (subst (λ (z : ℕ). z < key f c) key-e (lt→key f E c (real-number f E (plain-e .is-real)) (real-number f c cr) h))
+        (keyed-le (overflow f) (sign c) (mag f c)) (2 ^ low f) floor-is cs))
+
+    e-pos : 0 < e
+    e-pos = positive-e (2 ^ low f) e floor-is (pow-pos (low f))
+      where
+        positive-e : (L e : ℕ) → L ≤ 2 ^ 32 * e → 0 < L → 0 < e
+        positive-e L e h p = omega arith
+
+    module _ (x : Float) (okx : Ok f x) where
+      dual-round : dual f c ys x ≡ round f (sign x) (mag f x) e
+      dual-round =
+          let E = energy f o ys in
+          ap (div f x) divisor-is
+          ∙ div-round f x E (okx .is-real) (plain-e .is-real) (subst (λ (z : ℕ). 0 < z) (sym (plain-e .size)) e-pos)
+          ∙ ap (λ (s : Bool). round f s (mag f x) (mag f E)) (unlike-clear (sign x) (sign E) (plain-e .clear))
+          ∙ ap (λ (z : ℕ). round f (sign x) (mag f x) z) (plain-e .size)
+
+      pub dual-sign : sign (dual f c ys x) ≡ sign x
+      dual-sign = ap sign dual-round ∙ sign-round f (sign x) (mag f x) e
+
+      quotient-le : rnd f (mag f x) e ≤ 2 ^ 36 * 2 ^ low f
+      quotient-le = rnd-power f 36 (mag f x) e (le-trans (lit≤ tt) wide) e-pos (quot-le (mag f x) e (2 ^ low f) (okx .small) floor-is)
+
+      quotient-good : Good (2 ^ low f) Q (record { m = mag f x; D = e; t = mag f (dual f c ys x) })
+      quotient-good =
+          let t = mag f (dual f c ys x) in
+          let is : rnd f (mag f x) e ≡ t = sym (ap (mag f) dual-round ∙ mag-round f (sign x) (mag f x) e) in
+          let w = subst (λ (z : ℕ). Within z (mag f x * 2 ^ low f) e (rnd f (mag f x) e)) P (rnd-within f (mag f x) e e-pos (lt-of-le-of-lt quotient-le (power-below f 36 (le-trans (lit≤ tt) wide)))) in
+          let v = subst (λ (z : ℕ). Within 8388608 (mag f x * 2 ^ low f) e z) is w in
+          record { hi = hi-32 (t * e) (mag f x * 2 ^ low f) e (v .hi); lo = lo-32 (t * e) (mag f x * 2 ^ low f) e (v .lo); near = near-e; small = okx .small }
+
+-- ---- all quotients
+-- the sizes of a value and its dual, multiplied
+abbrev pub joint : Format → Float × Float → ℕ
+joint f p = mag f (p .0) * mag f (p .1)
+
+module _ (f : Format) (c : Float) where
+  items : List Float → List Float → List Item
+  items pre [] = []
+  items pre (x ∷ xs) =
+      let ys = x ∷ xs ++ pre in
+      record { m = mag f x; D = rolled (λ d g. rndU f (d + g)) (λ m. rndM f m m) 0 (mags f ys); t = mag f (dual f c ys x) } ∷ items (pre ++ (x ∷ [])) xs
+
+  items-prod : (pre xs : List Float) → total prod (items pre xs) ≡ total (joint f) (pairs f c pre xs)
+  unfolding total items
+  items-prod pre [] = refl
+  items-prod pre (x ∷ xs) = ap (λ (z : ℕ). mag f x * mag f (dual f c (x ∷ xs ++ pre) x) + z) (items-prod (pre ++ (x ∷ [])) xs)
+
+  items-square : (pre xs : List Float) → total square (items pre xs) ≡ total sq (mags f xs)
+  unfolding total items
+  items-square pre [] = refl
+  items-square pre (x ∷ xs) = ap (λ (z : ℕ). mag f x * mag f x + z) (items-square (pre ++ (x ∷ [])) xs)
+
+  items-length : (pre xs : List Float) → length (items pre xs) ≡ length xs
+  unfolding items
+  items-length pre [] = refl
+  items-length pre (x ∷ xs) = ap suc (items-length (pre ++ (x ∷ [])) xs)
+
+sums-append : (f : Format) (g : ℕ → ℕ) (a b : List Float) → total g (mags f (a ++ b)) ≡ total g (mags f a) + total g (mags f b)
+sums-append f g a b = ap (total g) (mags-append f a b) ∙ total-append g (mags f a) (mags f b)
+
+sums-one : (f : Format) (g : ℕ → ℕ) (x : Float) (a b : List Float) → total g (mags f (a ++ (x ∷ []))) + total g (mags f b) ≡ total g (mags f a) + total g (mags f (x ∷ b))
+unfolding total
+sums-one f g x a b = let h = sums-append f g a (x ∷ []) in omega arith
+
+module _ (f : Format) (P : 2 ^ (prec f - 1) ≡ 8388608) (big : 2 ^ 57 ≤ 2 ^ low f) (wide : 64 ≤ emax f) (c : Float) (cr : T (real f c)) (cs : 2 ^ 39 * mag f c ≤ 2 ^ low f) where
+  items-good : (Q : ℕ) → 2 ^ low f ≤ 2 ^ 31 * Q → (pre xs : List Float) → All (Ok f) pre → All (Ok f) xs → length pre + length xs ≤ 16
+      → total (λ m. rndM f m m) (mags f pre) + total (λ m. rndM f m m) (mags f xs) ≡ Q → All (Good (2 ^ low f) Q) (items f c pre xs)
+  unfolding items e
+  items-good Q fl pre [] a b l h = tt
+  items-good Q fl pre (x ∷ xs) a b l h =
+      let ys = x ∷ xs ++ pre in
+      let n = length-append (x ∷ xs) pre in
+      let k = length-append pre (x ∷ []) in
+      let s = sums-append f (λ m. rndM f m m) (x ∷ xs) pre in (
+        quotient-good f P big wide c cr cs Q fl ys (all-append (Ok f) (x ∷ xs) pre b a) (omega arith) (s ∙ add-comm (total (λ m. rndM f m m) (mags f (x ∷ xs))) (total (λ m. rndM f m m) (mags f pre)) ∙ h) x (b .0),
+        items-good Q fl (pre ++ (x ∷ [])) xs (all-append (Ok f) pre (x ∷ []) a (b .0, tt)) (b .1) (omega arith) (sums-one f (λ m. rndM f m m) x pre xs ∙ h),
+      )
+
+  all-sq : (xs : List Float) → All (Ok f) xs → All (Sq (2 ^ low f) (λ m. rndM f m m)) (mags f xs)
+  all-sq [] h = tt
+  all-sq (x ∷ xs) h = (q-sq f P big wide (mag f x) (h .0 .small), all-sq xs (h .1))
+
+  pub window-near : (xs : List Float) → All (Ok f) xs → length xs ≤ 16 → 2 ^ low f * 2 ^ low f ≤ 2 ^ 30 * total sq (mags f xs)
+      → Near 20 (total (joint f) (pairs f c [] xs)) (2 ^ low f * 2 ^ low f)
+  window-near xs ok few enough =
+      let L = 2 ^ low f in
+      let g : ℕ → ℕ = λ m. rndM f m m in
+      let Q = total g (mags f xs) in
+      let l : length (mags f xs) ≤ 16 = le-trans (le-of-eq (mags-length f xs)) few in
+      let n = squares-near L g (mags f xs) big enough l (all-sq xs ok) in
+      let fl = floor L Q (total sq (mags f xs)) n enough (pow-pos (low f)) in
+      let none : total g [] ≡ 0 = unfold total in refl in
+      let good = items-good Q fl [] xs tt ok (omega arith) (omega (arith, none)) in
+      let is = items-square f c [] xs in
+      subst (λ (z : ℕ). Near 20 z (L * L)) (items-prod f c [] xs)
+      (dual-near L Q (items f c [] xs) good (le-trans (le-of-eq (items-length f c [] xs)) few) big
+      (subst (λ (z : ℕ). L * L ≤ 2 ^ 30 * z) (sym is) enough)
+      (subst (λ (z : ℕ). Near 2 (Q * L) z) (sym is) n))
+
+-- ---- `f32`, and the code's least divisor, 1.0e-12
+abbrev pub least : Float
+least = fin false 2305843 (negsuc 60)
+
+real-least : T (real binary32 least)
+unfolding fits
+real-least = tt
+
+-- the exact sum of the products of values and duals is 1 within 2 ^ -19, and each product is not negative, since a value and its dual have one sign (`window-signs`)
+pub window-32 : (xs : List Float) → All (Ok binary32) xs → length xs ≤ 16 → 2 ^ low binary32 * 2 ^ low binary32 ≤ 2 ^ 30 * total sq (mags binary32 xs)
+    → (524288 * total (joint binary32) (pairs binary32 least [] xs) ≤ 524289 * (2 ^ low binary32 * 2 ^ low binary32))
+    × (524287 * (2 ^ low binary32 * 2 ^ low binary32) ≤ 524288 * total (joint binary32) (pairs binary32 least [] xs))
+unfolding mag
+window-32 xs ok few enough =
+    near-20 (total (joint binary32) (pairs binary32 least [] xs)) (2 ^ low binary32 * 2 ^ low binary32)
+    (window-near binary32 refl (lit≤ tt) (lit≤ tt) least real-least (lit≤ tt) xs ok few enough)
+
+-- ---- the hypotheses as a caller has them: a value of f32 from -16 to 16
+abbrev pub sixteen : Bool → Float
+sixteen s = fin s 1 (pos 4)
+
+mag-sixteen : (f : Format) (s : Bool) → mag f (sixteen s) ≡ 16 * 2 ^ low f
+unfolding mag
+mag-sixteen f s = div-one (1 * 16 * 2 ^ low f)
+
+size-within : (K : ℕ) (s : Bool) (m b : ℕ) → m ≤ K → b < K → K - b ≤ keyed K s m → keyed K s m ≤ K + b → m ≤ b
+size-within K false m b M B h k = omega arith
+size-within K true m b M B h k = omega arith
+
+pub ok-of-range : (f : Format) (x : Float) → 4 ≤ emax f → T (fits f x) → T (le (sixteen true) x) → T (le x (sixteen false)) → Ok f x
+unfolding fits neg
+ok-of-range f x w p h k =
+    let hi = sixteen-real false in
+    let lo = sixteen-real true in
+    let n = le-left f x (sixteen false) p k in
+    let r = real-between f (sixteen true) x (sixteen false) n lo hi h k in
+    let b : 16 * 2 ^ low f < overflow f = power-below f 4 w in
+    let a = rw mag-sixteen at (le→key f (sixteen true) x (real-number f (sixteen true) lo) n h) in
+    let c = rw mag-sixteen at (le→key f x (sixteen false) n (real-number f (sixteen false) hi) k) in
+    record { is-real = r; small = size-within (overflow f) (sign x) (mag f x) (16 * 2 ^ low f) (le-of-lt (mag-below f x r)) b a c }
+  where
+    sixteen-real : (s : Bool) → T (real f (sixteen s))
+    sixteen-real true = real-neg f (sixteen false) (real-power f 4 w)
+    sixteen-real false = real-power f 4 w
+
+-- ---- a value and its dual have one sign, so the exact product of the two is the product of their sizes
+module _ (f : Format) (P : 2 ^ (prec f - 1) ≡ 8388608) (big : 2 ^ 57 ≤ 2 ^ low f) (wide : 64 ≤ emax f) (c : Float) (cr : T (real f c)) (cs : 2 ^ 39 * mag f c ≤ 2 ^ low f) where
+  abbrev pub Alike : Float × Float → Type 0
+  Alike p = sign (p .1) ≡ sign (p .0)
+
+  pairs-alike : (Q : ℕ) → 2 ^ low f ≤ 2 ^ 31 * Q → (pre xs : List Float) → All (Ok f) pre → All (Ok f) xs → length pre + length xs ≤ 16
+      → total (λ m. rndM f m m) (mags f pre) + total (λ m. rndM f m m) (mags f xs) ≡ Q → All Alike (pairs f c pre xs)
+  pairs-alike Q fl pre [] a b l h = tt
+  pairs-alike Q fl pre (x ∷ xs) a b l h =
+      let ys = x ∷ xs ++ pre in
+      let n = length-append (x ∷ xs) pre in
+      let k = length-append pre (x ∷ []) in
+      let s = sums-append f (λ m. rndM f m m) (x ∷ xs) pre in (
+        dual-sign f P big wide c cr cs Q fl ys (all-append (Ok f) (x ∷ xs) pre b a) (omega arith) (s ∙ add-comm (total (λ m. rndM f m m) (mags f (x ∷ xs))) (total (λ m. rndM f m m) (mags f pre)) ∙ h) x (b .0),
+        pairs-alike Q fl (pre ++ (x ∷ [])) xs (all-append (Ok f) pre (x ∷ []) a (b .0, tt)) (b .1) (omega arith) (sums-one f (λ m. rndM f m m) x pre xs ∙ h),
+      )
+
+  pub window-alike : (xs : List Float) → All (Ok f) xs → length xs ≤ 16 → 2 ^ low f * 2 ^ low f ≤ 2 ^ 30 * total sq (mags f xs) → All Alike (pairs f c [] xs)
+  window-alike xs ok few enough =
+      let L = 2 ^ low f in
+      let g : ℕ → ℕ = λ m. rndM f m m in
+      let Q = total g (mags f xs) in
+      let l : length (mags f xs) ≤ 16 = le-trans (le-of-eq (mags-length f xs)) few in
+      let n = squares-near L g (mags f xs) big enough l (all-sq f P big wide c cr cs xs ok) in
+      let fl = floor L Q (total sq (mags f xs)) n enough (pow-pos (low f)) in
+      let none : total g [] ≡ 0 = unfold total in refl in
+      pairs-alike Q fl [] xs tt ok (omega arith) (omega (arith, none))
+
+-- ---- two ones have the dual 0.5 each
+two-ones : pairs binary32 least [] (one ∷ one ∷ []) ≡ (one, fin false 1 (negsuc 0)) ∷ (one, fin false 1 (negsuc 0)) ∷ []
+unfolding add mul div lt
+two-ones = refl

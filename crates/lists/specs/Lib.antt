@@ -1,0 +1,6 @@
+pub mod Turned
+pub mod Parts
+pub mod Pairs
+pub mod Every
+pub mod Below
+pub mod Interpolation

@@ -1,0 +1,4 @@
+pub mod Table
+pub mod Rules
+pub mod Power
+pub mod Log

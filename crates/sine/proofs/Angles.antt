@@ -1,0 +1,100 @@
+-- Turns of an angle, mod 1, from the parts of a float. Assumes nothing.
+use mathlib.Core.Path.{_≡_, refl, sym, ap, _∙_, subst}
+use mathlib.Core.Bool.{Bool, true, false}
+use Prim.Native.Nat.{ℕ, zero, suc, _+_, _-_, _*_, _/_, _%_, _^_, _≤_, _<_, min}
+use native.Mathlib.Nat.{le-trans, le-of-eq, le-of-lt, lt-of-lt-of-le, mul-comm, mul-assoc, mul-one, mul-right-comm, add-mul, mul-add-div-right, mul-add-mod-self-left, mul-le-mul, mul-le-mul-right, mod-eq-of-lt, div-one, mul-mod-left, one-mul, zero-mul, mul-sub, add-sub-assoc, add-assoc}
+use native.Mathlib.Omega.{arith}
+use lib.Dec.{T, lit<, lit≤}
+use lib.Pow.{pow-pos, pow-add, pow-mono, shl-lt}
+use lib.Bits.{bitAnd, and-mask}
+use lib.Ieee.{Float, ne}
+use lib.Ieee.Compare.{differs-from-itself}
+use Rattle.float32.specs.Value.{above, below, floorAt, moved, Decoded}
+use Rattle.float_laws.specs.Signs.{sub-mul}
+use Rattle.float32.proofs.Floor.{below-pos}
+use Rattle.float32.proofs.Shifts.{capped, floorAt-same}
+
+pub nan-turns : (x : Float) → T (ne x x) → 0 ≡ moved (2 ^ 128) x % 16777216
+unfolding moved
+nan-turns x t = ap (λ (y : Float). moved (2 ^ 128) y % 16777216) (sym (differs-from-itself x t))
+
+-- ---- whole turns more or less do not count
+turn : (s : Bool) (W j C a b : ℕ) → 0 < b → a ≤ C * b → floorAt s (W * j + C) a b % W ≡ floorAt s C a b % W
+turn s W j C a b z h = ap (λ (x : ℕ). x % W) (lift s) ∙ mul-add-mod-self-left W j (floorAt s C a b)
+  where
+    lift : (t : Bool) → floorAt t (W * j + C) a b ≡ W * j + floorAt t C a b
+    lift false = ap (λ (x : ℕ). (x + a) / b) (add-mul (W * j) C b) ∙ ap (λ (x : ℕ). x / b) (add-assoc (W * j * b) (C * b) a) ∙ mul-add-div-right z (W * j) (C * b + a)
+    lift true = ap (λ (x : ℕ). (x - a) / b) (add-mul (W * j) C b) ∙ ap (λ (x : ℕ). x / b) (back (W * j * b) (C * b) h) ∙ mul-add-div-right z (W * j) (C * b - a)
+      where
+        back : (X Y : ℕ) → a ≤ Y → X + Y - a ≡ X + (Y - a)
+        back X Y l = omega arith
+
+module _ (x : Float) (s : Bool) (m k : ℕ) (d : Decoded x s m k) where
+  -- x * 2 ^ 24 is m * 2 ^ k / 2 ^ 125
+  base : moved (2 ^ 128) x ≡ floorAt s (2 ^ 152) (m * 2 ^ k) (2 ^ 125)
+  unfolding moved
+  base =
+      ap (λ (t : Bool). floorAt t (2 ^ 152) (above x * 2 ^ 24) (below x)) (d .sign)
+      ∙ floorAt-same s (2 ^ 152) (above x * 2 ^ 24) (below x) (m * 2 ^ k) (2 ^ 125) (below-pos x) (pow-pos 125) (mul-assoc (above x) (2 ^ 24) (2 ^ 125) ∙ d .value)
+
+  pub turns-small : k < 125 → moved (2 ^ 128) x % 16777216 ≡ floorAt s 16777216 m (2 ^ (125 - k)) % 16777216
+  turns-small h =
+      ap (λ (z : ℕ). z % 16777216) (base ∙ floorAt-same s (2 ^ 152) (m * 2 ^ k) (2 ^ 125) m (2 ^ (125 - k)) (pow-pos 125) (pow-pos (125 - k)) cross)
+      ∙ turn s 16777216 (2 ^ 128 - 1) 16777216 m (2 ^ (125 - k)) (pow-pos (125 - k)) (let u = pow-pos (125 - k) in let l = d .small in omega arith)
+    where
+      sum : k + (125 - k) ≡ 125
+      sum = omega arith
+
+      cross : m * 2 ^ k * 2 ^ (125 - k) ≡ m * 2 ^ 125
+      cross = mul-assoc m (2 ^ k) (2 ^ (125 - k)) ∙ ap (λ (z : ℕ). m * z) (sym (pow-add 2 k (125 - k)) ∙ ap (λ (z : ℕ). 2 ^ z) sum)
+
+  whole : 125 ≤ k → moved (2 ^ 128) x ≡ floorAt s (2 ^ 152) (m * 2 ^ (k - 125)) 1
+  whole h = base ∙ floorAt-same s (2 ^ 152) (m * 2 ^ k) (2 ^ 125) (m * 2 ^ (k - 125)) 1 (pow-pos 125) (lit< tt) (mul-one (m * 2 ^ k) ∙ cross)
+    where
+      sum : k - 125 + 125 ≡ k
+      sum = omega arith
+
+      cross : m * 2 ^ k ≡ m * 2 ^ (k - 125) * 2 ^ 125
+      cross = ap (λ (z : ℕ). m * 2 ^ z) (sym sum) ∙ ap (λ (z : ℕ). m * z) (pow-add 2 (k - 125) 125) ∙ sym (mul-assoc m (2 ^ (k - 125)) (2 ^ 125))
+
+  pub size-lt : k ≤ 148 → m * 2 ^ (k - 125) ≤ 140737488355328
+  size-lt l = mul-le-mul {n₁ = m} {m₁ = 2 ^ (k - 125)} {n₂ = 16777216} {m₂ = 8388608} (le-of-lt (d .small)) (pow-mono {i = k - 125} {j = 23} (omega arith))
+
+  turns-whole : 125 ≤ k → k ≤ 148 → moved (2 ^ 128) x % 16777216 ≡ floorAt s 281474976710656 (m * 2 ^ (k - 125)) 1 % 16777216
+  turns-whole h l =
+      ap (λ (z : ℕ). z % 16777216) (whole h)
+      ∙ turn s 16777216 (2 ^ 128 - 2 ^ 24) 281474976710656 (m * 2 ^ (k - 125)) 1 (lit< tt) (le-trans (size-lt l) (lit≤ tt))
+
+  many : (s : Bool) (y : ℕ) → floorAt s (2 ^ 152) (y * 16777216) 1 % 16777216 ≡ 0
+  many false y = ap (λ (z : ℕ). z % 16777216) (div-one (2 ^ 152 + y * 16777216) ∙ sym (add-mul (2 ^ 128) y 16777216)) ∙ mul-mod-left (2 ^ 128 + y) 16777216
+  many true y = ap (λ (z : ℕ). z % 16777216) (div-one (2 ^ 152 - y * 16777216) ∙ sym (sub-mul (2 ^ 128) y 16777216)) ∙ mul-mod-left (2 ^ 128 - y) 16777216
+
+  pub turns-large : 148 < k → 0 ≡ moved (2 ^ 128) x % 16777216
+  turns-large h = sym (ap (λ (z : ℕ). z % 16777216) (whole (omega arith) ∙ ap (λ (z : ℕ). floorAt s (2 ^ 152) z 1) cross) ∙ many s (m * 2 ^ (k - 149)))
+    where
+      sum : k - 149 + 24 ≡ k - 125
+      sum = omega arith
+
+      cross : m * 2 ^ (k - 125) ≡ m * 2 ^ (k - 149) * 16777216
+      cross = ap (λ (z : ℕ). m * 2 ^ z) (sym sum) ∙ ap (λ (z : ℕ). m * z) (pow-add 2 (k - 149) 24) ∙ sym (mul-assoc m (2 ^ (k - 149)) 16777216)
+
+  -- ---- what the code computes
+  module _ (h : 125 ≤ k) (l : k ≤ 148) where
+    kept : m * 2 ^ (k - 125) % 18446744073709551616 ≡ m * 2 ^ (k - 125)
+    kept = let u = size-lt l in mod-eq-of-lt (omega arith)
+
+    pub minus-room : m * 2 ^ (k - 125) % 18446744073709551616 ≤ 281474976710656
+    minus-room = rw kept (let u = size-lt l in omega arith)
+
+    pub plus-room : 281474976710656 + m * 2 ^ (k - 125) % 18446744073709551616 < 18446744073709551616
+    plus-room = rw kept (let u = size-lt l in omega arith)
+
+    pub turns-minus : s ≡ true → bitAnd (281474976710656 - m * 2 ^ (k - 125) % 18446744073709551616) 16777215 ≡ moved (2 ^ 128) x % 16777216
+    turns-minus e =
+        and-mask (281474976710656 - m * 2 ^ (k - 125) % 18446744073709551616) 24
+        ∙ sym (turns-whole h l ∙ ap (λ (t : Bool). floorAt t 281474976710656 (m * 2 ^ (k - 125)) 1 % 16777216) e ∙ ap (λ (z : ℕ). z % 16777216) (div-one (281474976710656 - m * 2 ^ (k - 125)) ∙ ap (λ (z : ℕ). 281474976710656 - z) (sym kept)))
+
+    pub turns-plus : s ≡ false → bitAnd (281474976710656 + m * 2 ^ (k - 125) % 18446744073709551616) 16777215 ≡ moved (2 ^ 128) x % 16777216
+    turns-plus e =
+        and-mask (281474976710656 + m * 2 ^ (k - 125) % 18446744073709551616) 24
+        ∙ sym (turns-whole h l ∙ ap (λ (t : Bool). floorAt t 281474976710656 (m * 2 ^ (k - 125)) 1 % 16777216) e ∙ ap (λ (z : ℕ). z % 16777216) (div-one (281474976710656 + m * 2 ^ (k - 125)) ∙ ap (λ (z : ℕ). 281474976710656 + z) (sym kept)))
