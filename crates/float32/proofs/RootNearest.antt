@@ -48,8 +48,8 @@ on-grid f (fin s m (negsuc a)) h =
       place = l;
       few = digits-below f s m (negsuc a) h;
       is =
-        eq-of-mul-eq-mul-right (2 ^ suc a) (pow-pos (suc a)) (mag f (fin s m (negsuc a))) (m * 2 ^ l)
-        (mag-exact f s m (negsuc a) h ∙ ap (λ (z : ℕ). z * 2 ^ low f) (mul-one m) ∙ ap (λ (z : ℕ). m * z) e ∙ sym (mul-assoc m (2 ^ l) (2 ^ suc a)));
+          eq-of-mul-eq-mul-right (2 ^ suc a) (pow-pos (suc a)) (mag f (fin s m (negsuc a))) (m * 2 ^ l)
+          (mag-exact f s m (negsuc a) h ∙ ap (λ (z : ℕ). z * 2 ^ low f) (mul-one m) ∙ ap (λ (z : ℕ). m * z) e ∙ sym (mul-assoc m (2 ^ l) (2 ^ suc a)));
     }
 
 -- ---- the digits cut off have `prec` places, or nothing was dropped
