@@ -1,9 +1,8 @@
 -- A number above zero by its digits and a power of four: the leading zeros say how far the digits move up, and one place more makes the exponent even. Assumes nothing.
-use mathlib.Core.Path.{_≡_, refl, sym, ap, _∙_, subst}
+use mathlib.Core.Path.{_≡_, sym, ap, _∙_}
 use Prim.Native.Nat.{ℕ, suc, _+_, _-_, _*_, _/_, _%_, _^_, _≤_, _<_}
 use native.Mathlib.Nat.{mul-assoc, le-trans, le-of-eq, lt-of-lt-of-le, mul-le-mul, mul-le-mul-right, mul-lt-mul-of-pos-right, not-le-of-lt, lt-of-not-le, mod-eq-of-lt}
 use native.Mathlib.Omega.{arith}
-use lib.Dec.{lit≤, lit<}
 use lib.Count.{leadingZeros, leading-top}
 use lib.Pow.{pow-pos, pow-add, pow-mono}
 use Rattle.float32.specs.Root.{ByFours}
@@ -53,9 +52,6 @@ module _ (mant expo : ℕ) (positive : 0 < mant) (small : mant < 16777216) (leas
 
   abbrev pub shift : ℕ
   shift = up + 23 + rest % 2
-
-  pub shift-small : shift < 64
-  shift-small = omega (arith, zeros-most)
 
   moved-is : mant * 2 ^ shift ≡ mant * 2 ^ up * 2 ^ (23 + rest % 2)
   moved-is = ap (λ (z : ℕ). mant * 2 ^ z) sum ∙ ap (λ (z : ℕ). mant * z) (pow-add 2 up (23 + rest % 2)) ∙ sym (mul-assoc mant (2 ^ up) (2 ^ (23 + rest % 2)))

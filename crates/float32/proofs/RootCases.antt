@@ -1,12 +1,12 @@
 -- The square root case by case, for a float taken apart: each way out of the code gives what the definition gives. Assumes nothing.
 use mathlib.Core.Path.{_≡_, refl, sym, ap, _∙_, subst}
-use mathlib.Core.Bool.{Bool, true, false, not, true≢false}
+use mathlib.Core.Bool.{Bool, true, false, true≢false}
 use Prim.Native.Nat.{ℕ, zero, suc, _+_, _*_, _^_, _≤_, _<_}
-use native.Mathlib.Nat.{zero-mul, zero-lt-suc, le-trans, le-of-eq, lt-of-lt-of-le, mul-pos, mul-le-mul, mul-lt-mul-of-pos-right, mul-one, not-le-of-lt, lt-irrefl, eq-of-mul-eq-mul-right}
+use native.Mathlib.Nat.{zero-mul, zero-lt-suc, le-trans, le-of-eq, lt-of-lt-of-le, mul-pos, mul-le-mul, mul-one, not-le-of-lt, lt-irrefl, eq-of-mul-eq-mul-right}
 use native.Mathlib.Omega.{arith}
-use lib.Dec.{T, lit≤}
+use lib.Dec.{T}
 use lib.IntN.{ℤ}
-use lib.Pow.{pow-pos, pow-add, pow-mono, shl-lt}
+use lib.Pow.{pow-pos, pow-mono, shl-lt}
 use lib.Ieee.{Float, nan, inf, fin, binary32, up, down, fits, ne, div, ofBits, ofFields, odd}
 use lib.Ieee.Fits.{up-pos, down-pos}
 use lib.Ieee.Compare.{differs-from-itself}

@@ -4,18 +4,18 @@ use mathlib.Core.Path.{_≡_, refl, sym, ap, _∙_, subst}
 use mathlib.Core.Logic.{_⊎_, inl, inr}
 use mathlib.Core.Bool.{Bool, true, false, true≢false}
 use Prim.Native.Nat.{ℕ, zero, suc, _+_, _-_, _*_, _/_, _%_, _^_, _≤_, _<_, compare, Ordering, Ordering·lt, Ordering·eq, Ordering·gt}
-use native.Mathlib.Nat.{mul-assoc, mul-one, mul-comm, mul-right-comm, add-mul, suc-mul, le-refl, le-trans, le-of-eq, lt-of-lt-of-le, lt-of-le-of-lt, lt-irrefl, mul-le-mul, mul-le-mul-left, mul-le-mul-right, mul-lt-mul-of-pos-right, le-div-iff-mul-le, eq-of-mul-eq-mul-right, pow-suc}
+use native.Mathlib.Nat.{mul-assoc, mul-one, mul-comm, add-mul, suc-mul, le-refl, le-trans, le-of-eq, lt-of-lt-of-le, lt-of-le-of-lt, lt-irrefl, mul-le-mul, mul-le-mul-left, mul-le-mul-right, mul-lt-mul-of-pos-right, le-div-iff-mul-le, eq-of-mul-eq-mul-right, pow-suc}
 use native.Mathlib.Decide.{decLe}
 use native.Mathlib.Omega.{arith}
 use lib.Dec.{T, ltb}
 use lib.IntN.{pos, negsuc}
 use lib.Pow.{pow-pos, pow-add, pow-mono, pow-lt}
 use lib.Ieee.{Float, nan, inf, fin, Format, prec, emax, low, size, nearest, units, odd, lt, fits}
-use lib.Ieee.Digits.{back, size-lt, size-le, size-reaches}
+use lib.Ieee.Digits.{back, size-le, size-reaches}
 use lib.Ieee.Exact.{units-val, HasValue}
 use lib.Ieee.Fits.{two, reach, nearest-le, kept-lt, odd-fits, cond-fits, inf-fits}
 use lib.Ieee.Scale.{overflow}
-use Rattle.float_laws.specs.Units.{mag, sign, number, real, real-number, mag-exact, mag-below, down-le, digits-below, exponent-le}
+use Rattle.float_laws.specs.Units.{mag, sign, number, real, real-number, mag-exact, mag-below, down-le, digits-below, exponent-le, unique}
 use Rattle.float_laws.specs.Round.{mag-of-value, mag-zero}
 use Rattle.float_laws.specs.Mono.{o, above-zero}
 use Rattle.float_laws.specs.Error.{Cmp, cmp}
@@ -274,3 +274,24 @@ module _ (f : Format) (x : Float) (h : T (real f x)) (positive : T (lt o x)) whe
       let c = (2 * q + 1) * (2 * q + 1) * 4 ^ k in
       subst (λ (Y : ℕ). Nearer N Y (mag f z)) (sym (ap (mag f) root-at ∙ root-mag f N square-small))
       (nearer N q k (mag f z) (cut-between f N) (gap f q k (mag f z) (cut-full f N) (on-grid f z g)) (compare (4 * N) c) (cmp (4 * N) c) (no-tie f x h q k (cut-full f N)))
+
+  -- Nothing else is so near: a value that is as near as any to the root of x is `squareRoot f x`.
+  pub nearest-is-square-root : (y : Float) → T (real f y) → sign y ≡ false → Nearer (mag f x * 2 ^ low f) (mag f y) (mag f (squareRoot f x)) → y ≡ squareRoot f x
+  nearest-is-square-root y g s n =
+      let r = squareRoot f x in
+      let k : T (real f r) = subst (λ (z : Float). T (real f z)) (sym root-at) (root-is-real f (mag f x * 2 ^ low f) square-small) in
+      let t : sign r ≡ false = ap sign root-at ∙ root-sign f (mag f x * 2 ^ low f) square-small in
+      unique f y r (real-number f y g) (real-number f r k) (s ∙ sym t) (same-size (mag f y) (mag f r) n (square-root-is-nearest y g))
+    where
+      same-size : (Y R : ℕ) → Nearer (mag f x * 2 ^ low f) Y R → Nearer (mag f x * 2 ^ low f) R Y → Y ≡ R
+      same-size Y R a b =
+          let e : R + Y ≡ Y + R = omega arith in
+          let w : (R + Y) * (R + Y) ≡ (Y + R) * (Y + R) = ap (λ (z : ℕ). z * z) e in
+          elim (decLe Y R) [
+            | yes l ↦
+                elim (decLe R Y) [
+                  | yes m ↦ omega arith
+                  | no m ↦ absurd (omega (arith, a .below-middle (omega arith), b .above-middle (omega arith)))
+                ]
+            | no l ↦ absurd (omega (arith, a .above-middle (omega arith), b .below-middle (omega arith)))
+          ]

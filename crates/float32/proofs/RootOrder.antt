@@ -1,16 +1,16 @@
 -- What callers need of the square root: of a positive value it is positive and finite, it never falls, and between 0 and 1 it stays there and is no less than its argument.
 -- Each follows from nearness: were it otherwise, another value would be nearer. Assumes nothing.
 use mathlib.Core.Path.{_≡_, refl, sym, ap, _∙_, subst}
-use mathlib.Core.Logic.{_⊎_, inl, inr}
-use mathlib.Core.Bool.{Bool, true, false, true≢false}
+use mathlib.Core.Logic.{inl, inr}
+use mathlib.Core.Bool.{Bool, true, false}
 use Prim.Native.Nat.{ℕ, zero, suc, _+_, _-_, _*_, _^_, _≤_, _<_}
-use native.Mathlib.Nat.{le-trans, le-of-eq, lt-of-lt-of-le, mul-le-mul, mul-le-mul-left, mul-le-mul-right, not-le-of-lt, zero-lt-suc, lt-irrefl, mul-pos, zero-mul, eq-zero-or-pos}
+use native.Mathlib.Nat.{le-of-eq, lt-of-lt-of-le, mul-le-mul, mul-le-mul-left, mul-le-mul-right, zero-lt-suc, lt-irrefl, mul-pos, zero-mul, eq-zero-or-pos}
 use native.Mathlib.Decide.{decLe}
 use native.Mathlib.Omega.{arith}
 use lib.Dec.{T}
-use lib.IntN.{ℤ, pos, negsuc}
+use lib.IntN.{ℤ, pos}
 use lib.Pow.{pow-pos}
-use lib.Ieee.{Float, nan, inf, fin, Format, binary32, down, low, lt, le, fits, ofBits}
+use lib.Ieee.{Float, nan, inf, fin, Format, binary32, down, low, lt, le, fits}
 use lib.Ieee.Fits.{up-pos}
 use lib.Ieee.Scale.{overflow}
 use Rattle.float_laws.specs.Units.{mag, sign, key, keyed, number, real, real-number, mag-inf, mag-exact, mag-below, overflow-pos, lt→key, key→lt, le→key, key→le}
@@ -147,6 +147,15 @@ module _ (f : Format) (x : Float) (p : T (number f x)) (h : T (le o x)) where
       go (nothing z e) = subst (λ (y : Float). T (le o y)) (sym e) h
       go (some g l) = lt→le-f f o (squareRoot f x) (real-number f o (real-zero f false)) (real-number f (squareRoot f x) (root-real f x g l)) (root-positive f x g l)
       go (all e) = subst (λ (y : Float). T (le o y)) (e ∙ sym (root-of-infinity f x e)) h
+
+-- a number with no minus sign has a root with none: the root of +0 is +0
+pub root-keeps-plus : (f : Format) (x : Float) → T (number f x) → sign x ≡ false → sign (squareRoot f x) ≡ false
+root-keeps-plus f x p s = go (from-zero f x p (key→le f o x (real-number f o (real-zero f false)) p (omega (arith, key-zero f, ap (λ (t : Bool). keyed (overflow f) t (mag f x)) s))))
+  where
+    go : FromZero f x → sign (squareRoot f x) ≡ false
+    go (nothing z e) = ap sign e ∙ s
+    go (some g l) = root-plus f x g l
+    go (all e) = ap sign (root-of-infinity f x e)
 
 -- a greater number has no lesser root
 pub square-root-never-falls : (f : Format) (x y : Float) → T (number f x) → T (number f y) → T (le o x) → T (le x y) → T (le (squareRoot f x) (squareRoot f y))

@@ -1,24 +1,24 @@
 -- The root of digits * 4 ^ fours rounded to an f32: it keeps the whole number nearest to the root of the digits, and drops `fours` places. So the code's bits are those of the
 -- definition's value. Assumes nothing.
 use mathlib.Core.Path.{_≡_, refl, sym, ap, _∙_, subst}
-use mathlib.Core.Bool.{Bool, true, false, not, cond}
+use mathlib.Core.Bool.{Bool, false, not, cond}
 use Prim.Native.Nat.{ℕ, zero, suc, _+_, _-_, _*_, _/_, _%_, _^_, _≤_, _<_, compare, Ordering, Ordering·lt, Ordering·eq, Ordering·gt}
-use native.Mathlib.Nat.{mul-assoc, mul-mul-mul-comm, mul-suc, suc-mul, mul-pos, le-refl, le-trans, le-of-eq, lt-of-le-of-lt, lt-of-lt-of-le, mul-le-mul, mul-le-mul-right, mul-lt-mul-of-pos-right, div-mul-le-self, div-lt-iff-lt-mul, le-of-mul-le-mul-right, lt-of-mul-lt-mul-right, eq-of-mul-eq-mul-right, not-le-of-lt}
+use native.Mathlib.Nat.{mul-assoc, mul-mul-mul-comm, mul-suc, mul-pos, le-refl, le-trans, le-of-eq, lt-of-le-of-lt, lt-of-lt-of-le, mul-le-mul, mul-le-mul-right, mul-lt-mul-of-pos-right, div-mul-le-self, div-lt-iff-lt-mul, le-of-mul-le-mul-right, lt-of-mul-lt-mul-right, eq-of-mul-eq-mul-right, not-le-of-lt}
 use native.Mathlib.Decide.{decLe}
 use native.Mathlib.Omega.{arith}
-use lib.Dec.{T, lit≤, lit<, ltb, lt→ltb}
+use lib.Dec.{T, ltb, lt→ltb}
 use lib.Pow.{pow-pos, pow-add, pow-mono, shl-lt}
-use lib.Ieee.{Float, inf, Format, binary32, prec, low, size, nearest, units, odd, ofBits, nanBits, fits}
+use lib.Ieee.{inf, Format, binary32, prec, size, nearest, units, odd, ofBits, nanBits}
 use lib.Ieee.Digits.{size-lt, size-le}
 use lib.Ieee.Bits.{is-true}
 use lib.Ieee.Exact.{odd-sign}
 use lib.Ieee.Fits.{odd-fits}
-use Rattle.float_laws.specs.Units.{mag, number, sign, unique}
+use Rattle.float_laws.specs.Units.{mag, number, unique}
 use Rattle.float_laws.specs.Order.{fits-number}
 use Rattle.float_laws.specs.Round.{odd-kind, mag-of-value}
 use Rattle.float_laws.specs.Error.{Cmp, cmp}
-use Rattle.float32.specs.Root.{IsRoot, IsNearestRoot, ByFours, wholeRoot, nearestRoot}
-use Rattle.float32.proofs.WholeRoot.{root-lt, at-most-root, above-root, root-unique, square-of-next, square-of-odd, four-is-square, whole-root-is}
+use Rattle.float32.specs.Root.{IsRoot, IsNearestRoot, wholeRoot, nearestRoot}
+use Rattle.float32.proofs.WholeRoot.{at-most-root, above-root, square-of-next, square-of-odd, four-is-square, whole-root-is}
 use Rattle.float32.proofs.Made.{made, made-no-nan}
 
 -- ---- the parts of `nearestRoot`: the places dropped, the digits cut off there, and the digits kept
@@ -68,13 +68,13 @@ not-above n v (suc u) i j = elim (decLe v u) [ yes l ↦ absurd (omega (arith, i
     suc-le : v ≤ u → suc v ≤ suc u
     suc-le h = omega arith
 
-pub nearest-unique : (n v w : ℕ) → IsNearestRoot n v → IsNearestRoot n w → w ≡ v
+nearest-unique : (n v w : ℕ) → IsNearestRoot n v → IsNearestRoot n w → w ≡ v
 nearest-unique n v w i j = let a = not-above n v w i j in let b = not-above n w v j i in omega arith
 
 pub stay : (n q : ℕ) → 0 < n → IsRoot n q → n ≤ q * q + q → IsNearestRoot n q
 stay n q p i h = let a : 1 ≤ q = at-most-root n q 1 i p in record { under = omega (arith, i .under); over = h }
 
-pub go-up : (n q : ℕ) → IsRoot n q → q * q + q < n → IsNearestRoot n (suc q)
+go-up : (n q : ℕ) → IsRoot n q → q * q + q < n → IsNearestRoot n (suc q)
 go-up n q i h = let s = square-of-next q in record { under = omega arith; over = omega (arith, i .over) }
 
 rounded : (A W q : ℕ) → 0 < A → 0 < W → (c : Ordering) → Cmp c (4 * (A * W)) ((2 * q + 1) * (2 * q + 1) * W) → IsRoot A q → IsNearestRoot A (nearest q c)
@@ -104,9 +104,6 @@ pub four-pos : (i : ℕ) → 0 < 4 ^ i
 four-pos i = subst (λ (z : ℕ). 0 < z) (sym (four-is-square i)) (mul-pos (pow-pos i) (pow-pos i))
 
 module _ (A i v : ℕ) (least : 70368744177664 ≤ A) (most : A ≤ 281474959933440) (near : IsNearestRoot A v) where
-  whole : ℕ
-  whole = wholeRoot (A * 4 ^ i)
-
   below : A < 281474976710656
   below = omega (arith, most)
 

@@ -1,4 +1,4 @@
--- The whole part of a square root: the definition gives it, it is the only one, and a loop that tries a binary digit at a time, from the highest down, finds it.
+-- The whole part of a square root: the definition gives it, and a loop that tries a binary digit at a time, from the highest down, finds it.
 -- Each step is one comparison of squares. Assumes nothing.
 use mathlib.Core.Path.{_≡_, refl, sym, ap, _∙_, subst}
 use mathlib.Core.Bool.{Bool, true, false, not, cond}
@@ -7,7 +7,7 @@ use native.Mathlib.Nat.{add-mul, mul-add, mul-suc, suc-mul, one-mul, pow-suc, le
 use native.Mathlib.Decide.{decLe}
 use native.Mathlib.Omega.{arith}
 use lib.Dec.{T, leb, leb→le, nleb→lt, lit<}
-use lib.Pow.{pow-pos, pow-mono, pow-lt, shl-exact}
+use lib.Pow.{pow-pos, pow-mono, shl-exact}
 use lib.Ieee.{size}
 use lib.Ieee.Digits.{size-lt}
 use Rattle.float32.specs.Root.{IsRoot, rootBelow, wholeRoot}
@@ -35,9 +35,6 @@ at-most-root n r z h k = let l = root-lt z (suc r) (omega (arith, h .over)) in o
 
 pub above-root : (n r z : ℕ) → IsRoot n r → n < z * z → r < z
 above-root n r z h k = root-lt r z (omega (arith, h .under))
-
-pub root-unique : (n r z : ℕ) → IsRoot n r → IsRoot n z → z ≡ r
-root-unique n r z h k = let a = at-most-root n r z h (k .under) in let b = at-most-root n z r k (h .under) in omega arith
 
 -- ---- the definition gives it
 next-digit : (n r : ℕ) → IsRoot (n / 4) r → IsRoot n (cond (leb ((2 * r + 1) * (2 * r + 1)) n) (2 * r + 1) (2 * r))

@@ -77,7 +77,7 @@ pub fn sqrt(x: f32) -> f32
     let mant = d.mant;
     let expo = d.expo;
     if mant == 0 {
-        return x;
+        return x; // with its sign
     }
     if neg {
         return 0.0 / 0.0;

@@ -1,5 +1,5 @@
 -- `float32::root::root_of_positive` meets its contract: the nearest root of the digits has 24 places, and with the exponent above it makes the definition's value. Assumes nothing.
-use mathlib.Core.Path.{_≡_, sym, ap, _∙_}
+use mathlib.Core.Path.{sym, ap, _∙_}
 use Prim.Native.Nat.{ℕ}
 use native.Mathlib.Omega.{arith}
 use borrow.Author.Needs.{needs}
