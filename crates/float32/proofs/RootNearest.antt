@@ -1,10 +1,10 @@
--- No value of a format is as near to the real root of a positive value as what `squareRoot` gives, and none is at a tie. For between the digits that are cut off and the next number up
--- there is no value of the format; and a root midway would have one digit more than the format keeps, so its square, which is odd in that digit, more than any value. Assumes nothing.
+-- No value of a format is as near to the real root of a positive value as what `squareRoot` gives, and none is at a tie. For between the root's leading digits and the next number up
+-- there is no value of the format; and a root midway would have one digit more than the format keeps, the last of them odd, so its square would have more digits than any value. Assumes nothing.
 use mathlib.Core.Path.{_≡_, refl, sym, ap, _∙_, subst}
 use mathlib.Core.Logic.{_⊎_, inl, inr}
 use mathlib.Core.Bool.{Bool, true, false, true≢false}
 use Prim.Native.Nat.{ℕ, zero, suc, _+_, _-_, _*_, _/_, _%_, _^_, _≤_, _<_, compare, Ordering, Ordering·lt, Ordering·eq, Ordering·gt}
-use native.Mathlib.Nat.{mul-assoc, mul-one, mul-comm, add-mul, suc-mul, le-refl, le-trans, le-of-eq, lt-of-lt-of-le, lt-of-le-of-lt, lt-irrefl, mul-le-mul, mul-le-mul-left, mul-le-mul-right, mul-lt-mul-of-pos-right, le-div-iff-mul-le, eq-of-mul-eq-mul-right, pow-suc}
+use native.Mathlib.Nat.{mul-assoc, mul-one, mul-comm, add-mul, suc-mul, le-refl, le-trans, le-of-eq, le-of-lt, lt-of-lt-of-le, lt-of-le-of-lt, lt-irrefl, mul-le-mul, mul-le-mul-left, mul-le-mul-right, mul-lt-mul-of-pos-right, le-div-iff-mul-le, eq-of-mul-eq-mul-right, pow-suc}
 use native.Mathlib.Decide.{decLe}
 use native.Mathlib.Omega.{arith}
 use lib.Dec.{T, ltb}
@@ -21,7 +21,7 @@ use Rattle.float_laws.specs.Mono.{o, above-zero}
 use Rattle.float_laws.specs.Error.{Cmp, cmp}
 use Rattle.float32.specs.Root.{wholeRoot, nearestRoot, squareRoot}
 use Rattle.float32.proofs.WholeRoot.{root-lt, square-of-next, square-of-twice, square-of-odd, four-is-square, whole-root-is}
-use Rattle.float32.proofs.RootRounding.{dropped, cut, kept, nearest-root-is, Between, square-scaled, cut-between}
+use Rattle.float32.proofs.RootRounding.{dropped, leading, kept, nearest-root-is, Between, square-scaled, leading-between}
 
 -- ---- a value of a format has `prec` digits at some place
 record OnGrid (f : Format) (Z : ℕ) : Type 0 where
@@ -52,9 +52,9 @@ on-grid f (fin s m (negsuc a)) h =
           (mag-exact f s m (negsuc a) h ∙ ap (λ (z : ℕ). z * 2 ^ low f) (mul-one m) ∙ ap (λ (z : ℕ). m * z) e ∙ sym (mul-assoc m (2 ^ l) (2 ^ suc a)));
     }
 
--- ---- the digits cut off have `prec` places, or nothing was dropped
-cut-full : (f : Format) (N : ℕ) → (dropped f N ≡ 0) ⊎ (2 ^ (prec f - 1) ≤ cut f N)
-cut-full f N =
+-- ---- the leading digits have `prec` places, or nothing was dropped
+leading-full : (f : Format) (N : ℕ) → (dropped f N ≡ 0) ⊎ (2 ^ (prec f - 1) ≤ leading f N)
+leading-full f N =
     let r = wholeRoot N in
     elim (decLe (size r) (prec f)) [
       | yes l ↦ inl (omega arith)
@@ -86,12 +86,9 @@ gap f q k Z w g =
     small (inl e) n = absurd (omega arith)
     small (inr p) n =
         let t = two f in
-        let a : g .digits * 2 ^ g .place ≤ 2 ^ prec f * 2 ^ g .place = mul-le-mul (le-of-lt' (g .few)) (le-refl (2 ^ g .place)) in
+        let a : g .digits * 2 ^ g .place ≤ 2 ^ prec f * 2 ^ g .place = mul-le-mul (le-of-lt (g .few)) (le-refl (2 ^ g .place)) in
         let b : 2 ^ (prec f + g .place) ≤ 2 ^ (prec f - 1 + k) = pow-mono (omega arith) in
         le-trans (le-of-eq (g .is)) (le-trans a (le-trans (le-of-eq (sym (pow-add 2 (prec f) (g .place)))) (le-trans b (le-trans (le-of-eq (pow-add 2 (prec f - 1) k)) (mul-le-mul-right (2 ^ k) p)))))
-      where
-        le-of-lt' : {a b : ℕ} → a < b → a ≤ b
-        le-of-lt' h = omega arith
 
 -- ---- no root is at a tie
 even-double : (m a : ℕ) → m * 2 ^ suc a % 2 ≡ 0
@@ -223,7 +220,7 @@ module _ (f : Format) (N : ℕ) (small : N < overflow f * 2 ^ low f) where
       wide l e p h k = omega arith
 
   kept-small : kept f N ≤ 2 ^ prec f
-  kept-small = le-trans (nearest-le (cut f N) (compare (4 * N) ((2 * cut f N + 1) * (2 * cut f N + 1) * 4 ^ dropped f N))) (kept-lt (prec f) (wholeRoot N))
+  kept-small = le-trans (nearest-le (leading f N) (compare (4 * N) ((2 * leading f N + 1) * (2 * leading f N + 1) * 4 ^ dropped f N))) (kept-lt (prec f) (wholeRoot N))
 
   in-range : kept f N * 2 ^ dropped f N < overflow f
   in-range =
@@ -269,11 +266,11 @@ module _ (f : Format) (x : Float) (h : T (real f x)) (positive : T (lt o x)) whe
   pub square-root-is-nearest : (z : Float) → T (real f z) → Nearer (mag f x * 2 ^ low f) (mag f (squareRoot f x)) (mag f z)
   square-root-is-nearest z g =
       let N = mag f x * 2 ^ low f in
-      let q = cut f N in
+      let q = leading f N in
       let k = dropped f N in
       let c = (2 * q + 1) * (2 * q + 1) * 4 ^ k in
       subst (λ (Y : ℕ). Nearer N Y (mag f z)) (sym (ap (mag f) root-at ∙ root-mag f N square-small))
-      (nearer N q k (mag f z) (cut-between f N) (gap f q k (mag f z) (cut-full f N) (on-grid f z g)) (compare (4 * N) c) (cmp (4 * N) c) (no-tie f x h q k (cut-full f N)))
+      (nearer N q k (mag f z) (leading-between f N) (gap f q k (mag f z) (leading-full f N) (on-grid f z g)) (compare (4 * N) c) (cmp (4 * N) c) (no-tie f x h q k (leading-full f N)))
 
   -- Nothing else is so near: a value that is as near as any to the root of x is `squareRoot f x`.
   pub nearest-is-square-root : (y : Float) → T (real f y) → sign y ≡ false → Nearer (mag f x * 2 ^ low f) (mag f y) (mag f (squareRoot f x)) → y ≡ squareRoot f x
@@ -295,3 +292,15 @@ module _ (f : Format) (x : Float) (h : T (real f x)) (positive : T (lt o x)) whe
                 ]
             | no l ↦ absurd (omega (arith, a .above-middle (omega arith), b .below-middle (omega arith)))
           ]
+
+  -- So a root that is a value of f is given exactly.
+  pub root-of-square : (y : Float) → T (real f y) → sign y ≡ false → mag f x * 2 ^ low f ≡ mag f y * mag f y → squareRoot f x ≡ y
+  root-of-square y g s e = sym (nearest-is-square-root y g s (subst (λ (N : ℕ). Nearer N (mag f y) (mag f (squareRoot f x))) (sym e) (root-itself (mag f y) (mag f (squareRoot f x)))))
+    where
+      root-itself : (Y Z : ℕ) → Nearer (Y * Y) Y Z
+      root-itself Y Z =
+          let t = square-of-twice Y in
+          record {
+            below-middle = λ l. lt-of-le-of-lt (le-of-eq (sym t)) (square-lt (2 * Y) (Y + Z) (omega arith));
+            above-middle = λ l. lt-of-lt-of-le (square-lt (Y + Z) (2 * Y) (omega arith)) (le-of-eq t);
+          }

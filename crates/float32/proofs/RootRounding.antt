@@ -3,12 +3,12 @@
 use mathlib.Core.Path.{_≡_, refl, sym, ap, _∙_, subst}
 use mathlib.Core.Bool.{Bool, false, not, cond}
 use Prim.Native.Nat.{ℕ, zero, suc, _+_, _-_, _*_, _/_, _%_, _^_, _≤_, _<_, compare, Ordering, Ordering·lt, Ordering·eq, Ordering·gt}
-use native.Mathlib.Nat.{mul-assoc, mul-mul-mul-comm, mul-suc, mul-pos, le-refl, le-trans, le-of-eq, lt-of-le-of-lt, lt-of-lt-of-le, mul-le-mul, mul-le-mul-right, mul-lt-mul-of-pos-right, div-mul-le-self, div-lt-iff-lt-mul, le-of-mul-le-mul-right, lt-of-mul-lt-mul-right, eq-of-mul-eq-mul-right, not-le-of-lt}
+use native.Mathlib.Nat.{mul-assoc, mul-mul-mul-comm, mul-suc, mul-pos, le-refl, le-trans, le-of-eq, le-of-lt, lt-of-le-of-lt, lt-of-lt-of-le, mul-le-mul, mul-le-mul-right, mul-lt-mul-of-pos-right, div-mul-le-self, div-lt-iff-lt-mul, le-of-mul-le-mul-right, lt-of-mul-lt-mul-right, eq-of-mul-eq-mul-right, not-le-of-lt}
 use native.Mathlib.Decide.{decLe}
 use native.Mathlib.Omega.{arith}
 use lib.Dec.{T, ltb, lt→ltb}
 use lib.Pow.{pow-pos, pow-add, pow-mono, shl-lt}
-use lib.Ieee.{inf, Format, binary32, prec, size, nearest, units, odd, ofBits, nanBits}
+use lib.Ieee.{inf, Format, binary32, prec, size, nearest, units, odd, ofBits, nanBits, fits}
 use lib.Ieee.Digits.{size-lt, size-le}
 use lib.Ieee.Bits.{is-true}
 use lib.Ieee.Exact.{odd-sign}
@@ -21,21 +21,21 @@ use Rattle.float32.specs.Root.{IsRoot, IsNearestRoot, wholeRoot, nearest
 use Rattle.float32.proofs.WholeRoot.{at-most-root, above-root, square-of-next, square-of-odd, four-is-square, whole-root-is}
 use Rattle.float32.proofs.Made.{made, made-no-nan}
 
--- ---- the parts of `nearestRoot`: the places dropped, the digits cut off there, and the digits kept
+-- ---- the parts of `nearestRoot`: the places dropped, the digits above them, and those digits rounded
 abbrev pub dropped : Format → ℕ → ℕ
 dropped f N = size (wholeRoot N) - prec f
 
-abbrev pub cut : Format → ℕ → ℕ
-cut f N = wholeRoot N / 2 ^ dropped f N
+abbrev pub leading : Format → ℕ → ℕ
+leading f N = wholeRoot N / 2 ^ dropped f N
 
 abbrev pub kept : Format → ℕ → ℕ
-kept f N = nearest (cut f N) (compare (4 * N) ((2 * cut f N + 1) * (2 * cut f N + 1) * 4 ^ dropped f N))
+kept f N = nearest (leading f N) (compare (4 * N) ((2 * leading f N + 1) * (2 * leading f N + 1) * 4 ^ dropped f N))
 
 pub nearest-root-is : (f : Format) (N : ℕ) → nearestRoot f N ≡ units f false (kept f N) (dropped f N)
 unfolding nearestRoot
 nearest-root-is f N = refl
 
--- ---- the root lies between the digits cut off and the next number up
+-- ---- the root lies between its leading digits and the next number up
 pub record Between (N W q : ℕ) : Type 0 where
   pub under : q * q * W ≤ N
   pub over : N < suc q * suc q * W
@@ -54,8 +54,8 @@ between N r k i =
       over = lt-of-lt-of-le (i .over) (le-trans (mul-le-mul b b) (le-of-eq (square-scaled (suc q) k)));
     }
 
-pub cut-between : (f : Format) (N : ℕ) → Between N (4 ^ dropped f N) (cut f N)
-cut-between f N = between N (wholeRoot N) (dropped f N) (whole-root-is N)
+pub leading-between : (f : Format) (N : ℕ) → Between N (4 ^ dropped f N) (leading f N)
+leading-between f N = between N (wholeRoot N) (dropped f N) (whole-root-is N)
 
 -- ---- the nearest whole number
 next-product : (u : ℕ) → u * suc u ≡ u * u + u
@@ -71,19 +71,19 @@ not-above n v (suc u) i j = elim (decLe v u) [ yes l ↦ absurd (omega (arith, i
 nearest-unique : (n v w : ℕ) → IsNearestRoot n v → IsNearestRoot n w → w ≡ v
 nearest-unique n v w i j = let a = not-above n v w i j in let b = not-above n w v j i in omega arith
 
-pub stay : (n q : ℕ) → 0 < n → IsRoot n q → n ≤ q * q + q → IsNearestRoot n q
-stay n q p i h = let a : 1 ≤ q = at-most-root n q 1 i p in record { under = omega (arith, i .under); over = h }
+pub whole-is-nearest : (n q : ℕ) → 0 < n → IsRoot n q → n ≤ q * q + q → IsNearestRoot n q
+whole-is-nearest n q p i h = let a : 1 ≤ q = at-most-root n q 1 i p in record { under = omega (arith, i .under); over = h }
 
-go-up : (n q : ℕ) → IsRoot n q → q * q + q < n → IsNearestRoot n (suc q)
-go-up n q i h = let s = square-of-next q in record { under = omega arith; over = omega (arith, i .over) }
+next-is-nearest : (n q : ℕ) → IsRoot n q → q * q + q < n → IsNearestRoot n (suc q)
+next-is-nearest n q i h = let s = square-of-next q in record { under = omega arith; over = omega (arith, i .over) }
 
 rounded : (A W q : ℕ) → 0 < A → 0 < W → (c : Ordering) → Cmp c (4 * (A * W)) ((2 * q + 1) * (2 * q + 1) * W) → IsRoot A q → IsNearestRoot A (nearest q c)
 rounded A W q p z Ordering·lt h i =
     let l : 4 * A < (2 * q + 1) * (2 * q + 1) = lt-of-mul-lt-mul-right W (lt-of-le-of-lt (le-of-eq (mul-assoc 4 A W)) h) in
-    stay A q p i (omega (arith, square-of-odd q))
+    whole-is-nearest A q p i (omega (arith, square-of-odd q))
 rounded A W q p z Ordering·gt h i =
     let l : (2 * q + 1) * (2 * q + 1) < 4 * A = lt-of-mul-lt-mul-right W (lt-of-lt-of-le h (le-of-eq (sym (mul-assoc 4 A W)))) in
-    go-up A q i (omega (arith, square-of-odd q))
+    next-is-nearest A q i (omega (arith, square-of-odd q))
 rounded A W q p z Ordering·eq h i =
     let e : 4 * A ≡ (2 * q + 1) * (2 * q + 1) = eq-of-mul-eq-mul-right W z (4 * A) ((2 * q + 1) * (2 * q + 1)) (mul-assoc 4 A W ∙ h) in
     absurd (omega (arith, square-of-odd q))
@@ -100,7 +100,7 @@ size-is n j h k =
 square-power : (j i : ℕ) → 2 ^ (j + i) * 2 ^ (j + i) ≡ 4 ^ j * 4 ^ i
 square-power j i = ap (λ (z : ℕ). z * z) (pow-add 2 j i) ∙ square-scaled (2 ^ j) i ∙ ap (λ (z : ℕ). z * 4 ^ i) (sym (four-is-square j))
 
-pub four-pos : (i : ℕ) → 0 < 4 ^ i
+four-pos : (i : ℕ) → 0 < 4 ^ i
 four-pos i = subst (λ (z : ℕ). 0 < z) (sym (four-is-square i)) (mul-pos (pow-pos i) (pow-pos i))
 
 module _ (A i v : ℕ) (least : 70368744177664 ≤ A) (most : A ≤ 281474959933440) (near : IsNearestRoot A v) where
@@ -119,8 +119,8 @@ module _ (A i v : ℕ) (least : 70368744177664 ≤ A) (most : A ≤ 281474959933
   dropped-is : dropped binary32 (A * 4 ^ i) ≡ i
   dropped-is = omega (arith, places)
 
-  cut-root : IsRoot A (wholeRoot (A * 4 ^ i) / 2 ^ i)
-  cut-root = let b = between (A * 4 ^ i) (wholeRoot (A * 4 ^ i)) i (whole-root-is (A * 4 ^ i)) in record { under = le-of-mul-le-mul-right (b .under) (four-pos i); over = lt-of-mul-lt-mul-right (4 ^ i) (b .over) }
+  leading-root : IsRoot A (wholeRoot (A * 4 ^ i) / 2 ^ i)
+  leading-root = let b = between (A * 4 ^ i) (wholeRoot (A * 4 ^ i)) i (whole-root-is (A * 4 ^ i)) in record { under = le-of-mul-le-mul-right (b .under) (four-pos i); over = lt-of-mul-lt-mul-right (4 ^ i) (b .over) }
 
   kept-is : kept binary32 (A * 4 ^ i) ≡ v
   kept-is =
@@ -129,13 +129,13 @@ module _ (A i v : ℕ) (least : 70368744177664 ≤ A) (most : A ≤ 281474959933
       let q = s / 2 ^ i in
       let c = (2 * q + 1) * (2 * q + 1) * 4 ^ i in
       ap (λ (k : ℕ). nearest (s / 2 ^ k) (compare (4 * N) ((2 * (s / 2 ^ k) + 1) * (2 * (s / 2 ^ k) + 1) * 4 ^ k))) dropped-is
-      ∙ nearest-unique A v (nearest q (compare (4 * N) c)) near (rounded A (4 ^ i) q (omega (arith, least)) (four-pos i) (compare (4 * N) c) (cmp (4 * N) c) cut-root)
+      ∙ nearest-unique A v (nearest q (compare (4 * N) c)) near (rounded A (4 ^ i) q (omega (arith, least)) (four-pos i) (compare (4 * N) c) (cmp (4 * N) c) leading-root)
 
   rounds-to : nearestRoot binary32 (A * 4 ^ i) ≡ units binary32 false v i
   rounds-to = nearest-root-is binary32 (A * 4 ^ i) ∙ ap (λ (k : ℕ). units binary32 false (kept binary32 (A * 4 ^ i)) k) dropped-is ∙ ap (λ (z : ℕ). units binary32 false z i) kept-is
 
   -- ---- the number kept has 24 places
-  pub kept-least : 8388608 ≤ v
+  kept-least : 8388608 ≤ v
   kept-least = elim (decLe 8388608 v) [ yes l ↦ l | no g ↦ let h : v ≤ 8388607 = omega arith in absurd (omega (arith, least, near .over, mul-le-mul h h)) ]
 
   pub kept-most : v < 16777216
@@ -153,13 +153,16 @@ module _ (A i v : ℕ) (least : 70368744177664 ≤ A) (most : A ≤ 281474959933
     unfolding units
     units-is = ap (λ (b : Bool). cond b (odd 25 false v i 149) (inf false)) (is-true (ltb (v * 2 ^ i) (2 ^ 277)) (lt→ltb (v * 2 ^ i) (2 ^ 277) in-range))
 
+    odd-held : (d : ℕ) → v < 2 ^ d → T (fits binary32 (odd d false v i 149))
+    odd-held d h = odd-fits binary32 d false v i h (le-of-lt kept-most) in-range
+
     odd-number : (d : ℕ) → v < 2 ^ d → T (number binary32 (odd d false v i 149))
-    odd-number d h = fits-number binary32 (odd d false v i 149) (odd-fits binary32 d false v i h (le-trans (omega (arith, kept-most)) (le-refl 16777216)) in-range) (odd-kind d false v i 149 .1)
+    odd-number d h = fits-number binary32 (odd d false v i 149) (odd-held d h) (odd-kind d false v i 149 .1)
 
     odd-mag : (d : ℕ) → v < 2 ^ d → mag binary32 (odd d false v i 149) ≡ v * 2 ^ i
     odd-mag d h =
         eq-of-mul-eq-mul-right (2 ^ 149) (pow-pos 149) (mag binary32 (odd d false v i 149)) (v * 2 ^ i)
-        (mag-of-value binary32 (odd d false v i 149) false (v * 2 ^ i) (2 ^ 149) (odd-fits binary32 d false v i h (le-trans (omega (arith, kept-most)) (le-refl 16777216)) in-range) (odd-sign d false v i 149))
+        (mag-of-value binary32 (odd d false v i 149) false (v * 2 ^ i) (2 ^ 149) (odd-held d h) (odd-sign d false v i 149))
 
     same-value : odd 24 false v i 149 ≡ odd 25 false v i 149
     same-value =

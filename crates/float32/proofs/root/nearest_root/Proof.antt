@@ -1,7 +1,7 @@
 -- `float32::root::nearest_root` meets its contract: with q the whole part of the root, the next number is nearer exactly where the rest is above q. Assumes nothing.
 use native.Mathlib.Omega.{arith}
 use borrow.Author.Needs.{needs}
-use Rattle.float32.proofs.RootRounding.{stay}
+use Rattle.float32.proofs.RootRounding.{whole-is-nearest}
 use Rattle.float32.proofs.root.nearest_root.Statement.{statement}
 use Rattle.float32.proofs.root.nearest_root.Tie as tie
 
@@ -21,7 +21,7 @@ returns : tie.Need-returns
 returns c = search needs
 
 returns-2 : tie.Need-returns-2
-returns-2 c = let b = c .before in stay (b .before .args .n) (b .whole-root .result) (b .before .pre .0) (b .whole-root .ensures) (omega arith)
+returns-2 c = let b = c .before in whole-is-nearest (b .before .args .n) (b .whole-root .result) (b .before .pre .0) (b .whole-root .ensures) (omega arith)
 
 pub nearest-root-spec : {M : Type 1} → statement M
 nearest-root-spec =
