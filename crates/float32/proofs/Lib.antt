@@ -3,3 +3,9 @@ pub mod Shifts
 pub mod Bits
 pub mod Made
 pub mod Sums
+pub mod WholeRoot
+pub mod EvenPowers
+pub mod RootRounding
+pub mod RootCases
+pub mod RootNearest
+pub mod RootOrder

@@ -6,6 +6,8 @@ ghost use mathlib.Core.Bool.{false};
 ghost use lib.Ieee.{isNan, round, binary32};
 ghost use Rattle.float32.specs.Value.{Decoded, floorAt, moved};
 
+pub mod root;
+
 // A float that is no NaN, taken apart: mant * 2^(expo - 149), negative where neg is true. An infinity counts as 2^128.
 pub struct Parts {
     pub neg: bool,

@@ -11,7 +11,6 @@ pub mod Power
 pub mod Window
 pub mod Inf
 pub mod Range
-pub mod Sqrt
 pub mod Rise
 pub mod Bits
 pub mod Signs
