@@ -1,5 +1,10 @@
 pub mod Floor
 pub mod Shifts
-pub mod Bits
+pub mod Fields
+pub mod Patterns
+pub mod Difference
+pub mod Whole
+pub mod Counted
+pub mod Agree
 pub mod Made
 pub mod Sums

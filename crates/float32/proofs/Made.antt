@@ -12,7 +12,7 @@ use lib.Bits.{bitAnd, and-mask}
 use lib.Ieee.{Float, nan, inf, fin, binary32, odd, ofFields, ofBits, nanBits, isNan, ne}
 use lib.Ieee.Bits.{is-true, is-false, cond-no, nanBits-above}
 use lib.Ieee.Compare.{differs-from-itself}
-use Rattle.float32.proofs.Bits.{ofBits-is}
+use Rattle.float32.proofs.Fields.{ofBits-is}
 
 -- ---- the bits of q * 2 ^ (k - 149), for a q of 24 digits
 module _ (k q : ℕ) (K : k ≤ 253) (L : 8388608 ≤ q) (H : q < 16777216) where

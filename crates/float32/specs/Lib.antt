@@ -1,1 +1,6 @@
 pub mod Value
+pub mod Order
+pub mod Counts
+pub mod Remainder
+pub mod Powers
+pub mod Constants

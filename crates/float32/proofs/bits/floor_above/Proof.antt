@@ -2,8 +2,8 @@
 use Prim.Native.Nat.{ℕ}
 use borrow.Author.Needs.{needs}
 use Rattle.float32.proofs.Shifts.{digits-below, sum-fits, floor-below, floor-over}
-use Rattle.float32.proofs.floor_above.Statement.{statement}
-use Rattle.float32.proofs.floor_above.Tie as tie
+use Rattle.float32.proofs.bits.floor_above.Statement.{statement}
+use Rattle.float32.proofs.bits.floor_above.Tie as tie
 
 module _ (c : tie.After-capped-shift) where
   abbrev base : ℕ
