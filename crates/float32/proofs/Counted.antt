@@ -6,10 +6,10 @@ use native.Mathlib.Nat.{le-trans, le-of-eq, le-of-lt, lt-of-le-of-lt, min-eq-lef
 use native.Mathlib.Omega.{arith}
 use lib.Dec.{T, lit<, lit≤}
 use lib.Pow.{pow-pos, pow-add, pow-mono, shl-lt}
-use lib.Ieee.{Float, nan}
+use lib.Ieee.{Float, nan, inf, fin, toUnsigned}
 use lib.Ieee.Digits.{back}
 use Rattle.float32.specs.Value.{above, below, negative, Decoded}
-use Rattle.float32.specs.Counts.{whole, counted, countOf}
+use Rattle.float32.specs.Counts.{whole, counted, countOf, floorCount}
 use Rattle.float32.proofs.Floor.{below-pos}
 use Rattle.float32.proofs.Whole.{whole-same, whole-capped, whole-one, whole-le}
 
@@ -21,6 +21,15 @@ count-nan true = refl
 pub count-negative : (up : Bool) (x : Float) → negative x ≡ true → countOf up x ≡ 0
 unfolding countOf
 count-negative up x e = rw e
+
+-- down, it is Rust's `as` itself, which drops the fraction
+pub floor-is-cast : (x : Float) → floorCount x ≡ toUnsigned 64 x
+unfolding countOf toUnsigned
+floor-is-cast nan = refl
+floor-is-cast (inf true) = refl
+floor-is-cast (inf false) = refl
+floor-is-cast (fin true m e) = refl
+floor-is-cast (fin false m e) = refl
 
 module _ (up : Bool) (x : Float) (mant expo : ℕ) (D : Decoded x false mant expo) where
   count-is : (n d : ℕ) → 0 < d → above x * d ≡ n * below x → countOf up x ≡ min (whole up n d) 18446744073709551615

@@ -5,6 +5,11 @@ pub mod Patterns
 pub mod Difference
 pub mod Whole
 pub mod Counted
+pub mod CountBounds
+pub mod BeyondFloor
+pub mod UnitTurn
+pub mod Limits
+pub mod Named
 pub mod Agree
 pub mod Made
 pub mod Sums
