@@ -1,23 +1,23 @@
 -- As floats: floor(x) ≤ x < floor(x) + 1 for an x from 0 on whose floor is below 2 ^ 24, and the rounded difference x - floor(x) is in 0..1. In units of the smallest
 -- float, floor(x) is a multiple of one's units, and rounding keeps the order. Assumes nothing.
 use mathlib.Core.Path.{_≡_, refl, sym, ap, _∙_, subst}
-use mathlib.Core.Bool.{Bool, true, false}
-use Prim.Native.Nat.{ℕ, zero, suc, _+_, _-_, _*_, _/_, _^_, _≤_, _<_, min, zero-le}
-use native.Mathlib.Nat.{le-trans, le-of-eq, le-of-lt, lt-of-lt-of-le, lt-of-le-of-lt, mul-right-comm, mul-one, mul-le-mul-right, mul-lt-mul-of-pos-right, le-of-mul-le-mul-right, lt-of-mul-lt-mul-right, suc-mul, zero-mul}
+use mathlib.Core.Bool.{true, false}
+use Prim.Native.Nat.{ℕ, suc, _+_, _-_, _*_, _/_, _^_, _≤_, _<_, min, zero-le}
+use native.Mathlib.Nat.{le-trans, le-of-eq, lt-of-lt-of-le, lt-of-le-of-lt, mul-right-comm, mul-one, mul-le-mul-right, mul-lt-mul-of-pos-right, le-of-mul-le-mul-right, lt-of-mul-lt-mul-right, suc-mul, zero-mul}
 use native.Mathlib.Omega.{arith}
 use lib.Dec.{T, lit≤}
-use lib.IntN.{ℤ, pos}
+use lib.IntN.{pos}
 use lib.Pow.{pow-pos}
-use lib.Ieee.{Float, nan, inf, fin, Format, binary32, prec, low, up, down, le, lt, sub, round, ofInt, fits}
+use lib.Ieee.{Float, nan, inf, fin, Format, binary32, prec, low, up, down, le, lt, sub, round, ofInt}
 use lib.Ieee.Fits.{down-pos, round-fits}
 use lib.Ieee.Scale.{overflow}
 use lib.Ieee.Back.{round-whole}
-use Rattle.float_laws.specs.Units.{mag, key, keyed, sign, number, real, key→le, key→lt, real-number, mag-exact, mag-below}
+use Rattle.float_laws.specs.Units.{mag, key, number, real, key→le, key→lt, real-number, mag-exact, mag-below}
 use Rattle.float_laws.specs.Round.{rnd, key-round, mag-round, mag-of-value, round-number, rnd-real, real-zero}
-use Rattle.float_laws.specs.Mono.{o, center-up, key-zero, rndU, rndU-mono, sub-key, sub-number, size-nonneg, key-nonneg, nonneg-key}
+use Rattle.float_laws.specs.Mono.{o, center-up, rndU, rndU-mono, sub-key, sub-number, size-nonneg, key-nonneg, nonneg-key}
 use Rattle.float_laws.specs.Bounds.{one, real-one, mag-one, real-between, round-nonneg}
-use Rattle.float32.specs.Counts.{whole, counted, countOf, floorCount}
-use Rattle.float32.proofs.Whole.{floor-below, floor-above}
+use Rattle.float32.specs.Counts.{countOf, floorCount}
+use Rattle.float32.proofs.Whole.{floor-at-most, floor-next}
 
 -- ---- from the fraction a / b to g units of 1 / L
 module _ (n a b g L : ℕ) (B : 0 < b) (e : g * b ≡ a * L) where
@@ -45,10 +45,10 @@ in-units (inf s) n p X e h = absurd p
 in-units (fin false m k) n p X e h =
     let w = uncapped (m * up k / down k) n e h in
     record {
-      least = units-le n (m * up k) (down k) (mag binary32 (fin false m k)) (2 ^ 149) (down-pos k) (mag-exact binary32 false m k p) (subst (λ (z : ℕ). z * down k ≤ m * up k) w (floor-below (m * up k) (down k)));
+      least = units-le n (m * up k) (down k) (mag binary32 (fin false m k)) (2 ^ 149) (down-pos k) (mag-exact binary32 false m k p) (subst (λ (z : ℕ). z * down k ≤ m * up k) w (floor-at-most (m * up k) (down k)));
       next =
           units-lt (suc n) (m * up k) (down k) (mag binary32 (fin false m k)) (2 ^ 149) (down-pos k) (mag-exact binary32 false m k p) (pow-pos 149)
-          (subst (λ (z : ℕ). m * up k < suc z * down k) w (floor-above (m * up k) (down k) (down-pos k)));
+          (subst (λ (z : ℕ). m * up k < suc z * down k) w (floor-next (m * up k) (down k) (down-pos k)));
     }
 in-units (fin true m k) n p X e h =
     let z = nothing (overflow binary32) (mag binary32 (fin true m k)) (nonneg-key binary32 (fin true m k) p X) (mag-below binary32 (fin true m k) p) in

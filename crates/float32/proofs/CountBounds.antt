@@ -1,8 +1,8 @@
 -- What a caller may know of a count: it never falls as the float rises, it is at most 2 ^ 64 - 1, floor ≤ x < floor + 1 and ceil - 1 < x ≤ ceil. Assumes nothing.
-use mathlib.Core.Path.{_≡_, refl, sym, ap, _∙_, subst}
+use mathlib.Core.Path.{_≡_, refl, sym}
 use mathlib.Core.Bool.{Bool, true, false}
-use Prim.Native.Nat.{ℕ, suc, _+_, _-_, _*_, _/_, _^_, _≤_, _<_, min, zero-le}
-use native.Mathlib.Nat.{le-trans, le-of-eq, le-of-lt, le-refl, lt-of-lt-of-le, lt-of-le-of-lt, min-eq-left, min-le-right, zero-mul, mul-one, mul-pos, eq-zero-or-pos, le-of-mul-le-mul-right, mul-le-mul-right, min-le-left}
+use Prim.Native.Nat.{ℕ, suc, _*_, _/_, _≤_, _<_, zero-le}
+use native.Mathlib.Nat.{le-trans, le-of-eq, le-refl, min-eq-left, min-le-right, zero-mul, mul-one, le-of-mul-le-mul-right, mul-le-mul-right, min-le-left}
 use native.Mathlib.Omega.{arith}
 use lib.Dec.{T, lit≤}
 use lib.Ieee.{Float, nan, inf, fin, binary32, down, le, lt, eq, ofBits, ofFields, odd}
@@ -12,7 +12,7 @@ use Rattle.float_laws.specs.Signs.{Ord, ord-of-le}
 use Rattle.float32.specs.Value.{above, below, negative}
 use Rattle.float32.specs.Counts.{whole, counted, countOf, floorCount, ceilCount}
 use Rattle.float32.proofs.Floor.{below-pos}
-use Rattle.float32.proofs.Whole.{floor-below, floor-above, ceil-above, ceil-least, whole-mono, whole-one, whole-le, floor-ceil, ceil-floor}
+use Rattle.float32.proofs.Whole.{floor-at-most, floor-next, ceil-at-least, ceil-least, whole-mono, whole-one, whole-le, floor-ceil, ceil-floor}
 
 counted-most : (s : Bool) (n : ℕ) → counted s n ≤ 18446744073709551615
 counted-most true n = zero-le
@@ -66,13 +66,13 @@ count-to-1024 up x h = le-trans (count-never-falls up x (ofBits binary32 0x4480_
 
 -- ---- of an x that is not negative, as the fraction above x / below x
 module _ (x : Float) (sign : negative x ≡ false) where
-  pub floor-least : floorCount x * below x ≤ above x
+  pub floor-under-value : floorCount x * below x ≤ above x
   unfolding countOf
-  floor-least = rw sign (le-trans (mul-le-mul-right (below x) (min-le-left (above x / below x) 18446744073709551615)) (floor-below (above x) (below x)))
+  floor-under-value = rw sign (le-trans (mul-le-mul-right (below x) (min-le-left (above x / below x) 18446744073709551615)) (floor-at-most (above x) (below x)))
 
-  pub ceil-at-most : (n : ℕ) → above x ≤ n * below x → ceilCount x ≤ n
+  pub ceil-least-over-value : (n : ℕ) → above x ≤ n * below x → ceilCount x ≤ n
   unfolding countOf
-  ceil-at-most n h = rw sign (le-trans (min-le-left (whole true (above x) (below x)) 18446744073709551615) (ceil-least (above x) (below x) n (below-pos x) h))
+  ceil-least-over-value n h = rw sign (le-trans (min-le-left (whole true (above x) (below x)) 18446744073709551615) (ceil-least (above x) (below x) n (below-pos x) h))
 
   -- and that is no larger than the largest count
   module _ (room : above x ≤ 18446744073709551615 * below x) where
@@ -83,11 +83,11 @@ module _ (x : Float) (sign : negative x ≡ false) where
         (min-eq-left
         (le-trans (whole-mono up (above x) (below x) 18446744073709551615 1 (below-pos x) (lit≤ tt) (le-trans (le-of-eq (mul-one (above x))) room)) (le-of-eq (whole-one up 18446744073709551615))))
 
-    pub floor-next : above x < suc (floorCount x) * below x
-    floor-next = rw (uncapped false) (floor-above (above x) (below x) (below-pos x))
+    pub next-over-value : above x < suc (floorCount x) * below x
+    next-over-value = rw (uncapped false) (floor-next (above x) (below x) (below-pos x))
 
-    pub ceil-reaches : above x ≤ ceilCount x * below x
-    ceil-reaches = rw (uncapped true) (ceil-above (above x) (below x) (below-pos x))
+    pub ceil-over-value : above x ≤ ceilCount x * below x
+    ceil-over-value = rw (uncapped true) (ceil-at-least (above x) (below x) (below-pos x))
 
 pub floor-at-most-ceil : (x : Float) → floorCount x ≤ ceilCount x
 unfolding countOf

@@ -1,15 +1,15 @@
 -- A float's count from its sign, digits and exponent: the value is mant * 2 ^ (expo - 149), so that its whole part is a shift of the digits. Assumes nothing.
-use mathlib.Core.Path.{_≡_, refl, sym, ap, _∙_, subst}
+use mathlib.Core.Path.{_≡_, refl, sym, ap, _∙_}
 use mathlib.Core.Bool.{Bool, true, false}
-use Prim.Native.Nat.{ℕ, _+_, _-_, _*_, _/_, _%_, _^_, _≤_, _<_, min}
-use native.Mathlib.Nat.{le-trans, le-of-eq, le-of-lt, lt-of-le-of-lt, min-eq-left, min-eq-right, mul-comm, mul-assoc, mul-right-comm, mul-one, mul-le-mul, eq-of-mul-eq-mul-right, mod-eq-of-lt}
+use Prim.Native.Nat.{ℕ, _+_, _-_, _*_, _%_, _^_, _≤_, _<_, min}
+use native.Mathlib.Nat.{min-eq-left, min-eq-right, mul-assoc, mul-right-comm, mul-one, mul-le-mul, eq-of-mul-eq-mul-right, mod-eq-of-lt}
 use native.Mathlib.Omega.{arith}
-use lib.Dec.{T, lit<, lit≤}
-use lib.Pow.{pow-pos, pow-add, pow-mono, shl-lt}
+use lib.Dec.{lit<}
+use lib.Pow.{pow-pos, pow-add, pow-mono}
 use lib.Ieee.{Float, nan, inf, fin, toUnsigned}
 use lib.Ieee.Digits.{back}
 use Rattle.float32.specs.Value.{above, below, negative, Decoded}
-use Rattle.float32.specs.Counts.{whole, counted, countOf, floorCount}
+use Rattle.float32.specs.Counts.{whole, countOf, floorCount}
 use Rattle.float32.proofs.Floor.{below-pos}
 use Rattle.float32.proofs.Whole.{whole-same, whole-capped, whole-one, whole-le}
 

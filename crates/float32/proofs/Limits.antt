@@ -1,8 +1,7 @@
 -- What a passed test of limits says: the two comparisons, that the float is a number, and between finite ends or where it is finite that it is a real one. Assumes nothing.
-use mathlib.Core.Bool.{Bool, true, false, not}
 use lib.Dec.{T}
 use lib.Ieee.{Float, nan, inf, fin, Format, le, fits}
-use lib.Ieee.Fits.{and-l, and-r, and-i}
+use lib.Ieee.Fits.{and-l, and-r}
 use Rattle.float_laws.specs.Units.{number, real}
 use Rattle.float_laws.specs.Order.{le-right}
 use Rattle.float_laws.specs.Bounds.{real-between}

@@ -12,7 +12,7 @@ use lib.Ieee.Compare.{differs-from-itself, nan-differs}
 use lib.Ieee.Bits.{nanBits-is, nanBits-above, ofBits-toBits}
 use borrow.Author.Tests.{lt-ltb, le-ltb, lt-leb}
 use Rattle.float32.specs.Order.{magnitude}
-use Rattle.float32.proofs.Fields.{same, ofBits-is}
+use Rattle.float32.proofs.Fields.{same-test, ofBits-is}
 
 -- ---- x != x
 nan-of : (x : Float) → T (isNan x) → x ≡ nan
@@ -27,7 +27,7 @@ is-nan-nan = tt
 
 pub nan-test : (x : Float) → isNan x ≡ ne x x
 nan-test x =
-    same (isNan x) (ne x x) (λ t. subst (λ (y : Float). T (ne y y)) (sym (nan-of x t)) (subst T (sym nan-differs) tt))
+    same-test (isNan x) (ne x x) (λ t. subst (λ (y : Float). T (ne y y)) (sym (nan-of x t)) (subst T (sym nan-differs) tt))
     (λ t. subst (λ (y : Float). T (isNan y)) (sym (differs-from-itself x t)) is-nan-nan)
 
 pub tested-nan : (x : Float) → ne x x ≡ true → x ≡ nan

@@ -1,26 +1,26 @@
 -- A fraction brought to a whole number, down or up: which whole number it is, that equal fractions give equal ones, that larger fractions give no smaller ones, and that of
 -- digits below 2 ^ 31 a shift by 31 places leaves what one by more does. Each holds as the whole number is the greatest not above, or the least not below. Assumes nothing.
-use mathlib.Core.Path.{_≡_, refl, sym, ap, _∙_, subst}
+use mathlib.Core.Path.{_≡_, sym, ap, _∙_}
 use mathlib.Core.Logic.{inl, inr}
 use mathlib.Core.Bool.{Bool, true, false}
 use Prim.Native.Nat.{ℕ, zero, suc, _+_, _-_, _*_, _/_, _%_, _^_, _≤_, _<_, min}
-use native.Mathlib.Nat.{le-trans, le-of-eq, le-of-lt, le-antisymm, lt-of-lt-of-le, min-eq-left, min-eq-right, mul-comm, mul-assoc, mul-right-comm, mul-le-mul-left, mul-le-mul-right, le-of-mul-le-mul-right, div-eq-of-lt, div-mul-le-self, div-lt-iff-lt-mul, mod-eq-of-lt, suc-mul}
+use native.Mathlib.Nat.{le-trans, le-of-eq, le-of-lt, le-antisymm, lt-of-lt-of-le, min-eq-left, min-eq-right, mul-right-comm, mul-le-mul-left, mul-le-mul-right, le-of-mul-le-mul-right, div-eq-of-lt, div-mul-le-self, div-lt-iff-lt-mul, mod-eq-of-lt, suc-mul}
 use native.Mathlib.Omega.{arith}
-use lib.Pow.{pow-pos, pow-mono}
+use lib.Pow.{pow-mono}
 use lib.Ieee.Nearest.{div-mono}
 use Rattle.lists.specs.Interpolation.{here-or-on}
 use Rattle.float32.specs.Counts.{whole}
 
 -- ---- down: whole ≤ a / b < whole + 1
-pub floor-below : (a b : ℕ) → whole false a b * b ≤ a
-floor-below a b = div-mul-le-self a b
+pub floor-at-most : (a b : ℕ) → whole false a b * b ≤ a
+floor-at-most a b = div-mul-le-self a b
 
-pub floor-above : (a b : ℕ) → 0 < b → a < suc (whole false a b) * b
-floor-above a b z = div-lt-iff-lt-mul z .0 (omega arith)
+pub floor-next : (a b : ℕ) → 0 < b → a < suc (whole false a b) * b
+floor-next a b z = div-lt-iff-lt-mul z .0 (omega arith)
 
 -- ---- up: whole - 1 < a / b ≤ whole
-pub ceil-above : (a b : ℕ) → 0 < b → a ≤ whole true a b * b
-ceil-above a b z = let q = (a + (b - 1)) / b in let e = suc-mul q b in let h : a + (b - 1) < suc q * b = floor-above (a + (b - 1)) b z in omega arith
+pub ceil-at-least : (a b : ℕ) → 0 < b → a ≤ whole true a b * b
+ceil-at-least a b z = let q = (a + (b - 1)) / b in let e = suc-mul q b in let h : a + (b - 1) < suc q * b = floor-next (a + (b - 1)) b z in omega arith
 
 -- no whole number below it is as large as a / b
 pub ceil-least : (a b n : ℕ) → 0 < b → a ≤ n * b → whole true a b ≤ n
@@ -31,16 +31,16 @@ pub whole-mono : (up : Bool) (a b c d : ℕ) → 0 < b → 0 < d → a * d ≤ c
 whole-mono false a b c d z y h = div-mono a b c d z y h
 whole-mono true a b c d z y h =
     ceil-least a b (whole true c d) z
-    (le-of-mul-le-mul-right (le-trans h (le-trans (mul-le-mul-right b (ceil-above c d y)) (le-of-eq (mul-right-comm (whole true c d) d b)))) y)
+    (le-of-mul-le-mul-right (le-trans h (le-trans (mul-le-mul-right b (ceil-at-least c d y)) (le-of-eq (mul-right-comm (whole true c d) d b)))) y)
 
 pub whole-same : (up : Bool) (a b c d : ℕ) → 0 < b → 0 < d → a * d ≡ c * b → whole up a b ≡ whole up c d
 whole-same up a b c d z y e = le-antisymm (whole-mono up a b c d z y (le-of-eq e)) (whole-mono up c d a b y z (le-of-eq (sym e)))
 
 pub floor-ceil : (a b : ℕ) → 0 < b → whole false a b ≤ whole true a b
-floor-ceil a b z = le-of-mul-le-mul-right (le-trans (floor-below a b) (ceil-above a b z)) z
+floor-ceil a b z = le-of-mul-le-mul-right (le-trans (floor-at-most a b) (ceil-at-least a b z)) z
 
 pub ceil-floor : (a b : ℕ) → 0 < b → whole true a b ≤ suc (whole false a b)
-ceil-floor a b z = ceil-least a b (suc (whole false a b)) z (le-of-lt (floor-above a b z))
+ceil-floor a b z = ceil-least a b (suc (whole false a b)) z (le-of-lt (floor-next a b z))
 
 -- ---- of a whole number, and of one divided
 pub whole-one : (up : Bool) (n : ℕ) → whole up n 1 ≡ n
@@ -61,7 +61,7 @@ unfolding small
 whole-small false n w h = div-eq-of-lt h
 whole-small true zero w h = div-eq-of-lt (omega arith)
 whole-small true (suc n) w h =
-    le-antisymm (ceil-least (suc n) w 1 (omega arith) (let e = suc-mul 0 w in omega arith)) (go (whole true (suc n) w) (ceil-above (suc n) w (omega arith)))
+    le-antisymm (ceil-least (suc n) w 1 (omega arith) (let e = suc-mul 0 w in omega arith)) (go (whole true (suc n) w) (ceil-at-least (suc n) w (omega arith)))
   where
     go : (q : ℕ) → suc n ≤ q * w → 1 ≤ q
     go zero h = absurd (omega arith)

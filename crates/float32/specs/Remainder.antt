@@ -9,4 +9,4 @@ abbrev pub one : Float
 one = ofBits binary32 0x3f80_0000
 
 unfoldable pub remEuclidOne : Float → Float
-remEuclidOne v = cond (lt (rem binary32 v one) zero) (add binary32 (rem binary32 v one) one) (rem binary32 v one)
+remEuclidOne v = let r = rem binary32 v one in cond (lt r zero) (add binary32 r one) r

@@ -1,9 +1,8 @@
 // A float and its bit pattern: the sign is the top bit, then 8 bits of exponent, then 23 digits below the leading one.
 ghost use mathlib.Core.Path.{_≡_};
-ghost use mathlib.Core.Bool.{not};
+ghost use mathlib.Core.Bool.{false, not};
 ghost use Prim.Native.Nat.{_≤_, _<_, _^_, min};
 ghost use lib.Dec.{T};
-ghost use mathlib.Core.Bool.{false};
 ghost use lib.Ieee.{isNan, round, binary32, toBits, ofBits};
 ghost use Rattle.float32.specs.Value.{Decoded, floorAt};
 

@@ -1,5 +1,5 @@
-// f32 beside the language's own operators: the parts of a float, order, counts, remainder, powers and the named constants, each total and each
-// equal to a definition in specs/.
+// f32 beside the language's own operators, by topic. Every function is equal to a definition in specs/, and none but the inner ones of bits and counts
+// asks anything of its arguments.
 pub mod bits;
 pub mod constants;
 pub mod counts;

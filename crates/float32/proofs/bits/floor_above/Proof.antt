@@ -1,4 +1,4 @@
--- `float32::floor_above` meets its contract: the shift is capped at 31 places, where all the digits stand below the point. Assumes nothing.
+-- `float32::bits::floor_above` meets its contract: the shift is capped at 31 places, where all the digits stand below the point. Assumes nothing.
 use Prim.Native.Nat.{ℕ}
 use borrow.Author.Needs.{needs}
 use Rattle.float32.proofs.Shifts.{digits-below, sum-fits, floor-below, floor-over}

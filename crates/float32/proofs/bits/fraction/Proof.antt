@@ -1,3 +1,4 @@
+-- `float32::bits::fraction` meets its contract: f is a whole number that f32 holds, so the quotient is rounded once. Assumes nothing.
 use Rattle.float32.proofs.Sums.{in-float, fraction-is}
 use Rattle.float32.proofs.bits.fraction.Statement.{statement}
 use Rattle.float32.proofs.bits.fraction.Tie as tie

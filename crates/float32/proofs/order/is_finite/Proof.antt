@@ -1,7 +1,7 @@
 -- `float32::order::is_finite` meets its contract: the difference of a float with itself equals 0 exactly where the float is finite. Assumes nothing.
 use mathlib.Core.Path.{sym, subst}
 use lib.Dec.{T}
-use Rattle.float32.proofs.Difference.{difference-test}
+use Rattle.float32.proofs.FiniteTest.{difference-test}
 use Rattle.float32.proofs.order.is_finite.Statement.{statement}
 use Rattle.float32.proofs.order.is_finite.Tie as tie
 

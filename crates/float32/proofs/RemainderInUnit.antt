@@ -1,9 +1,9 @@
 -- The remainder by 1 of a finite value is in 0..1: `v % 1` is in -1..1, what is not below 0 stays, and below 0 the sum with 1 lies between the rounded sums of -1 and 1 and of 0 and 1.
 -- Assumes nothing.
-use mathlib.Core.Path.{_≡_, refl, sym, ap, _∙_, subst}
+use mathlib.Core.Path.{_≡_, refl}
 use mathlib.Core.Bool.{Bool, true, false, not, cond}
-use Prim.Native.Nat.{ℕ, _+_, _*_, _%_, _≤_, _<_}
-use native.Mathlib.Nat.{mod-lt, mul-one, one-mul, le-of-lt}
+use Prim.Native.Nat.{ℕ, _*_, _%_, _≤_, _<_}
+use native.Mathlib.Nat.{mod-lt, mul-one, le-of-lt}
 use native.Mathlib.Omega.{arith}
 use lib.Dec.{T, lit<}
 use lib.IntN.{ℤ, pos}
@@ -18,6 +18,7 @@ use Rattle.float_laws.specs.Order.{le-refl-f, lt→le-f, not-lt-f}
 use Rattle.float_laws.specs.Mono.{o, add-mono}
 use Rattle.float_laws.specs.Bounds.{one, real-one, real-between}
 use Rattle.float32.specs.Order.{within}
+use Rattle.float32.specs.Remainder as remainder
 use Rattle.float32.specs.Remainder.{remEuclidOne}
 
 abbrev minus-one : Float
@@ -105,11 +106,11 @@ module _ (r : Float) (u : Unit r) where
       go true f g = sum-within (f tt)
       go false f g = and-i (le o r) (le r one) (g tt) (u .most)
 
-pub remainder-in-unit : (v : Float) → T (real binary32 v) → T (within (ofBits binary32 0) (ofBits binary32 0x3f80_0000) (remEuclidOne v))
+pub remainder-in-unit : (v : Float) → T (real binary32 v) → T (within remainder.zero remainder.one (remEuclidOne v))
 unfolding remEuclidOne ofBits ofFields odd trailingZeros
 remainder-in-unit v p = result-within (rem binary32 v one) (rem-unit v p)
 
 -- and it can be 1: of -2 ^ -64, whose sum with 1 rounds to 1
-pub remainder-one : remEuclidOne (ofBits binary32 0x9f80_0000) ≡ one
+pub remainder-one : remEuclidOne (ofBits binary32 0x9f80_0000) ≡ remainder.one
 unfolding remEuclidOne rem lt add sum round units odd size span climb trailingZeros ofBits ofFields
 remainder-one = refl

@@ -1,12 +1,36 @@
--- Maximum, minimum and clamp are those that the laws of order speak of: each law of float_laws can be cited for them. Assumes nothing.
+-- Maximum, minimum and clamp in the words of others: "where one of the two is NaN, both give the other", and, of numbers, the `larger` and `smaller` whose laws of order
+-- float_laws has. Assumes nothing.
 use mathlib.Core.Path.{_≡_, refl}
-use mathlib.Core.Bool.{Bool, true, false}
 use lib.Dec.{T}
 use lib.Ieee.{Float, nan, inf, fin, Format, lt, isNan}
 use Rattle.float_laws.specs.Order as laws
 use Rattle.float_laws.specs.Units.{number}
 use Rattle.float32.specs.Order.{maximum, minimum, clamp}
 
+-- ---- NaN
+pub maximum-nan-first : (b : Float) → maximum nan b ≡ b
+unfolding maximum lt isNan
+maximum-nan-first b = refl
+
+pub maximum-nan-second : (a : Float) → maximum a nan ≡ a
+unfolding maximum lt isNan
+maximum-nan-second nan = refl
+maximum-nan-second (inf s) = refl
+maximum-nan-second (fin s m e) = refl
+
+pub minimum-nan-first : (b : Float) → minimum nan b ≡ b
+unfolding minimum lt isNan
+minimum-nan-first nan = refl
+minimum-nan-first (inf s) = refl
+minimum-nan-first (fin s m e) = refl
+
+pub minimum-nan-second : (a : Float) → minimum a nan ≡ a
+unfolding minimum lt isNan
+minimum-nan-second nan = refl
+minimum-nan-second (inf s) = refl
+minimum-nan-second (fin s m e) = refl
+
+-- ---- the laws of order
 pub maximum-agrees : (a b : Float) → maximum a b ≡ laws.maximum a b
 unfolding maximum lt isNan
 maximum-agrees nan b = refl
@@ -17,7 +41,7 @@ pub clamp-agrees : (lo hi x : Float) → clamp lo hi x ≡ laws.clamp lo hi x
 unfolding clamp
 clamp-agrees lo hi x = refl
 
--- of a number and anything: the larger and the smaller
+-- where the first is a number
 pub maximum-larger : (f : Format) (a b : Float) → T (number f a) → maximum a b ≡ laws.larger a b
 unfolding maximum isNan
 maximum-larger f nan b p = absurd p

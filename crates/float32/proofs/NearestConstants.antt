@@ -1,11 +1,11 @@
 -- The constants that whole numbers can reach are the f32 nearest to what they are named after: a constant is m / 2 ^ k, with m of 24 digits, and the number named lies
 -- between the midpoints to the two neighbours, (2 * m - 1) / 2 ^ (k + 1) and (2 * m + 1) / 2 ^ (k + 1). Assumes nothing.
-use mathlib.Core.Path.{_≡_, refl}
-use mathlib.Core.Bool.{true, false}
+use mathlib.Core.Path.{refl}
+use mathlib.Core.Bool.{false}
 use Prim.Native.Nat.{ℕ, _+_, _-_, _*_, _^_, _≤_, _<_}
 use lib.Count.{trailingZeros}
 use lib.Dec.{lit<, lit≤}
-use lib.Ieee.{Float, binary32, ofBits, ofFields, odd}
+use lib.Ieee.{Float, ofBits, ofFields, odd}
 use lib.Ieee.Exact.{HasValue}
 use Rattle.float32.specs.Constants.{LOG2-10, LOG10-2, TAU, FRAC-PI-4, SQRT-2}
 
