@@ -14,10 +14,11 @@ use lib.Ieee.Scale.{overflow}
 use lib.Ieee.Back.{round-whole}
 use Rattle.float_laws.specs.Units.{mag, key, number, real, key→le, key→lt, real-number, mag-exact, mag-below}
 use Rattle.float_laws.specs.Round.{rnd, key-round, mag-round, mag-of-value, round-number, rnd-real, real-zero}
-use Rattle.float_laws.specs.Mono.{o, center-up, rndU, rndU-mono, sub-key, sub-number, size-nonneg, key-nonneg, nonneg-key}
+use Rattle.float_laws.specs.Mono.{center-up, rndU, rndU-mono, sub-key, sub-number, size-nonneg, key-nonneg, nonneg-key}
 use Rattle.float_laws.specs.Bounds.{one, real-one, mag-one, real-between, round-nonneg}
 use Rattle.float32.specs.Counts.{countOf, floorCount}
 use Rattle.float32.proofs.Whole.{floor-at-most, floor-next}
+use Rattle.float32.proofs.PlusZero.{plus-zero}
 
 -- ---- from the fraction a / b to g units of 1 / L
 module _ (n a b g L : ℕ) (B : 0 < b) (e : g * b ≡ a * L) where
@@ -38,7 +39,7 @@ record Between (f : Format) (x : Float) (n : ℕ) : Type 0 where
   least : n * 2 ^ low f ≤ mag f x
   next : mag f x < suc n * 2 ^ low f
 
-in-units : (x : Float) (n : ℕ) → T (real binary32 x) → T (le o x) → floorCount x ≡ n → n < 16777216 → Between binary32 x n
+in-units : (x : Float) (n : ℕ) → T (real binary32 x) → T (le plus-zero x) → floorCount x ≡ n → n < 16777216 → Between binary32 x n
 unfolding countOf
 in-units nan n p X e h = absurd p
 in-units (inf s) n p X e h = absurd p
@@ -62,7 +63,7 @@ whole-size : (f : Format) (n : ℕ) → n ≤ 2 ^ prec f → rnd f n 1 ≡ n * 2
 whole-size f n h =
     sym (mag-round f false n 1) ∙ sym (mul-one (mag f (round f false n 1))) ∙ mag-of-value f (round f false n 1) false n 1 (round-fits f false n 1) (round-whole f false n h)
 
-module _ (f : Format) (x : Float) (n : ℕ) (p : T (real f x)) (X : T (le o x)) (h : suc n ≤ 2 ^ prec f) (b : Between f x n) where
+module _ (f : Format) (x : Float) (n : ℕ) (p : T (real f x)) (X : T (le plus-zero x)) (h : suc n ≤ 2 ^ prec f) (b : Between f x n) where
   key-whole : (k : ℕ) → k ≤ 2 ^ prec f → key f (ofInt f (pos k)) ≡ overflow f + k * 2 ^ low f
   unfolding ofInt
   key-whole k l = key-round f false k 1 ∙ ap (λ (z : ℕ). overflow f + z) (whole-size f k l)
@@ -77,12 +78,12 @@ module _ (f : Format) (x : Float) (n : ℕ) (p : T (real f x)) (X : T (le o x)) 
   next-gt : T (lt x (ofInt f (pos (suc n))))
   next-gt = key→lt f x (ofInt f (pos (suc n))) (real-number f x p) (whole-number (suc n)) (omega (arith, key-whole (suc n) h, size-nonneg f x p X, b .next))
 
-  low-end : T (le o (ofInt f (pos n)))
+  low-end : T (le plus-zero (ofInt f (pos n)))
   unfolding ofInt
   low-end = round-nonneg f n 1
 
   floor-real : T (real f (ofInt f (pos n)))
-  floor-real = real-between f o (ofInt f (pos n)) x (whole-number n) (real-zero f false) p low-end floor-le
+  floor-real = real-between f plus-zero (ofInt f (pos n)) x (whole-number n) (real-zero f false) p low-end floor-le
 
   rest-key : key f (sub f x (ofInt f (pos n))) ≡ overflow f + rndU f (mag f x - n * 2 ^ low f)
   rest-key =
@@ -90,7 +91,7 @@ module _ (f : Format) (x : Float) (n : ℕ) (p : T (real f x)) (X : T (le o x)) 
       sub-key f x (ofInt f (pos n)) p floor-real
       ∙ center-up K (rndU f) (key f x + (K + K - key f (ofInt f (pos n)))) (mag f x - n * 2 ^ low f) (omega (arith, key-whole n (omega arith), size-nonneg f x p X, b .least, mag-below f x p))
 
-  rest-low : T (le o (sub f x (ofInt f (pos n))))
+  rest-low : T (le plus-zero (sub f x (ofInt f (pos n))))
   rest-low = key-nonneg f (sub f x (ofInt f (pos n))) (sub-number f x (ofInt f (pos n)) p floor-real) (omega (arith, rest-key))
 
   rest-high : T (le (sub f x (ofInt f (pos n))) one)
@@ -100,7 +101,7 @@ module _ (f : Format) (x : Float) (n : ℕ) (p : T (real f x)) (X : T (le o x)) 
       (omega (arith, rest-key, rndU-mono f (mag f x - n * 2 ^ low f) (mag f one) r, rnd-real f one (real-one f)))
 
 -- ---- for a caller
-module _ (x : Float) (p : T (real binary32 x)) (X : T (le o x)) (h : floorCount x < 16777216) where
+module _ (x : Float) (p : T (real binary32 x)) (X : T (le plus-zero x)) (h : floorCount x < 16777216) where
   abbrev floored : Float
   floored = ofInt binary32 (pos (floorCount x))
 
@@ -113,7 +114,7 @@ module _ (x : Float) (p : T (real binary32 x)) (X : T (le o x)) (h : floorCount 
   pub below-next : T (lt x (ofInt binary32 (pos (suc (floorCount x)))))
   below-next = next-gt binary32 x (floorCount x) p X h between
 
-  pub rest-from-zero : T (le o (sub binary32 x floored))
+  pub rest-from-zero : T (le plus-zero (sub binary32 x floored))
   rest-from-zero = rest-low binary32 x (floorCount x) p X h between
 
   pub rest-to-one : T (le (sub binary32 x floored) one)

@@ -6,8 +6,9 @@ use native.Mathlib.Omega.{arith}
 use lib.Dec.{T}
 use lib.Ieee.{Float, nan, inf, fin, Format, fits, neg, le}
 use Rattle.float_laws.specs.Units.{number, real, sign, mag}
-use Rattle.float_laws.specs.Mono.{o, key-nonneg}
+use Rattle.float_laws.specs.Mono.{key-nonneg}
 use Rattle.float32.specs.Order.{magnitude}
+use Rattle.float32.proofs.PlusZero.{plus-zero}
 
 pub magnitude-clear : (x : Float) → sign (magnitude x) ≡ false
 unfolding magnitude
@@ -46,7 +47,7 @@ magnitude-is-real f nan h = h
 magnitude-is-real f (inf s) h = h
 magnitude-is-real f (fin s m e) h = fits-clear f (fin s m e) h
 
-pub magnitude-nonneg : (f : Format) (x : Float) → T (number f x) → T (le o (magnitude x))
+pub magnitude-nonneg : (f : Format) (x : Float) → T (number f x) → T (le plus-zero (magnitude x))
 unfolding magnitude
 magnitude-nonneg f nan p = absurd p
 magnitude-nonneg f (inf s) p = key-nonneg f (inf false) tt (omega arith)
