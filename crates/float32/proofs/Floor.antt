@@ -1,17 +1,18 @@
--- The floor of a float moved up keeps the order. Assumes nothing.
-use mathlib.Core.Path.{_≡_, refl, sym, ap, _∙_, subst}
-use mathlib.Core.Bool.{Bool, true, false, not, _&&_, _||_}
-use Prim.Native.Nat.{ℕ, _+_, _-_, _*_, _/_, _^_, _≤_, _<_}
-use native.Mathlib.Nat.{le-trans, le-of-eq, le-of-lt, mul-comm, mul-assoc, mul-right-comm, mul-le-mul-right, add-mul, mul-sub, zero-mul}
+-- floor((x + c) * 2 ^ 24) never falls as the finite x rises: over one common denominator the two fractions stand in the order of the floats. Assumes nothing.
+use mathlib.Core.Path.{_≡_, _∙_}
+use mathlib.Core.Bool.{Bool, true, false}
+use Prim.Native.Nat.{ℕ, _+_, _-_, _*_, _^_, _≤_, _<_}
+use native.Mathlib.Nat.{mul-comm, mul-assoc, mul-le-mul-right, add-mul, zero-mul}
 use native.Mathlib.Omega.{arith}
-use lib.Dec.{T, ltb, eqb, ltb→lt, eqb→eq, lit<}
+use lib.Dec.{T, lit<}
 use lib.IntN.{ℤ}
-use lib.Ieee.{Float, nan, inf, fin, up, down, le, lt, eq}
-use lib.Ieee.Fits.{down-pos, and-l, and-r}
+use lib.Ieee.{Float, nan, inf, fin, up, down, le}
+use lib.Ieee.Fits.{down-pos}
 use lib.Ieee.Nearest.{div-mono}
 use Rattle.float_laws.specs.Signs.{Ord, sub-mul, ord-of-le}
 use Rattle.float32.specs.Value.{below, floorAt, moved}
 
+-- C + a * B / b and C + a' * B / b', and the differences, both over the denominator b * b'
 module _ (C B a b a' b' : ℕ) where
   left+ : (C * b + a * B) * b' ≡ C * (b * b') + a * b' * B
   left+ = add-mul (C * b) (a * B) b' ∙ simp (mul-assoc, mul-comm B b')

@@ -1,20 +1,15 @@
--- A float put together from its bits, and E2 as the code makes it. Assumes nothing.
-use mathlib.Core.Path.{_≡_, refl, sym, ap, _∙_, subst}
-use mathlib.Core.Bool.{Bool, true, false, not, cond}
-use Prim.Native.Nat.{ℕ, suc, _+_, _-_, _*_, _/_, _%_, _^_, _≤_, _<_}
-use native.Mathlib.Nat.{sub-le, mul-div-cancel, le-trans, mod-eq-of-lt, mul-add-div-right, div-le-self}
+-- A float put together: the pattern k * 2 ^ 23 + q is that of q * 2 ^ (k - 149), for a q of 24 digits, since the leading digit of q adds one to the exponent's field. Assumes nothing.
+use mathlib.Core.Path.{_≡_, sym, ap, _∙_, subst}
+use mathlib.Core.Bool.{Bool, false, not, cond}
+use Prim.Native.Nat.{ℕ, suc, _+_, _-_, _*_, _/_, _%_, _≤_, _<_}
 use native.Mathlib.Omega.{arith}
-use borrow.Author.Tests.{lt-ltb, le-ltb}
-use lib.Pow.{pow-pos, shr-mono}
-use lib.Dec.{lit≤, T, leb, ltb, eqb, leb→le, ltb→lt, eqb→eq, not-T, lt→ltb}
+use lib.Dec.{T, leb, eqb, leb→le, eqb→eq, not-T}
 use lib.Arith.{le→nltb}
-use lib.Bits.{bitAnd, and-mask}
-use lib.Ieee.{Float, nan, inf, fin, binary32, odd, ofFields, ofBits, nanBits, isNan, ne}
-use lib.Ieee.Bits.{is-true, is-false, cond-no, nanBits-above}
-use lib.Ieee.Compare.{differs-from-itself}
-use Rattle.float32.proofs.Bits.{ofBits-is}
+use lib.Ieee.{Float, nan, inf, binary32, odd, ofFields, ofBits, nanBits, isNan, ne}
+use lib.Ieee.Bits.{is-false, cond-no, nanBits-above}
+use Rattle.float32.proofs.Fields.{ofBits-is}
+use Rattle.float32.proofs.Patterns.{nan-test}
 
--- ---- the bits of q * 2 ^ (k - 149), for a q of 24 digits
 module _ (k q : ℕ) (K : k ≤ 253) (L : 8388608 ≤ q) (H : q < 16777216) where
   under-ones : ofFields binary32 false (suc k) (q - 8388608) ≡ odd 24 false q k 149
   unfolding ofFields
@@ -46,8 +41,6 @@ module _ (k q : ℕ) (K : k ≤ 253) (L : 8388608 ≤ q) (H : q < 16777216) wher
   pub made-no-nan : T (not (nanBits binary32 (k * 8388608 + q)))
   made-no-nan = rw (nanBits-above binary32 (k * 8388608 + q)) (le→nltb 2139095040 ((k * 8388608 + q) % 2147483648) (omega arith))
 
+-- what `x != x` leaves
 pub no-nan : (x : Float) → T (not (ne x x)) → T (not (isNan x))
-unfolding ne isNan
-no-nan nan t = absurd t
-no-nan (inf s) t = tt
-no-nan (fin s m e) t = tt
+no-nan x t = subst (λ (b : Bool). T (not b)) (sym (nan-test x)) t

@@ -1,20 +1,18 @@
--- The floor of a float from its parts, by shifts. Assumes nothing.
-use mathlib.Core.Path.{_≡_, refl, sym, ap, _∙_, subst}
-use mathlib.Core.Logic.{_⊎_, inl, inr}
-use mathlib.Core.Bool.{Bool, true, false, not}
+-- floor(A + N / 2 ^ k) and floor(A - N / 2 ^ k) by shifts in 64 bits: equal fractions have equal floors, and for N below 2 ^ 31 a shift by 31 places is as good as one by more,
+-- since then all of N stands below the point. Assumes nothing.
+use mathlib.Core.Path.{_≡_, sym, ap, _∙_}
+use mathlib.Core.Logic.{inl, inr}
+use mathlib.Core.Bool.{Bool, true, false}
 use Prim.Native.Nat.{ℕ, zero, suc, _+_, _-_, _*_, _/_, _%_, _^_, _≤_, _<_, min}
-use native.Mathlib.Nat.{le-trans, le-of-eq, lt-of-lt-of-le, le-of-lt, min-eq-left, min-eq-right, mul-comm, mul-assoc, mul-one, mul-right-comm, mul-left-comm, mul-le-mul, mul-le-mul-left, mul-le-mul-right, le-of-mul-le-mul-right, add-mul, sub-zero, mul-div-cancel, suc-mul, eq-of-mul-eq-mul-right, le-div-iff-mul-le, div-eq-of-lt, mod-eq-of-lt, zero-div, sub-eq-zero-of-le}
+use native.Mathlib.Nat.{le-trans, le-of-eq, lt-of-lt-of-le, le-of-lt, min-eq-left, min-eq-right, mul-one, mul-right-comm, mul-le-mul, mul-le-mul-left, add-mul, sub-zero, mul-div-cancel, suc-mul, mod-eq-of-lt}
 use native.Mathlib.Omega.{arith}
-use lib.Dec.{T, ltb, ltb→lt, nltb→le}
-use lib.Pow.{pow-pos, pow-add, pow-mono, pow-sub-lt, high}
-use lib.Ieee.{Float}
+use lib.Pow.{pow-pos, pow-mono, pow-sub-lt, high}
 use lib.Ieee.Nearest.{div-same}
-use Rattle.float32.specs.Value.{above, below, floorAt, moved, Decoded}
+use Rattle.float32.specs.Value.{floorAt}
 use Rattle.float_laws.specs.Signs.{sub-mul}
-use Rattle.float32.proofs.Floor.{below-pos}
 use Rattle.lists.specs.Interpolation.{here-or-on}
 
--- ---- a shift by 31 is as good as one by more, for digits below 2 ^ 31
+-- ---- digits that all stand below the point: the sum keeps A, and the difference is one less where there are any
 beyond : Bool → ℕ → ℕ → ℕ
 beyond false A N = A
 beyond true A zero = A

@@ -1,13 +1,12 @@
--- Sums, differences and quotients of floats by the fractions that they equal: each is the exact result, rounded once. Assumes nothing.
-use mathlib.Core.Path.{_≡_, refl, sym, ap, _∙_, subst}
-use mathlib.Core.Bool.{Bool, true, false, not, cond, true≢false}
+-- Sums, differences and quotients of floats by the fractions that they equal: each is the exact result, rounded once, whatever fraction it is written as. Assumes nothing.
+use mathlib.Core.Path.{_≡_, refl, sym, ap, _∙_}
+use mathlib.Core.Bool.{true, false, true≢false}
 use Prim.Native.Nat.{ℕ, _+_, _-_, _*_, _^_, _≤_, _<_}
-use native.Mathlib.Nat.{mul-comm, mul-assoc, mul-left-comm, mul-one, mul-pos, add-mul, lt-of-le-of-lt, le-of-eq, lt-of-mul-lt-mul-right, mul-lt-mul-of-pos-right, lt-of-lt-of-le, le-of-lt}
-use native.Mathlib.Omega.{arith}
-use lib.Dec.{T, ltb, lit<, lit≤, lt→ltb, le→leb}
-use lib.Pow.{pow-pos, shl-lt}
-use lib.IntN.{ℤ, pos}
-use lib.Ieee.{Float, nan, inf, fin, Format, binary32, up, down, round, add, sub, sum, div, neg, ofInt, ofBits, inFloat}
+use native.Mathlib.Nat.{mul-comm, mul-assoc, mul-left-comm, mul-pos, add-mul, lt-of-le-of-lt, le-of-eq, lt-of-mul-lt-mul-right, mul-lt-mul-of-pos-right, lt-of-lt-of-le}
+use lib.Dec.{T, lit<, lit≤, le→leb}
+use lib.Pow.{shl-lt}
+use lib.IntN.{pos}
+use lib.Ieee.{Float, nan, inf, fin, Format, binary32, up, down, round, add, sub, sum, div, ofInt, ofBits, inFloat}
 use lib.Ieee.Fits.{down-pos}
 use lib.Ieee.Exact.{HasValue, round-exact}
 use lib.Ieee.Back.{round-whole}

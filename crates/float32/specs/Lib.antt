@@ -1,2 +1,7 @@
 pub mod Value
+pub mod Order
+pub mod Counts
+pub mod Remainder
+pub mod Powers
+pub mod Constants
 pub mod Root

@@ -1,66 +1,9 @@
-ghost use mathlib.Core.Path.{_≡_};
-ghost use mathlib.Core.Bool.{not};
-ghost use Prim.Native.Nat.{_+_, _-_, _*_, _/_, _%_, _^_, _<_, _≤_, min};
-ghost use lib.Dec.{T};
-ghost use mathlib.Core.Bool.{false};
-ghost use lib.Ieee.{isNan, round, binary32};
-ghost use Rattle.float32.specs.Value.{Decoded, floorAt, moved};
-
+// f32 beside the language's own operators, by topic. Every function is equal to a definition in specs/, and none but the inner ones of bits, counts and root
+// asks anything of its arguments.
+pub mod bits;
+pub mod constants;
+pub mod counts;
+pub mod order;
+pub mod powers;
+pub mod remainder;
 pub mod root;
-
-// A float that is no NaN, taken apart: mant * 2^(expo - 149), negative where neg is true. An infinity counts as 2^128.
-pub struct Parts {
-    pub neg: bool,
-    pub mant: u32,
-    pub expo: u32,
-}
-
-pub fn decode(x: f32) -> Parts
-    requires { ⌜ T (not (isNan x)) ⌝ }
-    ensures { λ r. ⌜ Decoded x (r .neg) (r .mant) (r .expo) ⌝ }
-{
-    let b: u32 = f32::to_bits(x);
-    let neg = b >> 31 == 1;
-    let e = (b >> 23) & 0xff;
-    let t = b & 0x7f_ffff;
-    if e == 0 {
-        return Parts {
-            neg,
-            mant: t,
-            expo: 0,
-        };
-    }
-    Parts {
-        neg,
-        mant: t | 0x80_0000,
-        expo: e - 1,
-    }
-}
-
-// F / 2^24
-pub fn fraction(f: u32) -> f32
-    requires { ⌜ f ≤ 16777216 ⌝ }
-    ensures { λ r. ⌜ r ≡ round binary32 false f 16777216 ⌝ }
-{
-    (f as f32) / 16777216.0
-}
-
-// A shift by 31 places is as good as one by more, for digits below 2^31.
-fn capped_shift(places: u32) -> u32
-    ensures { λ r. ⌜ r ≡ min places 31 ⌝ }
-{
-    if places < 31 { places } else { 31 }
-}
-
-// floor(base + digits / 2^places), or floor(base - digits / 2^places) where neg is true.
-pub fn floor_above(neg: bool, base: u64, digits: u64, places: u32) -> u64
-    requires { ⌜ (0 < base) × (base ≤ 2 ^ 32) × (digits < 2 ^ 31) × (digits ≤ base) ⌝ }
-    ensures { λ r. ⌜ r ≡ floorAt neg base digits (2 ^ places) ⌝ }
-{
-    let s = capped_shift(places);
-    let a = base << s;
-    if neg {
-        return (a - digits) >> s;
-    }
-    (a + digits) >> s
-}

@@ -72,7 +72,7 @@ pub fn sqrt(x: f32) -> f32
     if x != x {
         return x;
     }
-    let d = crate::decode(x);
+    let d = crate::bits::decode(x);
     let neg = d.neg;
     let mant = d.mant;
     let expo = d.expo;

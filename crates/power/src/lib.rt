@@ -40,7 +40,7 @@ pub fn exp2_by(p: &PowerTable, x: f32) -> f32
     if x != x {
         return 0.0;
     }
-    let d = float32::decode(x);
+    let d = float32::bits::decode(x);
     let neg = d.neg;
     let mant = d.mant;
     let expo = d.expo;
@@ -50,7 +50,7 @@ pub fn exp2_by(p: &PowerTable, x: f32) -> f32
         }
         return 3.4028235e38;
     }
-    let y = float32::floor_above(neg, 2147483648, (mant as u64) << 7, 132 - expo);
+    let y = float32::bits::floor_above(neg, 2147483648, (mant as u64) << 7, 132 - expo);
     let n = y >> 24;
     if n < 2 {
         return 0.0;
@@ -109,7 +109,7 @@ pub fn log2_by(p: &PowerTable, v: f32) -> f32
     if v != v {
         return 0.0;
     }
-    let d = float32::decode(v);
+    let d = float32::bits::decode(v);
     let neg = d.neg;
     let mant = d.mant;
     let expo = d.expo;
@@ -122,7 +122,7 @@ pub fn log2_by(p: &PowerTable, v: f32) -> f32
     if 253 < expo {
         return 0.0;
     }
-    let f = float32::fraction(find(p, (mant as u64) << 7) as u32);
+    let f = float32::bits::fraction(find(p, (mant as u64) << 7) as u32);
     if expo < 126 {
         return f - ((126 - expo) as f32);
     }

@@ -48,7 +48,7 @@ fn wave(t: &[u32; 257], u: u64) -> f32
     ensures { λ r. ⌜ r ≡ waveAt u ⌝ }
 {
     let w = rise(t, fold(u)) >> 6;
-    let x = float32::fraction(w as u32);
+    let x = float32::bits::fraction(w as u32);
     if u >> 22 < 2 {
         return x;
     }
@@ -65,12 +65,12 @@ fn turns(u: f32) -> u64
     if u != u {
         return 0;
     }
-    let d = float32::decode(u);
+    let d = float32::bits::decode(u);
     let neg = d.neg;
     let mant = d.mant;
     let expo = d.expo;
     if expo < 125 {
-        return float32::floor_above(neg, 16777216, mant as u64, 125 - expo) & 0xff_ffff;
+        return float32::bits::floor_above(neg, 16777216, mant as u64, 125 - expo) & 0xff_ffff;
     }
     if 148 < expo {
         return 0;

@@ -1,11 +1,11 @@
--- `elem::decode` meets its contract. Assumes nothing.
+-- `float32::bits::decode` meets its contract: an exponent field of 0 has no leading digit, any other has it. Assumes nothing.
 use mathlib.Core.Path.{sym, subst}
 use lib.Dec.{T}
 use lib.Ieee.{binary32, fits}
 use borrow.Author.Needs.{needs}
-use Rattle.float32.proofs.Bits.{decoded-low, decoded-high}
-use Rattle.float32.proofs.decode.Statement.{statement}
-use Rattle.float32.proofs.decode.Tie as tie
+use Rattle.float32.proofs.Fields.{decoded-low, decoded-high}
+use Rattle.float32.proofs.bits.decode.Statement.{statement}
+use Rattle.float32.proofs.bits.decode.Tie as tie
 
 held : (c : tie.Start) → T (fits binary32 (c .args .x))
 held c = subst T (sym (c .good .0 .1)) tt

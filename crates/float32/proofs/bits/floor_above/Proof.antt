@@ -1,9 +1,9 @@
--- `float32::floor_above` meets its contract: the shift is capped at 31 places, where all the digits stand below the point. Assumes nothing.
+-- `float32::bits::floor_above` meets its contract: the shift is capped at 31 places, where all the digits stand below the point. Assumes nothing.
 use Prim.Native.Nat.{ℕ}
 use borrow.Author.Needs.{needs}
 use Rattle.float32.proofs.Shifts.{digits-below, sum-fits, floor-below, floor-over}
-use Rattle.float32.proofs.floor_above.Statement.{statement}
-use Rattle.float32.proofs.floor_above.Tie as tie
+use Rattle.float32.proofs.bits.floor_above.Statement.{statement}
+use Rattle.float32.proofs.bits.floor_above.Tie as tie
 
 module _ (c : tie.After-capped-shift) where
   abbrev base : ℕ

@@ -1,4 +1,5 @@
--- A float's sign, exponent and digits by shifts and masks of its bit pattern, tied to its value. Assumes nothing.
+-- A float's sign, exponent and digits by shifts and masks of its bit pattern, tied to its value: an exponent field of 0 has no leading digit, any other has the digit 2 ^ 23, and
+-- the infinities' field reads as 2 ^ 128. Assumes nothing.
 use mathlib.Core.Path.{_≡_, refl, sym, ap, _∙_, subst}
 use Prim.Native.Nat.{ℕ, zero, suc, _+_, _-_, _*_, _/_, _%_, _^_, _≤_, _<_}
 use native.Mathlib.Nat.{mod-lt}
@@ -14,11 +15,11 @@ use lib.Ieee.Exact.{HasValue, odd-sign}
 use Rattle.float32.specs.Value.{above, below, negative, Decoded}
 
 -- two tests that pass together are one
-pub same : (a b : Bool) → (T a → T b) → (T b → T a) → a ≡ b
-same true true f g = refl
-same true false f g = absurd (f tt)
-same false true f g = absurd (g tt)
-same false false f g = refl
+pub same-test : (a b : Bool) → (T a → T b) → (T b → T a) → a ≡ b
+same-test true true f g = refl
+same-test true false f g = absurd (f tt)
+same-test false true f g = absurd (g tt)
+same-test false false f g = refl
 
 -- ---- what the shifts and masks pick
 sign-up : (b : ℕ) → b < 4294967296 → b / 2147483648 ≡ 1 → 2147483648 ≤ b
@@ -28,7 +29,7 @@ sign-down : (b : ℕ) → b < 4294967296 → 2147483648 ≤ b → b / 2147483648
 sign-down b h e = omega arith
 
 sign-is : (b : ℕ) → b < 4294967296 → leb 2147483648 b ≡ eqb (b / 2147483648) 1
-sign-is b h = same (leb 2147483648 b) (eqb (b / 2147483648) 1) (λ t. eq→eqb (sign-down b h (leb→le 2147483648 b t))) (λ t. le→leb 2147483648 b (sign-up b h (eqb→eq (b / 2147483648) 1 t)))
+sign-is b h = same-test (leb 2147483648 b) (eqb (b / 2147483648) 1) (λ t. eq→eqb (sign-down b h (leb→le 2147483648 b t))) (λ t. le→leb 2147483648 b (sign-up b h (eqb→eq (b / 2147483648) 1 t)))
 
 field-is : (b : ℕ) → bitAnd (b / 8388608) 255 ≡ b % 2147483648 / 8388608
 field-is b = and-mask (b / 8388608) 8 ∙ sym (field b 8 23)
@@ -39,7 +40,7 @@ digits-is b = and-mask b 23
 full-is : (b : ℕ) → bitOr (bitAnd b 8388607) 8388608 ≡ 8388608 + b % 8388608
 full-is b = ap (λ (t : ℕ). bitOr t 8388608) (digits-is b) ∙ or-shifted-r 1 23 (b % 8388608) (mod-lt b (lit< tt))
 
--- ---- the value
+-- ---- the value of the fields
 pub ofBits-is : (b : ℕ) → ofBits binary32 b ≡ ofFields binary32 (leb 2147483648 b) (b % 2147483648 / 8388608) (b % 8388608)
 unfolding ofBits
 ofBits-is b = refl

@@ -1,0 +1,53 @@
+// Rust's `x.floor() as usize` and `x.ceil() as usize`, from the number's bits.
+// Method: x = mant * 2^(expo - 149) is shifted to its whole part, to the left from exponent 149 on, else to the right. To round up, the
+// places that the shift drops are filled first. From 2^64 on, and for infinity, the answer is the largest count.
+ghost use mathlib.Core.Path.{_≡_};
+ghost use Prim.Native.Nat.{_≤_, _<_, _^_};
+ghost use Rattle.float32.specs.Counts.{whole, countOf, floorCount, ceilCount};
+use crate::bits::capped_shift;
+use crate::bits::decode;
+
+pub fn floor_to_count(x: f32) -> usize
+    ensures { λ r. ⌜ r ≡ floorCount x ⌝ }
+{
+    to_count(false, x)
+}
+
+pub fn ceil_to_count(x: f32) -> usize
+    ensures { λ r. ⌜ r ≡ ceilCount x ⌝ }
+{
+    to_count(true, x)
+}
+
+fn to_count(up: bool, x: f32) -> usize
+    ensures { λ r. ⌜ r ≡ countOf up x ⌝ }
+{
+    if x != x {
+        return 0;
+    }
+    let d = decode(x);
+    let neg = d.neg;
+    let mant = d.mant as u64;
+    let expo = d.expo;
+    if neg {
+        return 0;
+    }
+    if expo < 149 {
+        return shifted(up, mant, capped_shift(149 - expo)) as usize;
+    }
+    if expo < 190 {
+        return (mant << (expo - 149)) as usize;
+    }
+    0xffff_ffff_ffff_ffff
+}
+
+// mant / 2^places, rounded down or up.
+fn shifted(up: bool, mant: u64, places: u32) -> u64
+    requires { ⌜ (mant < 2 ^ 24) × (places ≤ 31) ⌝ }
+    ensures { λ r. ⌜ r ≡ whole up mant (2 ^ places) ⌝ }
+{
+    if up {
+        return (mant + ((1u64 << places) - 1)) >> places;
+    }
+    mant >> places
+}

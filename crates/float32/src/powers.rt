@@ -1,0 +1,16 @@
+// Rust's powi by the two exponents that the port uses, with the order of the products that document 01 gives.
+ghost use mathlib.Core.Path.{_≡_};
+ghost use Rattle.float32.specs.Powers.{square, fifth};
+
+pub fn powi2(v: f32) -> f32
+    ensures { λ r. ⌜ r ≡ square v ⌝ }
+{
+    v * v
+}
+
+pub fn powi5(v: f32) -> f32
+    ensures { λ r. ⌜ r ≡ fifth v ⌝ }
+{
+    let square = v * v;
+    square * square * v
+}
