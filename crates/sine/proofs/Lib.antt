@@ -1,3 +1,4 @@
 pub mod Steps
 pub mod Angles
 pub mod Waves
+pub mod Circle
