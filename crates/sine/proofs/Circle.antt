@@ -11,9 +11,8 @@ use lib.Dec.{T, leb, leb→le}
 use lib.Ieee.Fits.{and-l, and-r}
 use Rattle.lists.specs.Interpolation.{interp, interp-is, here-or-on}
 use Rattle.lists.specs.Below.{allBelow, at}
-use Rattle.sine.specs.Table.{sines}
-use Rattle.sine.specs.Sine.{R}
-use Rattle.sine.specs.Rules.{R-step}
+use Rattle.sine.specs.Table.{sineTable, R}
+use Rattle.sine.proofs.Entries.{R-rises}
 use Rattle.sine.proofs.Waves.{rise-le}
 
 -- ---- a point between a and b, m to r, and its square
@@ -112,7 +111,7 @@ sound a d b' d' =
     && leb (d * d + d' * d') dip
 
 steps-all : T (allBelow 256 (λ h. sound (R h) (rise h) (R (255 - h)) (rise (255 - h))))
-unfolding sound sines
+unfolding sound sineTable
 steps-all = tt
 
 -- ---- a point of step h as the two floors leave it, m to r between its entries
@@ -142,7 +141,7 @@ point h m r H W = ap (λ (z : ℕ). z / 64) (interp-is 14 R (h * 16384 + r)) ∙
         let q : (h * 16384 + r) % 16384 ≡ 0 = omega arith in
         let z : m ≡ 0 = omega arith in
         let w : r ≡ 16384 = omega arith in
-        let e : R h + rise h ≡ R (h + 1) = omega (arith, R-step h H .0) in
+        let e : R h + rise h ≡ R (h + 1) = omega (arith, R-rises h H .0) in
         rw (p, q, z, w, e, mul-zero (R (h + 1 + 1) - R (h + 1))) (omega arith)
 
 -- ---- the law

@@ -1,4 +1,4 @@
-pub mod Steps
-pub mod Angles
+pub mod Entries
+pub mod Places
 pub mod Waves
 pub mod Circle

@@ -12,10 +12,10 @@ use lib.Ieee.{Float, fin, inf, Format, binary32, round, neg, odd, units, low, em
 use lib.Ieee.Fits.{round-is, core}
 use lib.Ieee.Exact.{HasValue, round-exact}
 use borrow.Author.Tests.{lt-leb, le-leb, eq-eqb, ne-eqb, lt-ltb}
-use Rattle.sine.specs.Table.{sines}
+use Rattle.sine.specs.Table.{sineTable, R}
 use Rattle.lists.specs.Interpolation.{interp}
-use Rattle.sine.specs.Sine.{R, along, waveAt}
-use Rattle.sine.specs.Rules.{R-step}
+use Rattle.sine.specs.Sine.{turned, wave}
+use Rattle.sine.proofs.Entries.{R-rises}
 use Rattle.lists.specs.Interpolation.{interp-is, part-le, between}
 use Rattle.lists.specs.Interpolation.{here-or-on}
 use Rattle.float_laws.specs.Signs.{neg-round}
@@ -24,17 +24,17 @@ use Rattle.float_laws.specs.Signs.{neg-round}
 odd-is : (u : ℕ) → bitAnd (u / 4194304) 1 ≡ u / 4194304 % 2
 odd-is u = and-mask (u / 4194304) 1
 
-pub folded-odd : (u : ℕ) → bitAnd (u / 4194304) 1 ≡ 1 → 4194304 - bitAnd u 4194303 ≡ along u
-unfolding along
+pub folded-odd : (u : ℕ) → bitAnd (u / 4194304) 1 ≡ 1 → 4194304 - bitAnd u 4194303 ≡ turned u
+unfolding turned
 folded-odd u h = rw (and-mask u 22, eq-eqb (u / 4194304 % 2) 1 (sym (odd-is u) ∙ h))
 
-pub folded-even : (u : ℕ) → (bitAnd (u / 4194304) 1 ≡ 1 → ⊥) → bitAnd u 4194303 ≡ along u
-unfolding along
+pub folded-even : (u : ℕ) → (bitAnd (u / 4194304) 1 ≡ 1 → ⊥) → bitAnd u 4194303 ≡ turned u
+unfolding turned
 folded-even u h = rw (and-mask u 22, ne-eqb (u / 4194304 % 2) 1 (λ e. h (odd-is u ∙ e)))
 
-pub along-le : (u : ℕ) → along u ≤ 4194304
-unfolding along
-along-le u = go (eqb (u / 4194304 % 2) 1)
+pub turned-le : (u : ℕ) → turned u ≤ 4194304
+unfolding turned
+turned-le u = go (eqb (u / 4194304 % 2) 1)
   where
     go : (b : Bool) → cond b (4194304 - u % 4194304) (u % 4194304) ≤ 4194304
     go true = omega arith
@@ -42,7 +42,7 @@ along-le u = go (eqb (u / 4194304 % 2) 1)
 
 -- ---- the rise
 end-of : interp 14 R 4194304 ≡ 1073741824
-unfolding interp sines
+unfolding interp sineTable
 end-of = refl
 
 pub at-end : (p : ℕ) → p ≤ 4194304 → 255 < p / 16384 → 1073741824 ≡ interp 14 R p
@@ -54,30 +54,30 @@ at-end p h l = sym (ap (interp 14 R) (only p h l) ∙ end-of)
 pub rise-le : (p : ℕ) → p ≤ 4194304 → interp 14 R p ≤ 1073741824
 rise-le p h =
     elim (here-or-on (p / 16384) 256) [
-      | inl l ↦ rw interp-is (le-trans (between (R (p / 16384)) (R (p / 16384 + 1)) _ (R-step (p / 16384) l .0) (part-le (R (p / 16384 + 1) - R (p / 16384)) (p % 16384) 14 (le-of-lt (mod-lt p (pow-pos 14))))) (R-step (p / 16384) l .1))
+      | inl l ↦ rw interp-is (le-trans (between (R (p / 16384)) (R (p / 16384 + 1)) _ (R-rises (p / 16384) l .0) (part-le (R (p / 16384 + 1) - R (p / 16384)) (p % 16384) 14 (le-of-lt (mod-lt p (pow-pos 14))))) (R-rises (p / 16384) l .1))
       | inr l ↦ rw (← at-end p h l) (omega arith)
     ]
 
 -- ---- the wave
-module _ (u w : ℕ) (e : w ≡ interp 14 R (along u) / 64) where
-  wave-is : waveAt u ≡ round binary32 (leb 2 (u / 4194304) && ltb 0 w) w 16777216
-  unfolding waveAt
+module _ (u w : ℕ) (e : w ≡ interp 14 R (turned u) / 64) where
+  wave-is : wave u ≡ round binary32 (leb 2 (u / 4194304) && ltb 0 w) w 16777216
+  unfolding wave
   wave-is = rw e
 
   pub w-le : w ≤ 16777216
-  w-le = let l = rise-le (along u) (along-le u) in omega arith
+  w-le = let l = rise-le (turned u) (turned-le u) in omega arith
 
-  pub wave-up : u / 4194304 < 2 → round binary32 false w 16777216 ≡ waveAt u
+  pub wave-up : u / 4194304 < 2 → round binary32 false w 16777216 ≡ wave u
   wave-up h = sym (wave-is ∙ rw (lt-leb 2 (u / 4194304) h))
 
-  pub wave-zero : w ≡ 0 → round binary32 false w 16777216 ≡ waveAt u
+  pub wave-zero : w ≡ 0 → round binary32 false w 16777216 ≡ wave u
   wave-zero z = sym (wave-is ∙ ap (λ (b : Bool). round binary32 b w 16777216) (rw z (last (leb 2 (u / 4194304)))))
     where
       last : (b : Bool) → (b && false) ≡ false
       last true = refl
       last false = refl
 
-  pub wave-down : 2 ≤ u / 4194304 → (w ≡ 0 → ⊥) → neg (round binary32 false w 16777216) ≡ waveAt u
+  pub wave-down : 2 ≤ u / 4194304 → (w ≡ 0 → ⊥) → neg (round binary32 false w 16777216) ≡ wave u
   wave-down h z = neg-round binary32 w 16777216 ∙ sym (wave-is ∙ rw (le-leb 2 (u / 4194304) h, lt-ltb 0 w (omega arith)))
 
 exact : (n : ℕ) (s : Bool) → n ≤ 16777216 → HasValue (round binary32 s n 16777216) s n 16777216
@@ -88,8 +88,8 @@ exact n s h =
     ]
 
 -- the wave is exact: its value is w / 2 ^ 24
-pub wave-value : (u : ℕ) → HasValue (waveAt u) (leb 2 (u / 4194304) && ltb 0 (interp 14 R (along u) / 64)) (interp 14 R (along u) / 64) 16777216
+pub wave-value : (u : ℕ) → HasValue (wave u) (leb 2 (u / 4194304) && ltb 0 (interp 14 R (turned u) / 64)) (interp 14 R (turned u) / 64) 16777216
 wave-value u =
-    let w = interp 14 R (along u) / 64 in
+    let w = interp 14 R (turned u) / 64 in
     let s = leb 2 (u / 4194304) && ltb 0 w in
     subst (λ (x : Float). HasValue x s w 16777216) (sym (wave-is u w refl)) (exact w s (w-le u w refl))
