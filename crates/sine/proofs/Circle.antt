@@ -13,7 +13,7 @@ use Rattle.lists.specs.Interpolation.{interp, interp-is, here-or-on}
 use Rattle.lists.specs.Below.{allBelow, at}
 use Rattle.sine.specs.Table.{sineTable, R}
 use Rattle.sine.proofs.Entries.{R-rises}
-use Rattle.sine.proofs.Waves.{rise-le}
+use Rattle.sine.proofs.Waves.{interp-le}
 
 -- ---- a point between a and b, m to r, and its square
 line : (m r a d : ℕ) → (m * a + r * (a + d)) * (m * a + r * (a + d)) + m * r * (d * d) ≡ (m + r) * (m * (a * a) + r * ((a + d) * (a + d)))
@@ -183,8 +183,8 @@ circle U g = elim (here-or-on U 4194304) [ inl l ↦ go (U / 16384) (U % 16384) 
         let k = 255 - h in
         let m = 16384 - r in
         let e' : 4194304 - U ≡ k * 16384 + m = omega arith in
-        let p = rise-le U g in
-        let q = rise-le (4194304 - U) (omega arith) in
+        let p = interp-le U g in
+        let q = interp-le (4194304 - U) (omega arith) in
         step-circle h k m r (interp 14 R U / 64) (interp 14 R (4194304 - U) / 64) H refl (omega arith)
         (ap (λ (z : ℕ). interp 14 R z / 64) e ∙ point h m r H (omega arith)) (ap (λ (z : ℕ). interp 14 R z / 64) e' ∙ point k r m (omega arith) (omega arith))
         (omega arith) (omega arith)

@@ -2,3 +2,4 @@ pub mod Entries
 pub mod Places
 pub mod Waves
 pub mod Circle
+pub mod Range

@@ -7,7 +7,7 @@ use borrow.Author.Needs.{needs}
 use Rattle.lists.specs.Interpolation.{interp}
 use Rattle.sine.specs.Table.{R}
 use Rattle.sine.specs.Sine.{turned}
-use Rattle.sine.proofs.Waves.{turned-le, w-le, wave-up, wave-zero, wave-down}
+use Rattle.sine.proofs.Waves.{turned-le, wave-small, wave-up, wave-zero, wave-down}
 use Rattle.sine.proofs.wave.wave_at.Statement.{statement}
 use Rattle.sine.proofs.wave.wave_at.Tie as tie
 
@@ -24,7 +24,7 @@ w-is : (r : tie.After-interpolated) → r .interpolated .result / 64 ≡ interp 
 w-is r = ap (λ (z : ℕ). z / 64) (r .interpolated .ensures ∙ ap (interp 14 R) (r .before .turned-place .ensures))
 
 small : (r : tie.After-interpolated) → r .interpolated .result / 64 ≤ 16777216
-small r = w-le (u r) (r .interpolated .result / 64) (w-is r)
+small r = wave-small (u r) (r .interpolated .result / 64) (w-is r)
 
 cast-fraction : tie.Need-cast-fraction
 cast-fraction c = let l = small c in omega arith
