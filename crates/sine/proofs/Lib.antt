@@ -3,3 +3,5 @@ pub mod Places
 pub mod Waves
 pub mod Circle
 pub mod Range
+pub mod PanAngle
+pub mod Pan

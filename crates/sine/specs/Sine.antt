@@ -8,12 +8,12 @@ use Rattle.lists.specs.Interpolation.{interp}
 use Rattle.sine.specs.Table.{R}
 
 -- 0.15915494, the turns in a radian
-abbrev pub TURNS_PER_RADIAN : Float
-TURNS_PER_RADIAN = ofBits binary32 0x3e22_f983
+abbrev pub TURNS-PER-RADIAN : Float
+TURNS-PER-RADIAN = ofBits binary32 0x3e22_f983
 
 -- u = θ·0.15915494
 abbrev pub u : Float → Float
-u θ = mul binary32 θ TURNS_PER_RADIAN
+u θ = mul binary32 θ TURNS-PER-RADIAN
 
 -- U = floor(u·2^24) mod 2^24. `moved (2 ^ 128) x` is floor((x + 2^128)·2^24): whole turns more change nothing mod 2^24, and
 -- 2^128 of them bring every finite u above 0, so that the floor is one of whole numbers. A u that is infinite or no number gives 0.
