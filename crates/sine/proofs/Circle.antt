@@ -1,95 +1,19 @@
 -- The squares of sine and cosine add to 1 within 2 ^ -16, over whole numbers: with s and c the two before the division by 2 ^ 24, s * s + c * c is 2 ^ 48 within 2 ^ 32.
--- Within a step of the table the sum of squares is a quadratic between its ends, below their line by at most a quarter of the step's own square.
--- One test over the 256 steps gives the ends and the step; the floors cost less than 1 in s and in c. Assumes nothing.
-use mathlib.Core.Path.{_≡_, refl, sym, ap, _∙_, subst}
-use mathlib.Core.Logic.{_⊎_, inl, inr}
-use mathlib.Core.Bool.{Bool, true, false, _&&_}
-use Prim.Native.Nat.{ℕ, suc, _+_, _-_, _*_, _/_, _%_, _^_, _≤_, _<_}
-use native.Mathlib.Nat.{le-trans, le-of-eq, le-total, mul-le-mul, mul-le-mul-left, mul-comm, mul-assoc, mul-left-comm, add-mul, mul-add, add-comm, mul-one, mul-zero, zero-mul}
+-- Within a step of the table both go along chords (Chord.antt). One test over the 256 steps gives the ends and the chords' squares; the floors cost less than 1 in s and in c. Assumes nothing.
+use mathlib.Core.Path.{_≡_, refl, ap, _∙_}
+use mathlib.Core.Logic.{inl, inr}
+use mathlib.Core.Bool.{Bool, _&&_}
+use Prim.Native.Nat.{ℕ, _+_, _-_, _*_, _/_, _%_, _^_, _≤_, _<_}
+use native.Mathlib.Nat.{mul-le-mul, mul-comm, mul-assoc, mul-left-comm, add-mul, mul-add, mul-zero}
 use native.Mathlib.Omega.{arith}
 use lib.Dec.{T, leb, leb→le}
 use lib.Ieee.Fits.{and-l, and-r}
 use Rattle.lists.specs.Interpolation.{interp, interp-is, here-or-on}
 use Rattle.lists.specs.Below.{allBelow, at}
 use Rattle.sine.specs.Table.{sineTable, R}
+use Rattle.sine.proofs.Chord.{Step, rising, falling, chord-low, chord-high}
 use Rattle.sine.proofs.Entries.{R-rises}
 use Rattle.sine.proofs.Waves.{interp-le}
-
--- ---- a point between a and b, m to r, and its square
-line : (m r a d : ℕ) → (m * a + r * (a + d)) * (m * a + r * (a + d)) + m * r * (d * d) ≡ (m + r) * (m * (a * a) + r * ((a + d) * (a + d)))
-line m r a d = simp (add-mul, mul-add, mul-assoc, mul-comm, mul-left-comm) (omega arith)
-
-four : (m r : ℕ) → 4 * (m * r) ≤ (m + r) * (m + r)
-four m r = elim (here-or-on m r) [ inl h ↦ go m (r - m) r (omega arith) | inr h ↦ rw (mul-comm m r, add-comm m r) (go r (m - r) m (omega arith)) ]
-  where
-    go : (x k y : ℕ) → y ≡ x + k → 4 * (x * y) ≤ (x + y) * (x + y)
-    go x k y e = rw e (simp (add-mul, mul-add, mul-comm) (omega arith))
-
--- ---- two such points, one rising by d and one falling by d': the sum of their squares
-module _ (m r a d b' d' : ℕ) where
-  abbrev X : ℕ
-  X = m * a + r * (a + d)
-
-  abbrev Y : ℕ
-  Y = r * b' + m * (b' + d')
-
-  abbrev start : ℕ
-  start = a * a + (b' + d') * (b' + d')
-
-  abbrev end : ℕ
-  end = (a + d) * (a + d) + b' * b'
-
-  lines : X * X + Y * Y + m * r * (d * d + d' * d') ≡ (m + r) * (m * start + r * end)
-  lines =
-      let e1 = line m r a d in
-      let e2 = line r m b' d' in
-      let q1 : m * r * (d * d + d' * d') ≡ m * r * (d * d) + m * r * (d' * d') = mul-add (m * r) (d * d) (d' * d') in
-      let q2 : r * m * (d' * d') ≡ m * r * (d' * d') = ap (λ (z : ℕ). z * (d' * d')) (mul-comm r m) in
-      let q3 : (m + r) * (m * start + r * end) ≡ (m + r) * (m * (a * a) + r * ((a + d) * (a + d))) + (m + r) * (r * (b' * b') + m * ((b' + d') * (b' + d'))) =
-      ap (λ (z : ℕ). (m + r) * z) (simp (mul-add) (omega arith)) ∙ mul-add (m + r) (m * (a * a) + r * ((a + d) * (a + d))) (r * (b' * b') + m * ((b' + d') * (b' + d'))) in
-      let q4 : (r + m) * (r * (b' * b') + m * ((b' + d') * (b' + d'))) ≡ (m + r) * (r * (b' * b') + m * ((b' + d') * (b' + d'))) = ap (λ (z : ℕ). z * (r * (b' * b') + m * ((b' + d') * (b' + d')))) (add-comm r m) in
-      omega arith
-
-  module _ (W : m + r ≡ 16384) (lo hi dip : ℕ) (lo₀ : lo ≤ start) (hi₀ : start ≤ hi) (lo₁ : lo ≤ end) (hi₁ : end ≤ hi) (small : d * d + d' * d' ≤ dip) where
-    mean-low : 16384 * lo ≤ m * start + r * end
-    mean-low =
-        let e : m * lo + r * lo ≡ 16384 * lo = sym (add-mul m r lo) ∙ ap (λ (z : ℕ). z * lo) W in
-        let p = mul-le-mul-left m lo₀ in
-        let q = mul-le-mul-left r lo₁ in
-        omega arith
-
-    mean-high : m * start + r * end ≤ 16384 * hi
-    mean-high =
-        let e : m * hi + r * hi ≡ 16384 * hi = sym (add-mul m r hi) ∙ ap (λ (z : ℕ). z * hi) W in
-        let p = mul-le-mul-left m hi₀ in
-        let q = mul-le-mul-left r hi₁ in
-        omega arith
-
-    whole : X * X + Y * Y + m * r * (d * d + d' * d') ≡ 16384 * (m * start + r * end)
-    whole = lines ∙ ap (λ (z : ℕ). z * (m * start + r * end)) W
-
-    under : m * r * (d * d + d' * d') ≤ 67108864 * dip
-    under = mul-le-mul (let f : 4 * (m * r) ≤ 16384 * 16384 = le-trans (four m r) (le-of-eq (ap (λ (z : ℕ). z * z) W)) in omega arith) small
-
-    low : 268435456 * lo ≤ X * X + Y * Y + 67108864 * dip
-    low = omega (arith, mean-low, whole, under)
-
-    high : X * X + Y * Y ≤ 268435456 * hi
-    high = omega (arith, mean-high, whole)
-
--- ---- the floors of both, in units of 2 ^ 20
-square : (n : ℕ) → n * 1048576 * (n * 1048576) ≡ n * n * 1099511627776
-square n = simp (mul-assoc, mul-comm, mul-left-comm) (omega arith)
-
-squares-high : (x y s c hi : ℕ) → s * 1048576 ≤ x → c * 1048576 ≤ y → x * x + y * y ≤ 268435456 * hi → 4096 * (s * s + c * c) ≤ hi
-squares-high x y s c hi hs hc h = omega (arith, square s, square c, mul-le-mul hs hs, mul-le-mul hc hc)
-
-squares-low : (x y s c lo dip : ℕ) → x ≤ (s + 1) * 1048576 → y ≤ (c + 1) * 1048576 → 268435456 * lo ≤ x * x + y * y + 67108864 * dip
-    → 4 * lo ≤ 16384 * (s * s + c * c + 2 * s + 2 * c + 2) + dip
-squares-low x y s c lo dip hs hc h =
-    let p : (s + 1) * (s + 1) ≡ s * s + 2 * s + 1 = simp (add-mul, mul-add, mul-comm) (omega arith) in
-    let q : (c + 1) * (c + 1) ≡ c * c + 2 * c + 1 = simp (add-mul, mul-add, mul-comm) (omega arith) in
-    omega (arith, square (s + 1), square (c + 1), mul-le-mul hs hs, mul-le-mul hc hc)
 
 -- ---- the table's steps, by one test: the sum of squares at both ends, and the step's own square
 abbrev least : ℕ
@@ -110,15 +34,26 @@ sound a d b' d' =
     && leb least ((a + d) * (a + d) + b' * b') && leb ((a + d) * (a + d) + b' * b') greatest
     && leb (d * d + d' * d') dip
 
-steps-all : T (allBelow 256 (λ h. sound (R h) (rise h) (R (255 - h)) (rise (255 - h))))
+steps-sound : T (allBelow 256 (λ h. sound (R h) (rise h) (R (255 - h)) (rise (255 - h))))
 unfolding sound sineTable
-steps-all = tt
+steps-sound = tt
+
+step : (a d b' d' : ℕ) → T (sound a d b' d') → Step least greatest dip a d b' d'
+unfolding sound
+step a d b' d' t =
+    record {
+      start-low = leb→le least (a * a + (b' + d') * (b' + d')) (search (and-l, and-r));
+      start-high = leb→le (a * a + (b' + d') * (b' + d')) greatest (search (and-l, and-r));
+      end-low = leb→le least ((a + d) * (a + d) + b' * b') (search (and-l, and-r));
+      end-high = leb→le ((a + d) * (a + d) + b' * b') greatest (search (and-l, and-r));
+      narrow = leb→le (d * d + d' * d') dip (search (and-l, and-r));
+    }
 
 -- ---- a point of step h as the two floors leave it, m to r between its entries
 mixed : (m r a d : ℕ) → m + r ≡ 16384 → m * a + r * (a + d) ≡ 16384 * a + d * r
 mixed m r a d W =
-    let e : m * a + r * a ≡ 16384 * a = sym (add-mul m r a) ∙ ap (λ (z : ℕ). z * a) W in
-    omega (arith, mul-add r a d, mul-comm r d)
+    let e : (m + r) * a ≡ 16384 * a = ap (λ (z : ℕ). z * a) W in
+    omega (arith, add-mul m r a, mul-add r a d, mul-comm r d)
 
 abbrev at-point : ℕ → ℕ → ℕ
 at-point k t = (R k + (R (k + 1) - R k) * t / 16384) / 64
@@ -144,6 +79,20 @@ point h m r H W = ap (λ (z : ℕ). z / 64) (interp-is 14 R (h * 16384 + r)) ∙
         let e : R h + rise h ≡ R (h + 1) = omega (arith, R-rises h H .0) in
         rw (p, q, z, w, e, mul-zero (R (h + 1 + 1) - R (h + 1))) (omega arith)
 
+-- ---- the floors of both, in units of 2 ^ 20
+square : (n : ℕ) → n * 1048576 * (n * 1048576) ≡ n * n * 1099511627776
+square n = simp (mul-assoc, mul-comm, mul-left-comm) (omega arith)
+
+squares-high : (x y s c hi : ℕ) → s * 1048576 ≤ x → c * 1048576 ≤ y → x * x + y * y ≤ 268435456 * hi → 4096 * (s * s + c * c) ≤ hi
+squares-high x y s c hi hs hc h = omega (arith, square s, square c, mul-le-mul hs hs, mul-le-mul hc hc)
+
+squares-low : (x y s c lo dip : ℕ) → x ≤ (s + 1) * 1048576 → y ≤ (c + 1) * 1048576 → 268435456 * lo ≤ x * x + y * y + 67108864 * dip
+    → 4 * lo ≤ 16384 * (s * s + c * c + 2 * s + 2 * c + 2) + dip
+squares-low x y s c lo dip hs hc h =
+    let p : (s + 1) * (s + 1) ≡ s * s + 2 * s + 1 = simp (add-mul, mul-add, mul-comm) (omega arith) in
+    let q : (c + 1) * (c + 1) ≡ c * c + 2 * c + 1 = simp (add-mul, mul-add, mul-comm) (omega arith) in
+    omega (arith, square (s + 1), square (c + 1), mul-le-mul hs hs, mul-le-mul hc hc)
+
 -- ---- the law
 pub record Circle (s c : ℕ) : Type 0 where
   pub low : 2 ^ 48 ≤ s * s + c * c + 2 ^ 32
@@ -157,22 +106,12 @@ floor-high x = omega arith
 
 step-circle : (h k m r s c : ℕ) → h < 256 → k ≡ 255 - h → m + r ≡ 16384
     → s ≡ (m * R h + r * (R h + rise h)) / 1048576 → c ≡ (r * R k + m * (R k + rise k)) / 1048576 → s ≤ 16777216 → c ≤ 16777216 → Circle s c
-unfolding sound
 step-circle h k m r s c H K W S C s-le c-le =
-    let a = R h in
-    let d = rise h in
-    let b' = R k in
-    let d' = rise k in
-    let t : T (sound a d b' d') = rw K (at 256 (λ i. sound (R i) (rise i) (R (255 - i)) (rise (255 - i))) steps-all h H) in
-    let x = X m r a d b' d' in
-    let y = Y m r a d b' d' in
-    let lo₀ = leb→le least (start m r a d b' d') (search (and-l, and-r)) in
-    let hi₀ = leb→le (start m r a d b' d') greatest (search (and-l, and-r)) in
-    let lo₁ = leb→le least (end m r a d b' d') (search (and-l, and-r)) in
-    let hi₁ = leb→le (end m r a d b' d') greatest (search (and-l, and-r)) in
-    let small = leb→le (d * d + d' * d') dip (search (and-l, and-r)) in
-    let p = squares-low x y s c least dip (rw S (floor-high x)) (rw C (floor-high y)) (low m r a d b' d' W least greatest dip lo₀ hi₀ lo₁ hi₁ small) in
-    let q = squares-high x y s c greatest (rw S (floor-low x)) (rw C (floor-low y)) (high m r a d b' d' W least greatest dip lo₀ hi₀ lo₁ hi₁ small) in
+    let x = rising m r (R h) (rise h) (R k) (rise k) in
+    let y = falling m r (R h) (rise h) (R k) (rise k) in
+    let t = step (R h) (rise h) (R k) (rise k) (rw K (at 256 (λ i. sound (R i) (rise i) (R (255 - i)) (rise (255 - i))) steps-sound h H)) in
+    let p = squares-low x y s c least dip (rw S (floor-high x)) (rw C (floor-high y)) (chord-low m r (R h) (rise h) (R k) (rise k) least greatest dip W t) in
+    let q = squares-high x y s c greatest (rw S (floor-low x)) (rw C (floor-low y)) (chord-high m r (R h) (rise h) (R k) (rise k) least greatest dip W t) in
     record { low = omega arith; high = omega arith }
 
 pub circle : (U : ℕ) → U ≤ 4194304 → Circle (interp 14 R U / 64) (interp 14 R (4194304 - U) / 64)
