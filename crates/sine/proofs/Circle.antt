@@ -94,7 +94,7 @@ squares-low x y s c lo dip hs hc h =
     omega (arith, square (s + 1), square (c + 1), mul-le-mul hs hs, mul-le-mul hc hc)
 
 -- ---- the law
-pub record Circle (s c : ℕ) : Type 0 where
+pub record NearCircle (s c : ℕ) : Type 0 where
   pub low : 2 ^ 48 ≤ s * s + c * c + 2 ^ 32
   pub high : s * s + c * c ≤ 2 ^ 48 + 2 ^ 21
 
@@ -105,7 +105,7 @@ floor-high : (x : ℕ) → x ≤ (x / 1048576 + 1) * 1048576
 floor-high x = omega arith
 
 step-circle : (h k m r s c : ℕ) → h < 256 → k ≡ 255 - h → m + r ≡ 16384
-    → s ≡ (m * R h + r * (R h + rise h)) / 1048576 → c ≡ (r * R k + m * (R k + rise k)) / 1048576 → s ≤ 16777216 → c ≤ 16777216 → Circle s c
+    → s ≡ (m * R h + r * (R h + rise h)) / 1048576 → c ≡ (r * R k + m * (R k + rise k)) / 1048576 → s ≤ 16777216 → c ≤ 16777216 → NearCircle s c
 step-circle h k m r s c H K W S C s-le c-le =
     let x = rising m r (R h) (rise h) (R k) (rise k) in
     let y = falling m r (R h) (rise h) (R k) (rise k) in
@@ -114,10 +114,10 @@ step-circle h k m r s c H K W S C s-le c-le =
     let q = squares-high x y s c greatest (rw S (floor-low x)) (rw C (floor-low y)) (chord-high m r (R h) (rise h) (R k) (rise k) least greatest dip W t) in
     record { low = omega arith; high = omega arith }
 
-pub circle : (U : ℕ) → U ≤ 4194304 → Circle (interp 14 R U / 64) (interp 14 R (4194304 - U) / 64)
-circle U g = elim (here-or-on U 4194304) [ inl l ↦ go (U / 16384) (U % 16384) (omega arith) (omega arith) (omega arith) | inr l ↦ go 255 16384 (omega arith) (omega arith) (omega arith) ]
+pub near-circle : (U : ℕ) → U ≤ 4194304 → NearCircle (interp 14 R U / 64) (interp 14 R (4194304 - U) / 64)
+near-circle U g = elim (here-or-on U 4194304) [ inl l ↦ go (U / 16384) (U % 16384) (omega arith) (omega arith) (omega arith) | inr l ↦ go 255 16384 (omega arith) (omega arith) (omega arith) ]
   where
-    go : (h r : ℕ) → h < 256 → r ≤ 16384 → U ≡ h * 16384 + r → Circle (interp 14 R U / 64) (interp 14 R (4194304 - U) / 64)
+    go : (h r : ℕ) → h < 256 → r ≤ 16384 → U ≡ h * 16384 + r → NearCircle (interp 14 R U / 64) (interp 14 R (4194304 - U) / 64)
     go h r H l e =
         let k = 255 - h in
         let m = 16384 - r in

@@ -5,4 +5,5 @@ pub mod Chord
 pub mod Circle
 pub mod Range
 pub mod PanAngle
+pub mod Balances
 pub mod Pan

@@ -1,11 +1,11 @@
 -- Turns of an angle, mod 1, from the parts of a float. Assumes nothing.
-use mathlib.Core.Path.{_≡_, refl, sym, ap, _∙_, subst}
+use mathlib.Core.Path.{_≡_, sym, ap, _∙_}
 use mathlib.Core.Bool.{Bool, true, false}
-use Prim.Native.Nat.{ℕ, zero, suc, _+_, _-_, _*_, _/_, _%_, _^_, _≤_, _<_, min}
-use native.Mathlib.Nat.{le-trans, le-of-eq, le-of-lt, lt-of-lt-of-le, mul-comm, mul-assoc, mul-one, mul-right-comm, add-mul, mul-add-div-right, mul-add-mod-self-left, mul-le-mul, mul-le-mul-right, mod-eq-of-lt, mod-lt, div-one, mul-mod-left, one-mul, zero-mul, mul-sub, add-sub-assoc, add-assoc}
+use Prim.Native.Nat.{ℕ, _+_, _-_, _*_, _/_, _%_, _^_, _≤_, _<_}
+use native.Mathlib.Nat.{le-trans, le-of-lt, mul-assoc, mul-one, add-mul, mul-add-div-right, mul-add-mod-self-left, mul-le-mul, mod-eq-of-lt, mod-lt, div-one, mul-mod-left, add-assoc}
 use native.Mathlib.Omega.{arith}
 use lib.Dec.{T, lit<, lit≤}
-use lib.Pow.{pow-pos, pow-add, pow-mono, shl-lt}
+use lib.Pow.{pow-pos, pow-add, pow-mono}
 use lib.Bits.{bitAnd, and-mask}
 use lib.Ieee.{Float, ne}
 use lib.Ieee.Compare.{differs-from-itself}
@@ -13,7 +13,7 @@ use Rattle.float32.specs.Value.{above, below, floorAt, moved, Decoded}
 use Rattle.sine.specs.Sine.{u, U}
 use Rattle.float_laws.specs.Signs.{sub-mul}
 use Rattle.float32.proofs.Floor.{below-pos}
-use Rattle.float32.proofs.Shifts.{capped, floorAt-same}
+use Rattle.float32.proofs.Shifts.{floorAt-same}
 
 pub place-below : (θ : Float) → U θ < 16777216
 unfolding U

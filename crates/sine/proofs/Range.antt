@@ -1,19 +1,19 @@
 -- Sine and cosine lie in -1..1 at every angle. In the first quarter of the turn both are read off R, cosine backwards, and neither is negative nor -0. Assumes nothing.
-use mathlib.Core.Path.{_≡_, refl, sym, ap, _∙_, subst}
+use mathlib.Core.Path.{_≡_, refl, sym, ap, _∙_}
 use mathlib.Core.Logic.{inl, inr}
-use mathlib.Core.Bool.{Bool, true, false, cond, _&&_}
+use mathlib.Core.Bool.{Bool, true, false, cond}
 use Prim.Native.Nat.{ℕ, _+_, _-_, _*_, _/_, _%_, _^_, _≤_, _<_}
-use native.Mathlib.Nat.{le-trans, le-of-eq, mul-le-mul-right, mod-eq-of-lt}
+use native.Mathlib.Nat.{mul-le-mul-right, mod-eq-of-lt}
 use native.Mathlib.Omega.{arith}
-use lib.Dec.{T, leb, ltb, eqb}
+use lib.Dec.{T, eqb}
 use lib.Ieee.{Float, nan, inf, fin, Format, binary32, low, round, neg, le}
 use lib.Ieee.Exact.{HasValue}
 use lib.Ieee.Scale.{overflow}
-use borrow.Author.Tests.{lt-leb, eq-eqb, ne-eqb}
+use borrow.Author.Tests.{eq-eqb, ne-eqb}
 use Rattle.lists.specs.Interpolation.{interp, here-or-on}
 use Rattle.float_laws.specs.Units.{mag, sign, number, real, key, keyed, real-number, key→le}
 use Rattle.float_laws.specs.Order.{number-fits}
-use Rattle.float_laws.specs.Round.{mag-neg, mag-of-value, round-number, sign-round}
+use Rattle.float_laws.specs.Round.{mag-of-value, round-number, sign-round}
 use Rattle.float_laws.specs.Mono.{o, real-neg, key-neg, key-nonneg}
 use Rattle.float_laws.specs.Bounds.{one, real-one, mag-one}
 use Rattle.float_laws.specs.Rise.{Upto, upto-level}
@@ -66,13 +66,13 @@ module _ (place : ℕ) where
   wave-range = within-one binary32 (wave place) wave-number size-small
 
 -- ---- every angle
-pub sin-range : (θ : Float) → T (le (neg one) (sinOf θ)) × T (le (sinOf θ) one)
+pub sin-within-one : (θ : Float) → T (le (neg one) (sinOf θ)) × T (le (sinOf θ) one)
 unfolding sinOf
-sin-range θ = wave-range (U θ)
+sin-within-one θ = wave-range (U θ)
 
-pub cos-range : (θ : Float) → T (le (neg one) (cosOf θ)) × T (le (cosOf θ) one)
+pub cos-within-one : (θ : Float) → T (le (neg one) (cosOf θ)) × T (le (cosOf θ) one)
 unfolding cosOf
-cos-range θ = wave-range ((U θ + 2 ^ 22) % 2 ^ 24)
+cos-within-one θ = wave-range ((U θ + 2 ^ 22) % 2 ^ 24)
 
 half-turn : v 8388608 / 64 ≡ 0
 unfolding turned interp sineTable
@@ -128,10 +128,10 @@ level place n s e =
     record { upto = upto-level binary32 (wave place) (wave-real place) (clear-nonneg binary32 (wave place) (wave-number place) s) (wave-range place .1); clear = s; size = e }
 
 module _ (θ : Float) (h : U θ ≤ 4194304) where
-  pub sin-level : Level (sinOf θ) (interp 14 R (U θ) / 64)
+  pub sin-first-quarter : Level (sinOf θ) (interp 14 R (U θ) / 64)
   unfolding sinOf
-  sin-level = level (U θ) (interp 14 R (U θ) / 64) (sin-clear (U θ) h) (sin-size (U θ) h)
+  sin-first-quarter = level (U θ) (interp 14 R (U θ) / 64) (sin-clear (U θ) h) (sin-size (U θ) h)
 
-  pub cos-level : Level (cosOf θ) (interp 14 R (4194304 - U θ) / 64)
+  pub cos-first-quarter : Level (cosOf θ) (interp 14 R (4194304 - U θ) / 64)
   unfolding cosOf
-  cos-level = level ((U θ + 2 ^ 22) % 2 ^ 24) (interp 14 R (4194304 - U θ) / 64) (cos-clear (U θ) h) (cos-size (U θ) h)
+  cos-first-quarter = level ((U θ + 2 ^ 22) % 2 ^ 24) (interp 14 R (4194304 - U θ) / 64) (cos-clear (U θ) h) (cos-size (U θ) h)

@@ -1,5 +1,5 @@
 -- Sine and cosine by the table R, in document 01's steps from an angle θ: u, U, q, p, the turned p, v, sin and cos. Assumes nothing.
-use mathlib.Core.Bool.{Bool, cond, _&&_}
+use mathlib.Core.Bool.{cond, _&&_}
 use Prim.Native.Nat.{ℕ, _+_, _-_, _/_, _%_, _^_}
 use lib.Dec.{leb, ltb, eqb}
 use lib.Ieee.{Float, binary32, mul, ofBits, round}

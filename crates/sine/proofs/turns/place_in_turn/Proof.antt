@@ -1,6 +1,6 @@
 -- `sine::turns::place_in_turn` meets its contract: u's digits, shifted and masked, are its floor in units of 2 ^ -24 mod 2 ^ 24 (Places.antt), in each range of its exponent. Assumes nothing.
 use borrow.Author.Needs.{needs}
-use mathlib.Core.Path.{_≡_, sym, ap, subst, _∙_}
+use mathlib.Core.Path.{sym, ap, subst, _∙_}
 use mathlib.Core.Bool.{Bool, not}
 use Prim.Native.Nat.{ℕ, _%_}
 use lib.Bits.{and-mask}
