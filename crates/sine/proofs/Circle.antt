@@ -114,7 +114,7 @@ step-circle h k m r s c H K W S C s-le c-le =
     let q = squares-high x y s c greatest (rw S (floor-low x)) (rw C (floor-low y)) (chord-high m r (R h) (rise h) (R k) (rise k) least greatest dip W t) in
     record { low = omega arith; high = omega arith }
 
-pub near-circle : (U : ℕ) → U ≤ 4194304 → NearCircle (interp 14 R U / 64) (interp 14 R (4194304 - U) / 64)
+pub near-circle : (U : ℕ) → U ≤ 2 ^ 22 → NearCircle (interp 14 R U / 64) (interp 14 R (2 ^ 22 - U) / 64)
 near-circle U g = elim (here-or-on U 4194304) [ inl l ↦ go (U / 16384) (U % 16384) (omega arith) (omega arith) (omega arith) | inr l ↦ go 255 16384 (omega arith) (omega arith) (omega arith) ]
   where
     go : (h r : ℕ) → h < 256 → r ≤ 16384 → U ≡ h * 16384 + r → NearCircle (interp 14 R U / 64) (interp 14 R (4194304 - U) / 64)

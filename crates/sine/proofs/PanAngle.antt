@@ -60,7 +60,7 @@ moved-between c (fin r i j) s m e t n d b = (moved-mono c s m e r i j (b .over),
 in-quarter : (turns n : ℕ) → turns * 16777216 ≤ n → n ≤ turns * 16777216 + 4194304 → n % 16777216 ≤ 4194304
 in-quarter turns n h k = omega arith
 
-pub pan-place : (pan : Float) → T (real binary32 pan) → T (le (neg one) pan) → T (le pan one) → U (panAngle pan) ≤ 4194304
+pub pan-place : (pan : Float) → T (real binary32 pan) → T (le (neg one) pan) → T (le pan one) → U (panAngle pan) ≤ 2 ^ 22
 unfolding U moved neg fits
 pan-place pan p h k =
     let b = moved-between (2 ^ 128) (u (panAngle pan)) false 0 (pos 0) false 1 (negsuc 1) (pan-turns pan (record { real-lo = tt; real-x = p; real-hi = tt; over = h; under = k })) in

@@ -1,4 +1,4 @@
--- Turns of an angle, mod 1, from the parts of a float. Assumes nothing.
+-- The place of an angle in its turn from the sign, digits and exponent of u: floor(u * 2 ^ 24) mod 2 ^ 24 is what the shifts and masks of the code give, since whole turns do not count. Assumes nothing.
 use mathlib.Core.Path.{_≡_, sym, ap, _∙_}
 use mathlib.Core.Bool.{Bool, true, false}
 use Prim.Native.Nat.{ℕ, _+_, _-_, _*_, _/_, _%_, _^_, _≤_, _<_}
@@ -62,7 +62,7 @@ module _ (x : Float) (s : Bool) (m k : ℕ) (d : Decoded x s m k) where
       cross : m * 2 ^ k ≡ m * 2 ^ (k - 125) * 2 ^ 125
       cross = ap (λ (z : ℕ). m * 2 ^ z) (sym sum) ∙ ap (λ (z : ℕ). m * z) (pow-add 2 (k - 125) 125) ∙ sym (mul-assoc m (2 ^ (k - 125)) (2 ^ 125))
 
-  pub size-lt : k ≤ 148 → m * 2 ^ (k - 125) ≤ 140737488355328
+  size-lt : k ≤ 148 → m * 2 ^ (k - 125) ≤ 140737488355328
   size-lt l = mul-le-mul {n₁ = m} {m₁ = 2 ^ (k - 125)} {n₂ = 16777216} {m₂ = 8388608} (le-of-lt (d .small)) (pow-mono {i = k - 125} {j = 23} (omega arith))
 
   whole-place : 125 ≤ k → k ≤ 148 → moved (2 ^ 128) x % 16777216 ≡ floorAt s 281474976710656 (m * 2 ^ (k - 125)) 1 % 16777216

@@ -27,15 +27,15 @@ value-real f nan s a c n h = n
 value-real f (inf t) s a c n h = absurd h
 value-real f (fin t m e) s a c n h = n
 
-sizes : (K s-one m : ℕ) (s : Bool) → m ≤ s-one → (K - s-one ≤ keyed K s m) × (keyed K s m ≤ K + s-one)
-sizes K w m false h = omega arith
-sizes K w m true h = omega arith
+keyed-within : (K L m : ℕ) (s : Bool) → m ≤ L → (K - L ≤ keyed K s m) × (keyed K s m ≤ K + L)
+keyed-within K L m false h = omega arith
+keyed-within K L m true h = omega arith
 
 within-one : (f : Format) (x : Float) → T (number f x) → mag f x ≤ 2 ^ low f → T (le (neg one) x) × T (le x one)
 within-one f x n h =
     let K = overflow f in
     let L = 2 ^ low f in
-    let b = sizes K L (mag f x) (sign x) h in
+    let b = keyed-within K L (mag f x) (sign x) h in
     let e : key f one ≡ K + L = ap (λ (z : ℕ). K + z) (mag-one f) in
     let e' = key-neg f one (real-number f one (real-one f)) in
     let m = real-neg f one (real-one f) in
@@ -53,13 +53,13 @@ module _ (place : ℕ) where
   unfolding wave
   wave-number = round-number binary32 _ _ _
 
-  pub wave-real : T (real binary32 (wave place))
+  wave-real : T (real binary32 (wave place))
   wave-real = value-real binary32 (wave place) _ _ _ wave-number (wave-value place)
 
-  pub wave-size : mag binary32 (wave place) * 2 ^ 24 ≡ v place / 64 * 2 ^ low binary32
+  wave-size : mag binary32 (wave place) * 2 ^ 24 ≡ v place / 64 * 2 ^ low binary32
   wave-size = mag-of-value binary32 (wave place) _ (v place / 64) (2 ^ 24) (number-fits binary32 (wave place) wave-number) (wave-value place)
 
-  pub size-small : mag binary32 (wave place) ≤ 2 ^ low binary32
+  size-small : mag binary32 (wave place) ≤ 2 ^ low binary32
   size-small = scaled (mag binary32 (wave place)) (v place / 64) (2 ^ low binary32) wave-size (wave-small place (v place / 64) refl)
 
   wave-range : T (le (neg one) (wave place)) × T (le (wave place) one)
@@ -74,11 +74,11 @@ pub cos-within-one : (θ : Float) → T (le (neg one) (cosOf θ)) × T (le (cosO
 unfolding cosOf
 cos-within-one θ = wave-range ((U θ + 2 ^ 22) % 2 ^ 24)
 
+-- ---- the first quarter, its end too: sine reads R at the place, and cosine at what is left of the quarter
 half-turn : v 8388608 / 64 ≡ 0
 unfolding turned interp sineTable
 half-turn = refl
 
--- ---- the first quarter, its end too: sine reads R at the place, and cosine at what is left of the quarter
 module _ (place : ℕ) (h : place ≤ 4194304) where
   abbrev ahead : ℕ
   ahead = (place + 2 ^ 22) % 2 ^ 24
@@ -127,11 +127,11 @@ level : (place n : ℕ) → sign (wave place) ≡ false → mag binary32 (wave p
 level place n s e =
     record { upto = upto-level binary32 (wave place) (wave-real place) (clear-nonneg binary32 (wave place) (wave-number place) s) (wave-range place .1); clear = s; size = e }
 
-module _ (θ : Float) (h : U θ ≤ 4194304) where
+module _ (θ : Float) (h : U θ ≤ 2 ^ 22) where
   pub sin-first-quarter : Level (sinOf θ) (interp 14 R (U θ) / 64)
   unfolding sinOf
   sin-first-quarter = level (U θ) (interp 14 R (U θ) / 64) (sin-clear (U θ) h) (sin-size (U θ) h)
 
-  pub cos-first-quarter : Level (cosOf θ) (interp 14 R (4194304 - U θ) / 64)
+  pub cos-first-quarter : Level (cosOf θ) (interp 14 R (2 ^ 22 - U θ) / 64)
   unfolding cosOf
   cos-first-quarter = level ((U θ + 2 ^ 22) % 2 ^ 24) (interp 14 R (4194304 - U θ) / 64) (cos-clear (U θ) h) (cos-size (U θ) h)
