@@ -1,5 +1,6 @@
 pub mod Entries
 pub mod Places
+pub mod WholeTurns
 pub mod Waves
 pub mod Chord
 pub mod Circle
