@@ -8,6 +8,8 @@ ghost use mathlib.Core.Path.{_≡_};
 ghost use Rattle.sine.specs.Table.{sineTable};
 ghost use Rattle.sine.specs.Sine.{sinOf, cosOf};
 use table::SineTable;
+use turns::IN_TURN;
+use turns::QUARTER;
 use turns::place_in_turn;
 use wave::wave_at;
 
@@ -27,5 +29,5 @@ pub fn cos(sines: &SineTable, angle: f32) -> f32
     requires { ⌜ now sines ≡ sineTable ⌝ }
     ensures { λ r. ⌜ r ≡ cosOf angle ⌝ }
 {
-    wave_at(sines, (place_in_turn(angle) + 4194304) & 0xff_ffff)
+    wave_at(sines, (place_in_turn(angle) + QUARTER) & IN_TURN)
 }

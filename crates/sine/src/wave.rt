@@ -9,6 +9,10 @@ ghost use Rattle.lists.specs.Interpolation.{interp};
 ghost use Rattle.sine.specs.Table.{sineTable, R};
 ghost use Rattle.sine.specs.Sine.{turned, wave};
 use super::table::SineTable;
+use super::turns::QUARTER;
+
+// R[256], the sine of a whole quarter.
+const LAST_ENTRY: u64 = 1073741824;
 
 // R[j]
 fn entry(sines: &SineTable, j: usize) -> u64
@@ -25,7 +29,7 @@ fn interpolated(sines: &SineTable, p: u64) -> u64
 {
     let h = (p >> 14) as usize;
     if 255 < h {
-        return 1073741824;
+        return LAST_ENTRY;
     }
     let a = entry(sines, h);
     let b = entry(sines, h + 1);
@@ -39,7 +43,7 @@ fn turned_place(place: u64) -> u64
 {
     let p = place & 0x3f_ffff;
     if (place >> 22) & 1 == 1 {
-        return 4194304 - p;
+        return QUARTER - p;
     }
     p
 }
