@@ -10,7 +10,7 @@ use Rattle.sine.proofs.wave.interpolated.Statement.{statement}
 use Rattle.sine.proofs.wave.interpolated.Tie as tie
 
 returns : tie.Need-returns
-returns c = at-end (c .before .args .p) (c .before .pre .1) (c .if1 .taken)
+returns c = at-end (c .before .args .p) (c .before .pre .1) (omega arith)
 
 entry-requires : tie.Need-entry-requires
 entry-requires c κs = search needs

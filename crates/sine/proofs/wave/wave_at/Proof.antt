@@ -33,15 +33,15 @@ fraction-requires : tie.Need-fraction-requires
 fraction-requires c κs = small c
 
 returns : tie.Need-returns
-returns c = let r = c .before .before in c .before .fraction .ensures ∙ wave-up (u r) (r .interpolated .result / 64) (w-is r) (c .if1 .taken)
+returns c = let r = c .before .before in c .before .fraction .ensures ∙ wave-up (u r) (r .interpolated .result / 64) (w-is r) (omega arith)
 
 returns-2 : tie.Need-returns-2
-returns-2 c = let r = c .before .before .before in c .before .before .fraction .ensures ∙ wave-zero (u r) (r .interpolated .result / 64) (w-is r) (c .if2 .taken)
+returns-2 c = let r = c .before .before .before in c .before .before .fraction .ensures ∙ wave-zero (u r) (r .interpolated .result / 64) (w-is r) (omega (arith, small r))
 
 returns-3 : tie.Need-returns-3
 returns-3 c =
     let r = c .before .before .before in
-    ap (λ (z : Float). neg z) (c .before .before .fraction .ensures) ∙ wave-down (u r) (r .interpolated .result / 64) (w-is r) (c .before .if1 .left) (c .if2 .left)
+    ap (λ (z : Float). neg z) (c .before .before .fraction .ensures) ∙ wave-down (u r) (r .interpolated .result / 64) (w-is r) (omega arith) (c .if2 .left)
 
 pub wave-at-spec : {M : Type 1} → statement M
 wave-at-spec = tie.close (tie.spec turned-place-requires interpolated-requires cast-fraction fraction-requires returns returns-2 returns-3)
