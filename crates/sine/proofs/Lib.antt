@@ -1,3 +1,10 @@
-pub mod Steps
-pub mod Angles
+pub mod Entries
+pub mod Places
+pub mod WholeTurns
 pub mod Waves
+pub mod Chord
+pub mod Circle
+pub mod Range
+pub mod PanAngle
+pub mod Balances
+pub mod Pan

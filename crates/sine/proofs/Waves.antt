@@ -1,85 +1,80 @@
--- The wave as the code makes it. Assumes nothing.
+-- The wave at a place of the turn, as the code makes it, and its value: floor(v / 64) / 2 ^ 24, exactly, since that is a whole number up to 2 ^ 24 over 2 ^ 24. Assumes nothing.
 use mathlib.Core.Path.{_≡_, refl, sym, ap, _∙_, subst}
 use mathlib.Core.Logic.{inl, inr}
-use mathlib.Core.Bool.{Bool, true, false, not, _&&_, cond}
-use Prim.Native.Nat.{ℕ, zero, suc, _+_, _-_, _*_, _/_, _%_, _^_, _≤_, _<_}
-use native.Mathlib.Nat.{eq-or-lt-of-le, lt-of-lt-of-le, mul-assoc, le-trans, le-of-lt, mod-lt, zero-lt-suc}
+use mathlib.Core.Bool.{Bool, true, false, cond, _&&_}
+use Prim.Native.Nat.{ℕ, _+_, _-_, _/_, _%_, _^_, _≤_, _<_}
+use native.Mathlib.Nat.{eq-or-lt-of-le, lt-of-lt-of-le, le-trans, le-of-lt, mod-lt, mul-assoc}
 use native.Mathlib.Omega.{arith}
 use lib.Dec.{leb, ltb, eqb, lit<, lit≤}
 use lib.Bits.{bitAnd, and-mask}
 use lib.Pow.{pow-pos, shl-lt}
-use lib.Ieee.{Float, fin, inf, Format, binary32, round, neg, odd, units, low, emax, prec}
-use lib.Ieee.Fits.{round-is, core}
+use lib.Ieee.{Float, binary32, round, neg}
 use lib.Ieee.Exact.{HasValue, round-exact}
 use borrow.Author.Tests.{lt-leb, le-leb, eq-eqb, ne-eqb, lt-ltb}
-use Rattle.sine.specs.Table.{sines}
-use Rattle.lists.specs.Interpolation.{interp}
-use Rattle.sine.specs.Sine.{R, along, waveAt}
-use Rattle.sine.specs.Rules.{R-step}
-use Rattle.lists.specs.Interpolation.{interp-is, part-le, between}
-use Rattle.lists.specs.Interpolation.{here-or-on}
+use Rattle.lists.specs.Interpolation.{interp, interp-is, part-le, between, here-or-on}
 use Rattle.float_laws.specs.Signs.{neg-round}
+use Rattle.sine.specs.Table.{sineTable, R}
+use Rattle.sine.specs.Sine.{q, p, v, turned, wave}
+use Rattle.sine.proofs.Entries.{R-rises}
 
 -- ---- the quarter
-odd-is : (u : ℕ) → bitAnd (u / 4194304) 1 ≡ u / 4194304 % 2
-odd-is u = and-mask (u / 4194304) 1
+low-bit : (U : ℕ) → bitAnd (q U) 1 ≡ q U % 2
+low-bit U = and-mask (q U) 1
 
-pub folded-odd : (u : ℕ) → bitAnd (u / 4194304) 1 ≡ 1 → 4194304 - bitAnd u 4194303 ≡ along u
-unfolding along
-folded-odd u h = rw (and-mask u 22, eq-eqb (u / 4194304 % 2) 1 (sym (odd-is u) ∙ h))
+pub turned-odd : (U : ℕ) → bitAnd (q U) 1 ≡ 1 → 4194304 - bitAnd U 4194303 ≡ turned U
+unfolding turned
+turned-odd U h = rw (and-mask U 22, eq-eqb (q U % 2) 1 (sym (low-bit U) ∙ h))
 
-pub folded-even : (u : ℕ) → (bitAnd (u / 4194304) 1 ≡ 1 → ⊥) → bitAnd u 4194303 ≡ along u
-unfolding along
-folded-even u h = rw (and-mask u 22, ne-eqb (u / 4194304 % 2) 1 (λ e. h (odd-is u ∙ e)))
+pub turned-even : (U : ℕ) → (bitAnd (q U) 1 ≡ 1 → ⊥) → bitAnd U 4194303 ≡ turned U
+unfolding turned
+turned-even U h = rw (and-mask U 22, ne-eqb (q U % 2) 1 (λ e. h (low-bit U ∙ e)))
 
-pub along-le : (u : ℕ) → along u ≤ 4194304
-unfolding along
-along-le u = go (eqb (u / 4194304 % 2) 1)
+pub turned-le : (U : ℕ) → turned U ≤ 4194304
+unfolding turned
+turned-le U = go (eqb (q U % 2) 1)
   where
-    go : (b : Bool) → cond b (4194304 - u % 4194304) (u % 4194304) ≤ 4194304
+    go : (b : Bool) → cond b (4194304 - p U) (p U) ≤ 4194304
     go true = omega arith
     go false = omega arith
 
--- ---- the rise
-end-of : interp 14 R 4194304 ≡ 1073741824
-unfolding interp sines
-end-of = refl
+-- ---- between the entries
+last-entry : interp 14 R 4194304 ≡ 1073741824
+unfolding interp sineTable
+last-entry = refl
 
-pub at-end : (p : ℕ) → p ≤ 4194304 → 255 < p / 16384 → 1073741824 ≡ interp 14 R p
-at-end p h l = sym (ap (interp 14 R) (only p h l) ∙ end-of)
-  where
-    only : (x : ℕ) → x ≤ 4194304 → 255 < x / 16384 → x ≡ 4194304
-    only x a b = omega arith
+pub at-end : (n : ℕ) → n ≤ 4194304 → 255 < n / 16384 → 1073741824 ≡ interp 14 R n
+at-end n h l = let e : n ≡ 4194304 = omega arith in rw e (sym last-entry)
 
-pub rise-le : (p : ℕ) → p ≤ 4194304 → interp 14 R p ≤ 1073741824
-rise-le p h =
-    elim (here-or-on (p / 16384) 256) [
-      | inl l ↦ rw interp-is (le-trans (between (R (p / 16384)) (R (p / 16384 + 1)) _ (R-step (p / 16384) l .0) (part-le (R (p / 16384 + 1) - R (p / 16384)) (p % 16384) 14 (le-of-lt (mod-lt p (pow-pos 14))))) (R-step (p / 16384) l .1))
-      | inr l ↦ rw (← at-end p h l) (omega arith)
+pub interp-le : (n : ℕ) → n ≤ 4194304 → interp 14 R n ≤ 1073741824
+interp-le n h =
+    elim (here-or-on (n / 16384) 256) [
+      | inl l ↦ rw interp-is (le-trans (between (R (n / 16384)) (R (n / 16384 + 1)) _ (R-rises (n / 16384) l .0) (part-le (R (n / 16384 + 1) - R (n / 16384)) (n % 16384) 14 (le-of-lt (mod-lt n (pow-pos 14))))) (R-rises (n / 16384) l .1))
+      | inr l ↦ rw (← at-end n h l) (omega arith)
     ]
 
--- ---- the wave
-module _ (u w : ℕ) (e : w ≡ interp 14 R (along u) / 64) where
-  wave-is : waveAt u ≡ round binary32 (leb 2 (u / 4194304) && ltb 0 w) w 16777216
-  unfolding waveAt
+-- ---- the wave, w being what is left of v
+module _ (U w : ℕ) (e : w ≡ v U / 64) where
+  wave-is : wave U ≡ round binary32 (leb 2 (q U) && ltb 0 w) w 16777216
+  unfolding wave
   wave-is = rw e
 
-  pub w-le : w ≤ 16777216
-  w-le = let l = rise-le (along u) (along-le u) in omega arith
+  pub wave-small : w ≤ 16777216
+  wave-small = let l = interp-le (turned U) (turned-le U) in omega arith
 
-  pub wave-up : u / 4194304 < 2 → round binary32 false w 16777216 ≡ waveAt u
-  wave-up h = sym (wave-is ∙ rw (lt-leb 2 (u / 4194304) h))
+  pub wave-up : q U < 2 → round binary32 false w 16777216 ≡ wave U
+  wave-up h = sym (wave-is ∙ rw (lt-leb 2 (q U) h))
 
-  pub wave-zero : w ≡ 0 → round binary32 false w 16777216 ≡ waveAt u
-  wave-zero z = sym (wave-is ∙ ap (λ (b : Bool). round binary32 b w 16777216) (rw z (last (leb 2 (u / 4194304)))))
+  pub wave-zero : w ≡ 0 → round binary32 false w 16777216 ≡ wave U
+  wave-zero z = sym (wave-is ∙ ap (λ (b : Bool). round binary32 b w 16777216) (rw z (never (leb 2 (q U)))))
     where
-      last : (b : Bool) → (b && false) ≡ false
-      last true = refl
-      last false = refl
+      never : (b : Bool) → (b && false) ≡ false
+      never true = refl
+      never false = refl
 
-  pub wave-down : 2 ≤ u / 4194304 → (w ≡ 0 → ⊥) → neg (round binary32 false w 16777216) ≡ waveAt u
-  wave-down h z = neg-round binary32 w 16777216 ∙ sym (wave-is ∙ rw (le-leb 2 (u / 4194304) h, lt-ltb 0 w (omega arith)))
+  pub wave-down : 2 ≤ q U → (w ≡ 0 → ⊥) → neg (round binary32 false w 16777216) ≡ wave U
+  wave-down h z = neg-round binary32 w 16777216 ∙ sym (wave-is ∙ rw (le-leb 2 (q U) h, lt-ltb 0 w (omega arith)))
 
+-- ---- its value
 exact : (n : ℕ) (s : Bool) → n ≤ 16777216 → HasValue (round binary32 s n 16777216) s n 16777216
 exact n s h =
     elim (eq-or-lt-of-le h) [
@@ -87,9 +82,8 @@ exact n s h =
       | inr l ↦ round-exact binary32 s n 16777216 n 125 (lit< tt) l (lt-of-lt-of-le (shl-lt {a = n} 24 125 l) (lit≤ tt)) (sym (mul-assoc n (2 ^ 125) 16777216))
     ]
 
--- the wave is exact: its value is w / 2 ^ 24
-pub wave-value : (u : ℕ) → HasValue (waveAt u) (leb 2 (u / 4194304) && ltb 0 (interp 14 R (along u) / 64)) (interp 14 R (along u) / 64) 16777216
-wave-value u =
-    let w = interp 14 R (along u) / 64 in
-    let s = leb 2 (u / 4194304) && ltb 0 w in
-    subst (λ (x : Float). HasValue x s w 16777216) (sym (wave-is u w refl)) (exact w s (w-le u w refl))
+pub wave-value : (U : ℕ) → HasValue (wave U) (leb 2 (q U) && ltb 0 (v U / 64)) (v U / 64) (2 ^ 24)
+wave-value U =
+    let w = v U / 64 in
+    let s = leb 2 (q U) && ltb 0 w in
+    subst (λ (x : Float). HasValue x s w 16777216) (sym (wave-is U w refl)) (exact w s (wave-small U w refl))

@@ -1,3 +1,3 @@
 pub mod Table
-pub mod Sine
 pub mod Rules
+pub mod Sine

@@ -1,79 +1,72 @@
--- The rules of K and R, each by one test. Assumes nothing.
+-- The rules of K and R, in document 01's words, and that the two tables keep them: each rule is one test over the whole table. Assumes nothing.
 use mathlib.Core.Path.{_≡_, refl}
 use mathlib.Core.Bool.{Bool, _&&_}
-use Prim.Native.Nat.{ℕ, suc, _+_, _*_, _/_, _^_, _≤_, _<_}
-use native.Mathlib.Omega.{arith}
-use native.Mathlib.Numerals.{add-one}
+use mathlib.Core.List.{List}
+use Prim.Native.Nat.{ℕ, _+_, _*_, _/_, _^_, _≤_, _<_}
 use lib.Dec.{T, leb, ltb, eqb, leb→le, ltb→lt, eqb→eq}
 use lib.Ieee.Fits.{and-l, and-r}
-use Rattle.sine.specs.Table.{sines, chords}
-use Rattle.sine.specs.Sine.{R, K}
+use lib.ListN.{length, getD}
 use Rattle.lists.specs.Below.{allBelow, at}
+use Rattle.sine.specs.Table.{halfAngleCosines, sineTable, K, R}
 
-pub K-first : K 0 ≡ 0
-unfolding chords
-K-first = refl
+-- r is the greatest whole number whose square is at most n
+abbrev pub IsRoot : ℕ → ℕ → Type 0
+IsRoot r n = (r * r ≤ n) × (n < (r + 1) * (r + 1))
 
-pub R-first : R 0 ≡ 0
-unfolding sines
-R-first = refl
+-- 'K[0] = 0; K[i+1] is the greatest whole number whose square is at most (2^30+K[i])·2^29, up to K[8]'
+pub record RuleOfK (table : List ℕ) : Type 0 where
+  pub entries : length table ≡ 9
+  pub first : getD table 0 0 ≡ 0
+  pub next : (i : ℕ) → i < 8 → IsRoot (getD table (i + 1) 0) ((2 ^ 30 + getD table i 0) * 2 ^ 29)
 
-pub R-last : R 256 ≡ 2 ^ 30
-unfolding sines
-R-last = refl
+-- 'R has 257 entries: R[0] = 0, R[256] = 2^30, and the middle of a span a..b of width 256/2^s, s in 0..7, is floor((R[a]+R[b])·2^29/K[s+1])':
+-- the spans of one width lie side by side, and span i is the one from i times the width
+pub record RuleOfR (table : List ℕ) : Type 0 where
+  pub entries : length table ≡ 257
+  pub first : getD table 0 0 ≡ 0
+  pub last : getD table 256 0 ≡ 2 ^ 30
+  pub middle : (s i : ℕ) → s < 8 → i < 2 ^ s
+      → let width = 256 / 2 ^ s in getD table (i * width + width / 2) 0 ≡ (getD table (i * width) 0 + getD table ((i + 1) * width) 0) * 2 ^ 29 / K (s + 1)
 
-K-right : ℕ → Bool
-K-right i = leb (K (suc i) * K (suc i)) ((2 ^ 30 + K i) * 2 ^ 29) && ltb ((2 ^ 30 + K i) * 2 ^ 29) (suc (K (suc i)) * suc (K (suc i)))
+-- ---- the tests
+root : ℕ → ℕ → Bool
+root r n = leb (r * r) n && ltb n ((r + 1) * (r + 1))
 
-K-all : T (allBelow 8 K-right)
-unfolding K-right chords
+K-next : ℕ → Bool
+K-next i = root (K (i + 1)) ((2 ^ 30 + K i) * 2 ^ 29)
+
+K-all : T (allBelow 8 K-next)
+unfolding K-next root halfAngleCosines
 K-all = tt
 
--- the greatest whole number whose square is at most (2 ^ 30 + K[i]) * 2 ^ 29
-pub K-rule : (i : ℕ) → i < 8 → (K (suc i) * K (suc i) ≤ (2 ^ 30 + K i) * 2 ^ 29) × ((2 ^ 30 + K i) * 2 ^ 29 < suc (K (suc i)) * suc (K (suc i)))
-unfolding K-right
-K-rule i h =
-    let t = at 8 K-right K-all i h in (
-      leb→le (K (suc i) * K (suc i)) ((2 ^ 30 + K i) * 2 ^ 29) (and-l (leb (K (suc i) * K (suc i)) ((2 ^ 30 + K i) * 2 ^ 29)) (ltb ((2 ^ 30 + K i) * 2 ^ 29) (suc (K (suc i)) * suc (K (suc i)))) t),
-      ltb→lt ((2 ^ 30 + K i) * 2 ^ 29) (suc (K (suc i)) * suc (K (suc i))) (and-r (leb (K (suc i) * K (suc i)) ((2 ^ 30 + K i) * 2 ^ 29)) (ltb ((2 ^ 30 + K i) * 2 ^ 29) (suc (K (suc i)) * suc (K (suc i)))) t),
-    )
-
--- span i of width w = 256 / 2 ^ s: its middle
-R-right : ℕ → ℕ → Bool
-R-right s i = eqb (R (i * (256 / 2 ^ s) + 128 / 2 ^ s)) ((R (i * (256 / 2 ^ s)) + R (suc i * (256 / 2 ^ s))) * 2 ^ 29 / K (suc s))
+R-middle : ℕ → ℕ → ℕ → Bool
+R-middle s width i = eqb (R (i * width + width / 2)) ((R (i * width) + R ((i + 1) * width)) * 2 ^ 29 / K (s + 1))
 
 R-row : ℕ → Bool
-R-row s = allBelow (2 ^ s) (R-right s)
+R-row s = allBelow (2 ^ s) (R-middle s (256 / 2 ^ s))
 
 R-all : T (allBelow 8 R-row)
-unfolding R-row R-right sines chords
+unfolding R-row R-middle sineTable halfAngleCosines
 R-all = tt
 
-pub R-rule : (s i : ℕ) → s < 8 → i < 2 ^ s → R (i * (256 / 2 ^ s) + 128 / 2 ^ s) ≡ (R (i * (256 / 2 ^ s)) + R (suc i * (256 / 2 ^ s))) * 2 ^ 29 / K (suc s)
-unfolding R-right R-row
-R-rule s i h k = eqb→eq _ _ (at (2 ^ s) (R-right s) (at 8 R-row R-all s h) i k)
+-- ---- the rules
+pub K-rule : RuleOfK halfAngleCosines
+unfolding K-next root halfAngleCosines
+K-rule = record {
+  entries = refl;
+  first = refl;
+  next = λ i h.
+      let r = K (i + 1) in
+      let n = (2 ^ 30 + K i) * 2 ^ 29 in
+      let t : T (root r n) = at 8 K-next K-all i h in
+      (leb→le (r * r) n (and-l (leb (r * r) n) (ltb n ((r + 1) * (r + 1))) t), ltb→lt n ((r + 1) * (r + 1)) (and-r (leb (r * r) n) (ltb n ((r + 1) * (r + 1))) t));
+}
 
--- the entries never fall, and none is above 2 ^ 30
-R-rises : ℕ → Bool
-R-rises j = leb (R j) (R (suc j)) && leb (R (suc j)) (2 ^ 30)
-
-R-rise-all : T (allBelow 256 R-rises)
-unfolding R-rises sines
-R-rise-all = tt
-
-pub R-step : (j : ℕ) → j < 256 → (R j ≤ R (j + 1)) × (R (j + 1) ≤ 1073741824)
-unfolding R-rises
-R-step j h =
-    let t = at 256 R-rises R-rise-all j h in
-    rw add-one (leb→le (R j) (R (suc j)) (and-l (leb (R j) (R (suc j))) (leb (R (suc j)) 1073741824) t), leb→le (R (suc j)) 1073741824 (and-r (leb (R j) (R (suc j))) (leb (R (suc j)) 1073741824) t))
-
-R-low : ℕ → Bool
-R-low j = leb (R j) (2 ^ 30)
-
-R-low-all : T (allBelow 257 R-low)
-unfolding R-low sines
-R-low-all = tt
-
-pub R-top : (j : ℕ) → j < 257 → R j ≤ 1073741824
-unfolding R-low
-R-top j h = leb→le (R j) 1073741824 (at 257 R-low R-low-all j h)
+pub R-rule : RuleOfR sineTable
+unfolding R-row R-middle sineTable
+R-rule = record {
+  entries = refl;
+  first = refl;
+  last = refl;
+  middle = λ s i h k. eqb→eq _ _ (at (2 ^ s) (R-middle s (256 / 2 ^ s)) (at 8 R-row R-all s h) i k);
+}

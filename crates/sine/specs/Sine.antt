@@ -1,38 +1,48 @@
--- Sine and cosine by a table. Assumes nothing.
-use mathlib.Core.Bool.{Bool, true, false, cond, _&&_}
-use Prim.Native.Nat.{ℕ, suc, _+_, _-_, _*_, _/_, _%_, _^_}
+-- Sine and cosine by the table R, in document 01's steps from an angle θ: u, U, q, p, the turned p, v, sin and cos. Assumes nothing.
+use mathlib.Core.Bool.{cond, _&&_}
+use Prim.Native.Nat.{ℕ, _+_, _-_, _/_, _%_, _^_}
 use lib.Dec.{leb, ltb, eqb}
-use lib.ListN.{getD}
-use lib.IntN.{negsuc}
-use lib.Ieee.{Float, fin, binary32, mul, round}
-use Rattle.sine.specs.Table.{sines, chords}
+use lib.Ieee.{Float, binary32, mul, ofBits, round}
 use Rattle.float32.specs.Value.{moved}
 use Rattle.lists.specs.Interpolation.{interp}
-
-abbrev pub R : ℕ → ℕ
-R j = getD sines j 0
-
-abbrev pub K : ℕ → ℕ
-K i = getD chords i 0
+use Rattle.sine.specs.Table.{R}
 
 -- 0.15915494, the turns in a radian
-abbrev pub perTurn : Float
-perTurn = fin false 10680707 (negsuc 25)
+abbrev pub TURNS-PER-RADIAN : Float
+TURNS-PER-RADIAN = ofBits binary32 0x3e22_f983
 
--- U = floor (u * 2 ^ 24) mod 2 ^ 24. Moved up by 2 ^ 128 turns, which no finite u is below; a u that is infinite or no number gives 0
-unfoldable pub turnsOf : Float → ℕ
-turnsOf x = moved (2 ^ 128) (mul binary32 x perTurn) % 2 ^ 24
+-- u = θ·0.15915494
+abbrev pub u : Float → Float
+u θ = mul binary32 θ TURNS-PER-RADIAN
 
--- p, turned for an odd q
-unfoldable pub along : ℕ → ℕ
-along U = cond (eqb (U / 2 ^ 22 % 2) 1) (2 ^ 22 - U % 2 ^ 22) (U % 2 ^ 22)
+-- U = floor(u·2^24) mod 2^24. `moved (2 ^ 128) x` is floor((x + 2^128)·2^24): whole turns more change nothing mod 2^24, and
+-- 2^128 of them bring every finite u above 0, so that the floor is one of whole numbers. A u that is infinite or no number gives 0.
+unfoldable pub U : Float → ℕ
+U θ = moved (2 ^ 128) (u θ) % 2 ^ 24
 
--- floor (v / 64) / 2 ^ 24, negative for q of 2 and 3, zero positive. It is exact: floor (v / 64) is at most 2 ^ 24
-unfoldable pub waveAt : ℕ → Float
-waveAt U = let w = interp 14 R (along U) / 64 in round binary32 (leb 2 (U / 2 ^ 22) && ltb 0 w) w (2 ^ 24)
+-- q = floor(U/2^22), the quarter of the turn
+abbrev pub q : ℕ → ℕ
+q U = U / 2 ^ 22
+
+-- p = U mod 2^22, the way into the quarter
+abbrev pub p : ℕ → ℕ
+p U = U % 2 ^ 22
+
+-- p, turned to 2^22-p for odd q
+unfoldable pub turned : ℕ → ℕ
+turned U = cond (eqb (q U % 2) 1) (2 ^ 22 - p U) (p U)
+
+-- v: between table points R is interpolated, with floor, over steps of 2^14
+abbrev pub v : ℕ → ℕ
+v U = interp 14 R (turned U)
+
+-- floor(v/64)/2^24, negative for q of 2 and 3, zero positive. The rounding changes nothing: floor(v/64) is at most 2^24
+unfoldable pub wave : ℕ → Float
+wave U = round binary32 (leb 2 (q U) && ltb 0 (v U / 64)) (v U / 64) (2 ^ 24)
 
 unfoldable pub sinOf : Float → Float
-sinOf x = waveAt (turnsOf x)
+sinOf θ = wave (U θ)
 
+-- cos adds 2^22 to U, mod 2^24
 unfoldable pub cosOf : Float → Float
-cosOf x = waveAt ((turnsOf x + 2 ^ 22) % 2 ^ 24)
+cosOf θ = wave ((U θ + 2 ^ 22) % 2 ^ 24)

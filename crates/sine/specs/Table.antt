@@ -1,10 +1,19 @@
--- The tables, entry by entry. Their rules are in `Rules.antt`, each one test over the whole table. Assumes nothing.
+-- K and R as constants, entry by entry. Their rules are in `Rules.antt`, each one test over the whole table. Assumes nothing.
 use Prim.Native.Nat.{ℕ}
 use mathlib.Core.List.{List, [], _∷_}
+use lib.ListN.{getD}
 
--- R
-unfoldable pub sines : List ℕ
-sines =
+-- K: the cosines of a quarter turn halved again and again, in units of 2 ^ -30
+unfoldable pub halfAngleCosines : List ℕ
+halfAngleCosines = 0 ∷ 759250124 ∷ 992008094 ∷ 1053110175 ∷ 1068571463 ∷ 1072448454 ∷ 1073418432 ∷ 1073660972 ∷ 1073721610 ∷ []
+
+-- K[i]
+abbrev pub K : ℕ → ℕ
+K i = getD halfAngleCosines i 0
+
+-- R: the sineTable of a quarter turn in 256 steps, in units of 2 ^ -30
+unfoldable pub sineTable : List ℕ
+sineTable =
     0 ∷ 6588355 ∷ 13176463 ∷ 19764074 ∷ 26350942 ∷ 32936817 ∷ 39521453 ∷ 46104600 ∷ 52686013 ∷ 59265440 ∷
     65842637 ∷ 72417355 ∷ 78989347 ∷ 85558364 ∷ 92124161 ∷ 98686489 ∷ 105245102 ∷ 111799751 ∷ 118350192 ∷ 124896177 ∷
     131437460 ∷ 137973794 ∷ 144504934 ∷ 151030633 ∷ 157550646 ∷ 164064727 ∷ 170572631 ∷ 177074113 ∷ 183568929 ∷ 190056833 ∷
@@ -32,7 +41,6 @@ sines =
     1068571464 ∷ 1069197121 ∷ 1069782523 ∷ 1070327648 ∷ 1070832475 ∷ 1071296987 ∷ 1071721165 ∷ 1072104993 ∷ 1072448456 ∷ 1072751544 ∷
     1073014242 ∷ 1073236542 ∷ 1073418434 ∷ 1073559914 ∷ 1073660974 ∷ 1073721612 ∷ 1073741824 ∷ []
 
--- K
-unfoldable pub chords : List ℕ
-chords =
-    0 ∷ 759250124 ∷ 992008094 ∷ 1053110175 ∷ 1068571463 ∷ 1072448454 ∷ 1073418432 ∷ 1073660972 ∷ 1073721610 ∷ []
+-- R[j]
+abbrev pub R : ℕ → ℕ
+R j = getD sineTable j 0

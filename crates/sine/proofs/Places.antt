@@ -1,22 +1,27 @@
--- Turns of an angle, mod 1, from the parts of a float. Assumes nothing.
-use mathlib.Core.Path.{_≡_, refl, sym, ap, _∙_, subst}
+-- The place of an angle in its turn from the sign, digits and exponent of u: floor(u * 2 ^ 24) mod 2 ^ 24 is what the shifts and masks of the code give, since whole turns do not count. Assumes nothing.
+use mathlib.Core.Path.{_≡_, sym, ap, _∙_}
 use mathlib.Core.Bool.{Bool, true, false}
-use Prim.Native.Nat.{ℕ, zero, suc, _+_, _-_, _*_, _/_, _%_, _^_, _≤_, _<_, min}
-use native.Mathlib.Nat.{le-trans, le-of-eq, le-of-lt, lt-of-lt-of-le, mul-comm, mul-assoc, mul-one, mul-right-comm, add-mul, mul-add-div-right, mul-add-mod-self-left, mul-le-mul, mul-le-mul-right, mod-eq-of-lt, div-one, mul-mod-left, one-mul, zero-mul, mul-sub, add-sub-assoc, add-assoc}
+use Prim.Native.Nat.{ℕ, _+_, _-_, _*_, _/_, _%_, _^_, _≤_, _<_}
+use native.Mathlib.Nat.{le-trans, le-of-lt, mul-assoc, mul-one, add-mul, mul-add-div-right, mul-add-mod-self-left, mul-le-mul, mod-eq-of-lt, mod-lt, div-one, mul-mod-left, add-assoc}
 use native.Mathlib.Omega.{arith}
 use lib.Dec.{T, lit<, lit≤}
-use lib.Pow.{pow-pos, pow-add, pow-mono, shl-lt}
+use lib.Pow.{pow-pos, pow-add, pow-mono}
 use lib.Bits.{bitAnd, and-mask}
 use lib.Ieee.{Float, ne}
 use lib.Ieee.Compare.{differs-from-itself}
 use Rattle.float32.specs.Value.{above, below, floorAt, moved, Decoded}
+use Rattle.sine.specs.Sine.{u, U}
 use Rattle.float_laws.specs.Signs.{sub-mul}
 use Rattle.float32.proofs.Floor.{below-pos}
-use Rattle.float32.proofs.Shifts.{capped, floorAt-same}
+use Rattle.float32.proofs.Shifts.{floorAt-same}
 
-pub nan-turns : (x : Float) → T (ne x x) → 0 ≡ moved (2 ^ 128) x % 16777216
+pub place-below : (θ : Float) → U θ < 16777216
+unfolding U
+place-below θ = mod-lt (moved (2 ^ 128) (u θ)) (pow-pos 24)
+
+pub nan-place : (x : Float) → T (ne x x) → 0 ≡ moved (2 ^ 128) x % 16777216
 unfolding moved
-nan-turns x t = ap (λ (y : Float). moved (2 ^ 128) y % 16777216) (sym (differs-from-itself x t))
+nan-place x t = ap (λ (y : Float). moved (2 ^ 128) y % 16777216) (sym (differs-from-itself x t))
 
 -- ---- whole turns more or less do not count
 turn : (s : Bool) (W j C a b : ℕ) → 0 < b → a ≤ C * b → floorAt s (W * j + C) a b % W ≡ floorAt s C a b % W
@@ -37,8 +42,8 @@ module _ (x : Float) (s : Bool) (m k : ℕ) (d : Decoded x s m k) where
       ap (λ (t : Bool). floorAt t (2 ^ 152) (above x * 2 ^ 24) (below x)) (d .sign)
       ∙ floorAt-same s (2 ^ 152) (above x * 2 ^ 24) (below x) (m * 2 ^ k) (2 ^ 125) (below-pos x) (pow-pos 125) (mul-assoc (above x) (2 ^ 24) (2 ^ 125) ∙ d .value)
 
-  pub turns-small : k < 125 → moved (2 ^ 128) x % 16777216 ≡ floorAt s 16777216 m (2 ^ (125 - k)) % 16777216
-  turns-small h =
+  pub small-place : k < 125 → moved (2 ^ 128) x % 16777216 ≡ floorAt s 16777216 m (2 ^ (125 - k)) % 16777216
+  small-place h =
       ap (λ (z : ℕ). z % 16777216) (base ∙ floorAt-same s (2 ^ 152) (m * 2 ^ k) (2 ^ 125) m (2 ^ (125 - k)) (pow-pos 125) (pow-pos (125 - k)) cross)
       ∙ turn s 16777216 (2 ^ 128 - 1) 16777216 m (2 ^ (125 - k)) (pow-pos (125 - k)) (let u = pow-pos (125 - k) in let l = d .small in omega arith)
     where
@@ -57,11 +62,11 @@ module _ (x : Float) (s : Bool) (m k : ℕ) (d : Decoded x s m k) where
       cross : m * 2 ^ k ≡ m * 2 ^ (k - 125) * 2 ^ 125
       cross = ap (λ (z : ℕ). m * 2 ^ z) (sym sum) ∙ ap (λ (z : ℕ). m * z) (pow-add 2 (k - 125) 125) ∙ sym (mul-assoc m (2 ^ (k - 125)) (2 ^ 125))
 
-  pub size-lt : k ≤ 148 → m * 2 ^ (k - 125) ≤ 140737488355328
+  size-lt : k ≤ 148 → m * 2 ^ (k - 125) ≤ 140737488355328
   size-lt l = mul-le-mul {n₁ = m} {m₁ = 2 ^ (k - 125)} {n₂ = 16777216} {m₂ = 8388608} (le-of-lt (d .small)) (pow-mono {i = k - 125} {j = 23} (omega arith))
 
-  turns-whole : 125 ≤ k → k ≤ 148 → moved (2 ^ 128) x % 16777216 ≡ floorAt s 281474976710656 (m * 2 ^ (k - 125)) 1 % 16777216
-  turns-whole h l =
+  whole-place : 125 ≤ k → k ≤ 148 → moved (2 ^ 128) x % 16777216 ≡ floorAt s 281474976710656 (m * 2 ^ (k - 125)) 1 % 16777216
+  whole-place h l =
       ap (λ (z : ℕ). z % 16777216) (whole h)
       ∙ turn s 16777216 (2 ^ 128 - 2 ^ 24) 281474976710656 (m * 2 ^ (k - 125)) 1 (lit< tt) (le-trans (size-lt l) (lit≤ tt))
 
@@ -69,8 +74,8 @@ module _ (x : Float) (s : Bool) (m k : ℕ) (d : Decoded x s m k) where
   many false y = ap (λ (z : ℕ). z % 16777216) (div-one (2 ^ 152 + y * 16777216) ∙ sym (add-mul (2 ^ 128) y 16777216)) ∙ mul-mod-left (2 ^ 128 + y) 16777216
   many true y = ap (λ (z : ℕ). z % 16777216) (div-one (2 ^ 152 - y * 16777216) ∙ sym (sub-mul (2 ^ 128) y 16777216)) ∙ mul-mod-left (2 ^ 128 - y) 16777216
 
-  pub turns-large : 148 < k → 0 ≡ moved (2 ^ 128) x % 16777216
-  turns-large h = sym (ap (λ (z : ℕ). z % 16777216) (whole (omega arith) ∙ ap (λ (z : ℕ). floorAt s (2 ^ 152) z 1) cross) ∙ many s (m * 2 ^ (k - 149)))
+  pub large-place : 148 < k → 0 ≡ moved (2 ^ 128) x % 16777216
+  large-place h = sym (ap (λ (z : ℕ). z % 16777216) (whole (omega arith) ∙ ap (λ (z : ℕ). floorAt s (2 ^ 152) z 1) cross) ∙ many s (m * 2 ^ (k - 149)))
     where
       sum : k - 149 + 24 ≡ k - 125
       sum = omega arith
@@ -89,12 +94,12 @@ module _ (x : Float) (s : Bool) (m k : ℕ) (d : Decoded x s m k) where
     pub plus-room : 281474976710656 + m * 2 ^ (k - 125) % 18446744073709551616 < 18446744073709551616
     plus-room = rw kept (let u = size-lt l in omega arith)
 
-    pub turns-minus : s ≡ true → bitAnd (281474976710656 - m * 2 ^ (k - 125) % 18446744073709551616) 16777215 ≡ moved (2 ^ 128) x % 16777216
-    turns-minus e =
+    pub minus-place : s ≡ true → bitAnd (281474976710656 - m * 2 ^ (k - 125) % 18446744073709551616) 16777215 ≡ moved (2 ^ 128) x % 16777216
+    minus-place e =
         and-mask (281474976710656 - m * 2 ^ (k - 125) % 18446744073709551616) 24
-        ∙ sym (turns-whole h l ∙ ap (λ (t : Bool). floorAt t 281474976710656 (m * 2 ^ (k - 125)) 1 % 16777216) e ∙ ap (λ (z : ℕ). z % 16777216) (div-one (281474976710656 - m * 2 ^ (k - 125)) ∙ ap (λ (z : ℕ). 281474976710656 - z) (sym kept)))
+        ∙ sym (whole-place h l ∙ ap (λ (t : Bool). floorAt t 281474976710656 (m * 2 ^ (k - 125)) 1 % 16777216) e ∙ ap (λ (z : ℕ). z % 16777216) (div-one (281474976710656 - m * 2 ^ (k - 125)) ∙ ap (λ (z : ℕ). 281474976710656 - z) (sym kept)))
 
-    pub turns-plus : s ≡ false → bitAnd (281474976710656 + m * 2 ^ (k - 125) % 18446744073709551616) 16777215 ≡ moved (2 ^ 128) x % 16777216
-    turns-plus e =
+    pub plus-place : s ≡ false → bitAnd (281474976710656 + m * 2 ^ (k - 125) % 18446744073709551616) 16777215 ≡ moved (2 ^ 128) x % 16777216
+    plus-place e =
         and-mask (281474976710656 + m * 2 ^ (k - 125) % 18446744073709551616) 24
-        ∙ sym (turns-whole h l ∙ ap (λ (t : Bool). floorAt t 281474976710656 (m * 2 ^ (k - 125)) 1 % 16777216) e ∙ ap (λ (z : ℕ). z % 16777216) (div-one (281474976710656 + m * 2 ^ (k - 125)) ∙ ap (λ (z : ℕ). 281474976710656 + z) (sym kept)))
+        ∙ sym (whole-place h l ∙ ap (λ (t : Bool). floorAt t 281474976710656 (m * 2 ^ (k - 125)) 1 % 16777216) e ∙ ap (λ (z : ℕ). z % 16777216) (div-one (281474976710656 + m * 2 ^ (k - 125)) ∙ ap (λ (z : ℕ). 281474976710656 + z) (sym kept)))

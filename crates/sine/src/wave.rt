@@ -1,0 +1,65 @@
+// The sine of a place in the turn.
+//
+// Method. The place U has the quarter q in its two top bits and the way p into it in the 22 others; odd quarters are
+// read backwards. The 8 top bits of p pick an entry of R and the 14 others the part of the step to the next, rounded
+// down. Of the 30 digits 24 are kept, which an f32 holds exactly.
+ghost use mathlib.Core.Path.{_≡_};
+ghost use Prim.Native.Nat.{_<_, _≤_};
+ghost use Rattle.lists.specs.Interpolation.{interp};
+ghost use Rattle.sine.specs.Table.{sineTable, R};
+ghost use Rattle.sine.specs.Sine.{turned, wave};
+use super::table::SineTable;
+use super::turns::QUARTER;
+
+// R[256], the sine of a whole quarter.
+const LAST_ENTRY: u64 = 1073741824;
+
+// R[j]
+fn entry(sines: &SineTable, j: usize) -> u64
+    requires { ⌜ (now sines ≡ sineTable) × (j < 257) ⌝ }
+    ensures { λ r. ⌜ r ≡ R j ⌝ }
+{
+    sines[j] as u64
+}
+
+// Between the entries of R, over steps of 2^14. The last entry has none after it.
+fn interpolated(sines: &SineTable, p: u64) -> u64
+    requires { ⌜ (now sines ≡ sineTable) × (p ≤ 4194304) ⌝ }
+    ensures { λ r. ⌜ r ≡ interp 14 R p ⌝ }
+{
+    let h = (p >> 14) as usize;
+    if 255 < h {
+        return LAST_ENTRY;
+    }
+    let a = entry(sines, h);
+    let b = entry(sines, h + 1);
+    a + (((b - a) * (p & 0x3fff)) >> 14)
+}
+
+// p, turned for an odd quarter.
+fn turned_place(place: u64) -> u64
+    requires { ⌜ place < 16777216 ⌝ }
+    ensures { λ r. ⌜ r ≡ turned place ⌝ }
+{
+    let p = place & 0x3f_ffff;
+    if (place >> 22) & 1 == 1 {
+        return QUARTER - p;
+    }
+    p
+}
+
+// Negative in the quarters 2 and 3, but for zero.
+pub fn wave_at(sines: &SineTable, place: u64) -> f32
+    requires { ⌜ (now sines ≡ sineTable) × (place < 16777216) ⌝ }
+    ensures { λ r. ⌜ r ≡ wave place ⌝ }
+{
+    let w = interpolated(sines, turned_place(place)) >> 6;
+    let x = float32::bits::fraction(w as u32);
+    if place >> 22 < 2 {
+        return x;
+    }
+    if w == 0 {
+        return x;
+    }
+    -x
+}
