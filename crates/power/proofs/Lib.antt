@@ -1,8 +1,11 @@
+pub mod Entries
+pub mod Interpolated
 pub mod Rising
-pub mod Steps
-pub mod Seek
-pub mod Found
+pub mod Greatest
+pub mod Division
+pub mod Search
 pub mod Moved
 pub mod Made
+pub mod Normal
 pub mod Logs
-pub mod Ends
+pub mod LogMade
