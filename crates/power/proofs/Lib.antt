@@ -9,3 +9,9 @@ pub mod Made
 pub mod Normal
 pub mod Logs
 pub mod LogMade
+pub mod LogRising
+pub mod Ends
+pub mod Between
+pub mod Range
+pub mod LogRange
+pub mod Bases

@@ -21,14 +21,14 @@ use Rattle.power.specs.Power.{largest}
 use Rattle.power.specs.Log.{leastNormal, positiveNormal, unitsOf}
 
 -- ---- the order of two values that are not negative, as fractions
-values-of-le : (x y : Float) (a c b d : ℕ) → HasValue x false a c → HasValue y false b d → T (le x y) → a * d ≤ b * c
-values-of-le nan y a c b d v w h = absurd v
-values-of-le (inf s) y a c b d v w h = absurd v
-values-of-le (fin true m e) y a c b d v w h = absurd (true≢false (v .0))
-values-of-le (fin false m e) nan a c b d v w h = absurd w
-values-of-le (fin false m e) (inf t) a c b d v w h = absurd w
-values-of-le (fin false m e) (fin true n g) a c b d v w h = absurd (true≢false (w .0))
-values-of-le (fin false m e) (fin false n g) a c b d v w h =
+fractions-of-le : (x y : Float) (a c b d : ℕ) → HasValue x false a c → HasValue y false b d → T (le x y) → a * d ≤ b * c
+fractions-of-le nan y a c b d v w h = absurd v
+fractions-of-le (inf s) y a c b d v w h = absurd v
+fractions-of-le (fin true m e) y a c b d v w h = absurd (true≢false (v .0))
+fractions-of-le (fin false m e) nan a c b d v w h = absurd w
+fractions-of-le (fin false m e) (inf t) a c b d v w h = absurd w
+fractions-of-le (fin false m e) (fin true n g) a c b d v w h = absurd (true≢false (w .0))
+fractions-of-le (fin false m e) (fin false n g) a c b d v w h =
     transfer a b c d (m * up e) (n * up g) (down e) (down g) (down-pos e) (down-pos g) (sym (v .1)) (sym (w .1)) (ord-of-le false m e false n g h)
 
 least-value : HasValue leastNormal false (2 ^ 23) (2 ^ 149)
@@ -50,13 +50,13 @@ module _ (v : Float) (n : ℕ) (h : HasValue v false n (2 ^ 149)) where
   too-small l =
       is-false (positiveNormal v)
       (not-T (positiveNormal v) (λ (t : T (positiveNormal v)). not-le-of-lt l
-      (le-of-mul-le-mul-right {k = 2 ^ 149} (values-of-le leastNormal v (2 ^ 23) (2 ^ 149) n (2 ^ 149) least-value h (and-l (le leastNormal v) (le v largest) t)) (pow-pos 149))))
+      (le-of-mul-le-mul-right {k = 2 ^ 149} (fractions-of-le leastNormal v (2 ^ 23) (2 ^ 149) n (2 ^ 149) least-value h (and-l (le leastNormal v) (le v largest) t)) (pow-pos 149))))
 
   pub too-large : 16777215 * 2 ^ 253 < n → positiveNormal v ≡ false
   too-large l =
       is-false (positiveNormal v)
       (not-T (positiveNormal v) (λ (t : T (positiveNormal v)). not-le-of-lt l
-      (le-of-mul-le-mul-right {k = 2 ^ 149} (values-of-le v largest n (2 ^ 149) (16777215 * 2 ^ 253) (2 ^ 149) h largest-value (and-r (le leastNormal v) (le v largest) t)) (pow-pos 149))))
+      (le-of-mul-le-mul-right {k = 2 ^ 149} (fractions-of-le v largest n (2 ^ 149) (16777215 * 2 ^ 253) (2 ^ 149) h largest-value (and-r (le leastNormal v) (le v largest) t)) (pow-pos 149))))
 
 pub units-are : (v : Float) (n : ℕ) → HasValue v false n (2 ^ 149) → unitsOf v ≡ n
 unfolding unitsOf

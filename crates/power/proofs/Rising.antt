@@ -85,7 +85,7 @@ module _ {k w : ℕ} {p : ℕ → ℕ} (R : Roots k w p) where
   unitsAt-mono : (Y Z : ℕ) → Y ≤ Z → unitsAt Y ≤ unitsAt Z
   unitsAt-mono Y Z h = units-mono (Y / 2 ^ 24) (Z / 2 ^ 24) (Y % 2 ^ 24) (Z % 2 ^ 24) (omega arith) (λ e. omega arith) (omega arith) (omega arith)
 
-  power-value : (x : Float) → T (not (isNan x)) → HasValue (powerOf w p x) false (unitsAt (moved 128 x)) (2 ^ 149)
+  pub power-value : (x : Float) → T (not (isNan x)) → HasValue (powerOf w p x) false (unitsAt (moved 128 x)) (2 ^ 149)
   unfolding powerOf
   power-value x h = go (isNan x) h
     where
