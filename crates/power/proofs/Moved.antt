@@ -1,4 +1,5 @@
--- The floor of a float from its parts, by shifts. Assumes nothing.
+-- floor ((x + 128) * 2 ^ 24) as `exp2` computes it, from the parts of x by shifts: x * 2 ^ 24 is mant * 2 ^ 7 / 2 ^ (132 - expo), and from an expo of 133 on x is beyond both ends.
+-- Assumes nothing.
 use mathlib.Core.Path.{_≡_, refl, sym, ap, _∙_, subst}
 use mathlib.Core.Logic.{_⊎_, inl, inr}
 use mathlib.Core.Bool.{Bool, true, false, not}

@@ -1,34 +1,43 @@
--- log2 by the same table: L2 of the request, over the number of steps. Assumes nothing.
-use mathlib.Core.Bool.{Bool, true, false, cond, not, _&&_}
-use Prim.Native.Nat.{ℕ, zero, suc, _+_, _-_, _*_, _/_, _%_, _^_}
+-- L2 of document 01, for log2 v. A positive normal v is M * 2 ^ (e - 23) with M in 2 ^ 23 .. 2 ^ 24 - 1, and with F the greatest whose I(F) ≤ 128 * M the result is
+-- e + F / 2 ^ 24, rounded once. Of any other v, for which document 01 says nothing, it is 0.
+-- In units of 2 ^ -149 v is the whole number M * 2 ^ k, where k = e + 126 is from 0 up: so k is how many binary digits it has past 24, and M what is left without them.
+-- Each definition takes the table p and its w low bits; L2 is that for P. What it says in document 01's own words is shown in proofs/Logs.antt. Assumes nothing.
+use mathlib.Core.Bool.{Bool, true, false, cond, _&&_}
+use Prim.Native.Nat.{ℕ, zero, suc, _+_, _-_, _*_, _/_, _^_}
 use lib.Dec.{leb, ltb}
-use lib.Ieee.{Float, binary32, odd, round, size}
-use Rattle.power.specs.Table.{lowBits}
-use Rattle.float32.specs.Value.{above, below, negative}
+use lib.IntN.{negsuc}
+use lib.Ieee.{Float, fin, binary32, le, round, size}
+use Rattle.float32.specs.Value.{above, below}
 use Rattle.lists.specs.Interpolation.{interp}
-use Rattle.power.specs.Power.{P}
+use Rattle.power.specs.Table.{lowBits, P}
+use Rattle.power.specs.Power.{positiveZero, largest}
 
--- The greatest F from b up, below b + 2 ^ j, with f F ≤ t, for an f that never falls and has f b ≤ t: a bit at a time, the highest first
-unfoldable pub seek : (ℕ → ℕ) → ℕ → ℕ → ℕ → ℕ
-seek f t zero b = b
-seek f t (suc j) b = seek f t j (cond (leb (f (b + 2 ^ j)) t) (b + 2 ^ j) b)
+-- the greatest F below n with f F ≤ t, tried from the top down; 0 where there is none
+unfoldable pub greatest : (ℕ → ℕ) → ℕ → ℕ → ℕ
+greatest f t zero = 0
+greatest f t (suc n) = cond (leb (f n) t) n (greatest f t n)
 
--- v in units of 2 ^ -149
+-- 2 ^ -126, the least positive normal f32
+abbrev pub leastNormal : Float
+leastNormal = fin false 1 (negsuc 125)
+
+abbrev pub positiveNormal : Float → Bool
+positiveNormal v = le leastNormal v && le v largest
+
+-- v in units of 2 ^ -149, for a v from 0 up
 unfoldable pub unitsOf : Float → ℕ
 unitsOf v = above v * 2 ^ 149 / below v
 
--- Y / 2 ^ 24 - 126, rounded once
+-- e + F / 2 ^ 24 rounded once, for Y = (e + 126) * 2 ^ 24 + F
 unfoldable pub rounded : ℕ → Float
 rounded Y = cond (ltb Y (126 * 2 ^ 24)) (round binary32 true (126 * 2 ^ 24 - Y) (2 ^ 24)) (round binary32 false (Y - 126 * 2 ^ 24) (2 ^ 24))
 
--- of n = M * 2 ^ k units, M of 24 digits: e is k - 126, and the result e + F / 2 ^ 24
+-- for M * 2 ^ k units
 unfoldable pub logAt : ℕ → (ℕ → ℕ) → ℕ → Float
-logAt w p n = let k = size n - 24 in rounded (k * 2 ^ 24 + seek (interp w p) (128 * (n / 2 ^ k)) 24 0)
+logAt w p units = let k = size units - 24 in let M = units / 2 ^ k in rounded (k * 2 ^ 24 + greatest (interp w p) (128 * M) (2 ^ 24))
 
--- a positive normal v; of any other 0
 unfoldable pub logOf : ℕ → (ℕ → ℕ) → Float → Float
-logOf w p v = cond (not (negative v) && leb (2 ^ 23) (unitsOf v) && ltb (unitsOf v) (2 ^ 277)) (logAt w p (unitsOf v)) (odd 24 false 0 0 149)
+logOf w p v = cond (positiveNormal v) (logAt w p (unitsOf v)) positiveZero
 
--- by the table
 unfoldable pub L2 : Float → Float
 L2 v = logOf lowBits P v

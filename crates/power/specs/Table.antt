@@ -1,17 +1,20 @@
--- The tables, entry by entry. Their rules are in `Rules.antt`, each one test over the whole table. Assumes nothing.
+-- P of document 01, entry by entry, and I(F), the line drawn between its entries. That each entry is the right one is shown in `Rules.antt`.
+-- Assumes nothing.
 use Prim.Native.Nat.{ℕ}
 use mathlib.Core.List.{List, [], _∷_}
+use lib.ListN.{getD}
+use Rattle.lists.specs.Interpolation.{interp}
 
--- P has 2 ^ highBits steps: entry j is the greatest whole number whose power by 2 ^ highBits is at most 2 ^ (30 * 2 ^ highBits + j).
--- F, of 24 bits, has lowBits below them
+-- F has 24 bits: the high ones, floor (F / 2 ^ lowBits), choose one of the 2 ^ highBits steps of the table, and the low ones the place within the step.
+-- The number of steps is said here alone: the laws hold for any highBits and lowBits that add to 24.
 abbrev pub highBits : ℕ
 highBits = 8
 
 abbrev pub lowBits : ℕ
 lowBits = 16
 
-unfoldable pub powers : List ℕ
-powers =
+unfoldable pub powerTable : List ℕ
+powerTable =
     1073741824 ∷ 1076653033 ∷ 1079572135 ∷ 1082499152 ∷ 1085434105 ∷ 1088377016 ∷ 1091327905 ∷ 1094286795 ∷ 1097253708 ∷ 1100228664 ∷
     1103211687 ∷ 1106202797 ∷ 1109202017 ∷ 1112209369 ∷ 1115224875 ∷ 1118248556 ∷ 1121280435 ∷ 1124320535 ∷ 1127368877 ∷ 1130425484 ∷
     1133490379 ∷ 1136563583 ∷ 1139645119 ∷ 1142735011 ∷ 1145833280 ∷ 1148939949 ∷ 1152055041 ∷ 1155178579 ∷ 1158310586 ∷ 1161451085 ∷
@@ -38,3 +41,11 @@ powers =
     2001504204 ∷ 2006930832 ∷ 2012372173 ∷ 2017828268 ∷ 2023299155 ∷ 2028784876 ∷ 2034285470 ∷ 2039800977 ∷ 2045331439 ∷ 2050876895 ∷
     2056437386 ∷ 2062012953 ∷ 2067603638 ∷ 2073209480 ∷ 2078830521 ∷ 2084466802 ∷ 2090118365 ∷ 2095785251 ∷ 2101467501 ∷ 2107165158 ∷
     2112878262 ∷ 2118606856 ∷ 2124350982 ∷ 2130110682 ∷ 2135885998 ∷ 2141676972 ∷ 2147483648 ∷ []
+
+-- P[j]
+abbrev pub P : ℕ → ℕ
+P j = getD powerTable j 0
+
+-- I(F) = P[h] + floor ((P[h + 1] - P[h]) * r / 2 ^ 16) with h = floor (F / 2 ^ 16) and r = F mod 2 ^ 16: `interp w p` says it for a table p and w low bits
+abbrev pub I : ℕ → ℕ
+I F = interp lowBits P F

@@ -1,4 +1,4 @@
--- `elem::exp2_by` meets its contract. Assumes nothing.
+-- `exp2` meets its contract: its parts give floor ((x + 128) * 2 ^ 24), whose high and low bits are N and F. Assumes nothing.
 use mathlib.Core.Path.{_≡_, sym, ap, subst, _∙_}
 use mathlib.Core.Bool.{Bool, not}
 use Prim.Native.Nat.{ℕ, _-_, _*_, _/_, _%_, _^_, _<_}
@@ -9,13 +9,13 @@ use lib.Bits.{mask-lt}
 use borrow.Author.Needs.{needs}
 use Rattle.float32.specs.Value.{floorAt, moved}
 use Rattle.power.proofs.Moved.{moved-is, moved-low, moved-high}
-use Rattle.power.proofs.Made.{nan-power, at-low, at-high, at-mid, bits-fit, bits-no-nan, floorAt-lt}
+use Rattle.power.proofs.Made.{at-nan, at-low, at-high, bits-are, bits-fit, bits-no-nan, floorAt-lt}
 use Rattle.float32.proofs.Made.{no-nan}
-use Rattle.power.proofs.exp2_by.Statement.{statement}
-use Rattle.power.proofs.exp2_by.Tie as tie
+use Rattle.power.proofs.exp2.exp2.Statement.{statement}
+use Rattle.power.proofs.exp2.exp2.Tie as tie
 
 returns : tie.Need-returns
-returns c = nan-power (c .before .args .x) (subst T (sym (c .if1 .taken)) tt)
+returns c = at-nan (c .before .args .x) (subst T (sym (c .if1 .taken)) tt)
 
 fine : (c : tie.Else1) → T (not (isNan (c .before .args .x)))
 fine c = no-nan (c .before .args .x) (subst (λ b. T (not b)) (sym (c .if1 .left)) tt)
@@ -54,27 +54,27 @@ cast-floor-above c = search needs
 floor-above-requires : tie.Need-floor-above-requires
 floor-above-requires c κs = search needs
 
-y-at : (m : tie.After-floor-above) → m .floor-above .result ≡ floorAt (neg (m .before .before)) 2147483648 (mant (m .before .before) * 128) (2 ^ (132 - expo (m .before .before)))
+y-at : (m : tie.After-floor-above) → m .floor-above .result ≡ floorAt (neg (m .before .before)) (2 ^ 31) (mant (m .before .before) * 128) (2 ^ (132 - expo (m .before .before)))
 y-at m =
     let d = m .before .before in
     let l = d .decode .ensures .small in
-    let e : mant d * 128 % 18446744073709551616 ≡ mant d * 128 = omega arith in
-    m .floor-above .ensures ∙ ap (λ (z : ℕ). floorAt (neg d) 2147483648 z (2 ^ (132 - expo d))) e
+    let e : mant d * 128 % 2 ^ 64 ≡ mant d * 128 = omega arith in
+    m .floor-above .ensures ∙ ap (λ (z : ℕ). floorAt (neg d) (2 ^ 31) z (2 ^ (132 - expo d))) e
 
 y-is : (m : tie.After-floor-above) → m .floor-above .result ≡ moved 128 (x (m .before .before))
 y-is m =
     let d = m .before .before in
     y-at m ∙ sym (moved-is (x d) (neg d) (mant d) (expo d) (d .decode .ensures) (m .before .if2 .left))
 
-y-lt : (m : tie.After-floor-above) → m .floor-above .result < 4294967296
+y-lt : (m : tie.After-floor-above) → m .floor-above .result < 2 ^ 32
 y-lt m =
     let d = m .before .before in
-    subst (λ (z : ℕ). z < 4294967296) (sym (y-at m)) (floorAt-lt (neg d) (mant d) (132 - expo d) (d .decode .ensures .small))
+    subst (λ (z : ℕ). z < 2 ^ 32) (sym (y-at m)) (floorAt-lt (neg d) (mant d) (132 - expo d) (d .decode .ensures .small))
 
 returns-4 : tie.Need-returns-4
 returns-4 c =
     let d = c .before .before .before in
-    at-low (x d) (fine (d .before)) (subst (λ (z : ℕ). z / 16777216 < 2) (y-is (c .before)) (c .if4 .taken))
+    at-low (x d) (fine (d .before)) (subst (λ (z : ℕ). z / 2 ^ 24 < 2) (y-is (c .before)) (c .if4 .taken))
 
 interpolate-requires : tie.Need-interpolate-requires
 interpolate-requires c κs = (c .before .before .before .before .before .pre, mask-lt (c .before .floor-above .result) 24)
@@ -89,10 +89,10 @@ float-from-bits-result : tie.Need-float-from-bits-result
 float-from-bits-result c = bits-no-nan (x (c .before .before .before .before)) (fine (c .before .before .before .before .before)) (c .before .before .floor-above .result) (c .interpolate .result) (y-is (c .before .before)) (c .before .if4 .left) (y-lt (c .before .before)) (c .interpolate .ensures)
 
 returns-5 : tie.Need-returns-5
-returns-5 c = at-mid (x (c .before .before .before .before)) (fine (c .before .before .before .before .before)) (c .before .before .floor-above .result) (c .interpolate .result) (y-is (c .before .before)) (c .before .if4 .left) (y-lt (c .before .before)) (c .interpolate .ensures)
+returns-5 c = bits-are (x (c .before .before .before .before)) (fine (c .before .before .before .before .before)) (c .before .before .floor-above .result) (c .interpolate .result) (y-is (c .before .before)) (c .before .if4 .left) (y-lt (c .before .before)) (c .interpolate .ensures)
 
-pub exp2-by-spec : {M : Type 1} → statement M
-exp2-by-spec =
+pub exp2-spec : {M : Type 1} → statement M
+exp2-spec =
     tie.close
     (tie.spec
     returns

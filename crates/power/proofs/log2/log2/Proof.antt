@@ -1,24 +1,22 @@
--- `elem::log2_by` meets its contract. Assumes nothing.
+-- `log2` meets its contract: each of its answers is one of the cases of proofs/LogMade.antt. Assumes nothing.
 use mathlib.Core.Path.{_≡_, sym, subst, ap, _∙_}
 use mathlib.Core.Bool.{Bool, not}
-use Prim.Native.Nat.{ℕ, _-_, _*_, _%_, _<_, _≤_}
+use Prim.Native.Nat.{ℕ, _-_, _*_, _%_, _^_, _<_, _≤_}
 use native.Mathlib.Omega.{arith}
 use lib.Dec.{T}
 use lib.Ieee.{Float, isNan, sub, add, ofInt, binary32}
 use lib.IntN.{pos}
 use borrow.Author.Needs.{needs}
-use Rattle.power.specs.Table.{lowBits}
-use Rattle.lists.specs.Interpolation.{interp}
-use Rattle.power.specs.Power.{P}
-use Rattle.power.specs.Log.{seek}
+use Rattle.power.specs.Table.{I}
+use Rattle.power.specs.Log.{greatest}
 use Rattle.float32.proofs.Made.{no-nan}
 use Rattle.float32.proofs.Sums.{in-float}
-use Rattle.power.proofs.Logs.{nan-log, log-neg, log-low, log-high, log-below, log-above, F-lt}
-use Rattle.power.proofs.log2_by.Statement.{statement}
-use Rattle.power.proofs.log2_by.Tie as tie
+use Rattle.power.proofs.LogMade.{log-nan, log-negative, log-subnormal, log-infinite, log-below, log-above, F-lt}
+use Rattle.power.proofs.log2.log2.Statement.{statement}
+use Rattle.power.proofs.log2.log2.Tie as tie
 
 returns : tie.Need-returns
-returns c = nan-log (c .before .args .v) (subst T (sym (c .if1 .taken)) tt)
+returns c = log-nan (c .before .args .v) (subst T (sym (c .if1 .taken)) tt)
 
 decode-requires : tie.Need-decode-requires
 decode-requires c κs = no-nan (c .before .args .v) (subst (λ b. T (not b)) (sym (c .if1 .left)) tt)
@@ -37,13 +35,13 @@ module _ (d : tie.After-decode) where
   expo = d .decode .result .expo
 
 returns-2 : tie.Need-returns-2
-returns-2 c = let d = c .before in log-neg (v d) (neg d) (mant d) (expo d) (d .decode .ensures) (c .if2 .taken)
+returns-2 c = let d = c .before in log-negative (v d) (neg d) (mant d) (expo d) (d .decode .ensures) (c .if2 .taken)
 
 returns-3 : tie.Need-returns-3
-returns-3 c = let d = c .before .before in log-low (v d) (neg d) (mant d) (expo d) (d .decode .ensures) (c .if3 .taken) (c .before .if2 .left)
+returns-3 c = let d = c .before .before in log-subnormal (v d) (neg d) (mant d) (expo d) (d .decode .ensures) (c .if3 .taken) (c .before .if2 .left)
 
 returns-4 : tie.Need-returns-4
-returns-4 c = let d = c .before .before .before in log-high (v d) (neg d) (mant d) (expo d) (d .decode .ensures) (c .before .if3 .left) (c .if4 .taken) (c .before .before .if2 .left)
+returns-4 c = let d = c .before .before .before in log-infinite (v d) (neg d) (mant d) (expo d) (d .decode .ensures) (c .before .if3 .left) (c .if4 .taken) (c .before .before .if2 .left)
 
 cast-find : tie.Need-cast-find
 cast-find c = search needs
@@ -54,14 +52,14 @@ find-requires c κs = search needs
 abbrev dec : tie.After-find → tie.After-decode
 dec c = c .before .before .before .before
 
-F-is : (c : tie.After-find) → c .find .result ≡ seek (interp lowBits P) (mant (dec c) * 128) 24 0
+F-is : (c : tie.After-find) → c .find .result ≡ greatest I (mant (dec c) * 128) (2 ^ 24)
 F-is c =
     let d = dec c in
     let l = d .decode .ensures .small in
-    let e : mant d * 128 % 18446744073709551616 ≡ mant d * 128 = omega arith in
-    c .find .ensures ∙ ap (λ (z : ℕ). seek (interp lowBits P) z 24 0) e
+    let e : mant d * 128 % 2 ^ 64 ≡ mant d * 128 = omega arith in
+    c .find .ensures ∙ ap (λ (z : ℕ). greatest I z (2 ^ 24)) e
 
-F-small : (c : tie.After-find) → c .find .result < 16777216
+F-small : (c : tie.After-find) → c .find .result < 2 ^ 24
 F-small c =
     let d = dec c in
     F-lt (v d) (neg d) (mant d) (expo d) (d .decode .ensures) (c .before .before .if3 .left) (c .before .if4 .left) (c .before .before .before .if2 .left) (c .find .result) (F-is c)
@@ -95,8 +93,8 @@ returns-6 c =
     ap (λ (z : Float). add binary32 (ofInt binary32 (pos (expo d - 126))) z) (c .before .before .fraction .ensures)
     ∙ log-above (v d) (neg d) (mant d) (expo d) (d .decode .ensures) (f .before .before .if3 .left) (f .before .if4 .left) (f .before .before .before .if2 .left) (f .find .result) (F-is f) (c .before .if5 .left)
 
-pub log2-by-spec : {M : Type 1} → statement M
-log2-by-spec =
+pub log2-spec : {M : Type 1} → statement M
+log2-spec =
     tie.close
     (tie.spec
     returns

@@ -1,0 +1,85 @@
+ghost use mathlib.Core.Path.{_≡_};
+ghost use Prim.Native.Nat.{_^_, _<_, _≤_};
+ghost use Rattle.power.specs.Table.{highBits, powerTable, P, I};
+ghost use Rattle.power.specs.Log.{greatest, L2};
+use crate::table::LAST_STEP;
+use crate::table::LOW_BITS;
+use crate::table::PowerTable;
+use crate::table::power;
+
+// What is left of 15 bits without the table's high bits.
+const GUESS_LOW_BITS: u64 = 7;
+
+// A step of the table near that of t = 2^30 * (1 + m), where the search begins, for speed alone: log2(1 + m) is about m + m * (1 - m) * 11/32.
+fn guess(t: u64) -> usize
+    requires { ⌜ (2 ^ 30 ≤ t) × (t < 2 ^ 31) ⌝ }
+    ensures { λ r. ⌜ r < 2 ^ highBits ⌝ }
+{
+    let m = (t - 0x4000_0000) >> 15;
+    let bend = ((m * (32768 - m)) >> 15) * 11 / 32;
+    let h = ((m + bend) >> GUESS_LOW_BITS) as usize;
+    if h < LAST_STEP { h } else { LAST_STEP }
+}
+
+// From the step h down to one that begins at t or below.
+fn step_below(powers: &PowerTable, t: u64, start: usize) -> usize
+    requires { ⌜ (now powers ≡ powerTable) × (2 ^ 30 ≤ t) × (start < 2 ^ highBits) ⌝ }
+    ensures { λ r. ⌜ (r < 2 ^ highBits) × (P r ≤ t) ⌝ }
+{
+    let mut h = start;
+    while t < power(powers, h) {
+        h -= 1;
+    }
+    h
+}
+
+// The step that t lies in: the last whose entry is at most t.
+fn step_of(powers: &PowerTable, t: u64) -> usize
+    requires { ⌜ (now powers ≡ powerTable) × (2 ^ 30 ≤ t) × (t < 2 ^ 31) ⌝ }
+    ensures { λ r. ⌜ r ≡ greatest P t (2 ^ highBits) ⌝ }
+{
+    let mut h = step_below(powers, t, guess(t));
+    while power(powers, h + 1) <= t {
+        h += 1;
+    }
+    h
+}
+
+// The greatest F with I(F) <= t: its high bits are the step that t lies in, its low bits come from one division.
+fn find(powers: &PowerTable, t: u64) -> u64
+    requires { ⌜ (now powers ≡ powerTable) × (2 ^ 30 ≤ t) × (t < 2 ^ 31) ⌝ }
+    ensures { λ r. ⌜ r ≡ greatest I t (2 ^ 24) ⌝ }
+{
+    let h = step_of(powers, t);
+    let a = power(powers, h);
+    let b = power(powers, h + 1);
+    ((h as u64) << LOW_BITS) + ((((t - a + 1) << LOW_BITS) - 1) / (b - a))
+}
+
+// log2(v): L2 of document 01.
+pub fn log2(powers: &PowerTable, v: f32) -> f32
+    requires { ⌜ now powers ≡ powerTable ⌝ }
+    ensures { λ r. ⌜ r ≡ L2 v ⌝ }
+{
+    if v != v {
+        return 0.0;
+    }
+    let d = float32::bits::decode(v);
+    let neg = d.neg;
+    let mant = d.mant;
+    let expo = d.expo;
+    if neg {
+        return 0.0;
+    }
+    if mant < 8388608 {
+        return 0.0;
+    }
+    if 253 < expo {
+        return 0.0;
+    }
+    let f = float32::bits::fraction(find(powers, (mant as u64) << 7) as u32);
+    if expo < 126 {
+        return f - ((126 - expo) as f32);
+    }
+    ((expo - 126) as f32) + f
+}
