@@ -4,9 +4,9 @@ ghost use Rattle.power.specs.Decimal.{pow10, exp, log10};
 use crate::exp2::exp2;
 use crate::log2::log2;
 use crate::table::PowerTable;
-use float32::constants::LOG10_2;
 use float32::constants::LOG2_10;
 use float32::constants::LOG2_E;
+use float32::constants::LOG10_2;
 
 // 10^y: powf(10, y) of document 01.
 pub fn pow10(powers: &PowerTable, y: f32) -> f32

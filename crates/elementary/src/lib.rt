@@ -1,0 +1,57 @@
+// The functions of one number by name, for what applies one of them to a whole list: the static library and the replay program.
+ghost use mathlib.Core.Path.{_≡_};
+ghost use Rattle.lists.specs.Turned.{mapAt};
+ghost use Rattle.power.specs.Table.{powerTable};
+ghost use Rattle.sine.specs.Table.{sineTable};
+ghost use Rattle.elementary.specs.Functions.{valueOf};
+use power::table::PowerTable;
+use sine::table::SineTable;
+
+pub enum Function {
+    Exp2,
+    Log2,
+    Sin,
+    Cos,
+    Sqrt,
+    Pow10,
+    Exp,
+    Log10,
+    RemEuclid,
+    Powi2,
+    Powi5,
+    Abs,
+}
+
+// The function's value, by the tables that are lent.
+pub fn value(function: Function, powers: &PowerTable, sines: &SineTable, x: f32) -> f32
+    requires { ⌜ (now powers ≡ powerTable) × (now sines ≡ sineTable) ⌝ }
+    ensures { λ r. ⌜ r ≡ valueOf function x ⌝ }
+{
+    match function {
+        Function::Exp2 => power::exp2::exp2(powers, x),
+        Function::Log2 => power::log2::log2(powers, x),
+        Function::Sin => sine::sin(sines, x),
+        Function::Cos => sine::cos(sines, x),
+        Function::Sqrt => float32::root::sqrt(x),
+        Function::Pow10 => power::decimal::pow10(powers, x),
+        Function::Exp => power::decimal::exp(powers, x),
+        Function::Log10 => power::decimal::log10(powers, x),
+        Function::RemEuclid => float32::remainder::rem_euclid_one(x),
+        Function::Powi2 => float32::powers::powi2(x),
+        Function::Powi5 => float32::powers::powi5(x),
+        Function::Abs => float32::order::abs(x),
+    }
+}
+
+// The function's value at each entry, in the entry's place.
+pub fn apply(function: Function, xs: &mut [f32])
+    ensures { λ _. ⌜ now (xs .exit) ≡ mapAt (λ k x. valueOf function x) (now (xs .entry)) ⌝ }
+{
+    let powers = power::table::power_table();
+    let sines = sine::table::sine_table();
+    let mut i: usize = 0;
+    while i < xs.len() {
+        xs[i] = value(function, &powers, &sines, xs[i]);
+        i += 1;
+    }
+}
