@@ -1,0 +1,11 @@
+//! The judge of the port: the Rust that is ported, with the functions of document 01 put for its
+//! library calls, the plain way always, and the refusals of document 01's table.
+
+#![forbid(unsafe_code)]
+
+pub mod bignum;
+pub mod functions;
+pub mod lists;
+pub mod numbers;
+pub mod random;
+pub mod tables;
