@@ -81,7 +81,7 @@ impl Natural {
         }
         let half = self.power(exponent / 2);
         let square = half.times(&half);
-        if exponent % 2 == 0 {
+        if exponent.is_multiple_of(2) {
             square
         } else {
             square.times(self)

@@ -47,7 +47,7 @@ impl Random {
         Self { state: seed }
     }
 
-    pub fn next(&mut self) -> u64 {
+    pub fn word(&mut self) -> u64 {
         self.state = self.state.wrapping_add(0x9e37_79b9_7f4a_7c15);
         let mut z = self.state;
         z = (z ^ (z >> 30)).wrapping_mul(0xbf58_476d_1ce4_e5b9);
@@ -57,7 +57,7 @@ impl Random {
 
     /// A number from 0 up to, but not with, `end`.
     pub fn below(&mut self, end: usize) -> usize {
-        (self.next() % end as u64) as usize
+        (self.word() % end as u64) as usize
     }
 
     /// True once in `times`.
@@ -71,14 +71,14 @@ impl Random {
 
     /// A float from `low` to `high`, spread evenly.
     pub fn between(&mut self, low: f32, high: f32) -> f32 {
-        let unit = (self.next() >> 40) as f32 / 16_777_216.0;
+        let unit = (self.word() >> 40) as f32 / 16_777_216.0;
         (low + (high - low) * unit).clamp(low, high)
     }
 
     /// Any bit pattern: each sign and each of the 256 exponents equally often, so that NaN and the
     /// infinities are among them, and now and then a mantissa of 0, 1 or all ones, or an edge.
     pub fn bits(&mut self) -> u32 {
-        let word = self.next();
+        let word = self.word();
         let sign = (word >> 63) as u32;
         if word & 0x3f == 0 {
             return sign << 31 | self.pick(&EDGES);

@@ -3,9 +3,12 @@
 use super::{LARGEST, List};
 use crate::numbers::FUNCTIONS;
 use crate::random::Random;
+use std::collections::HashSet;
 
 const SEED: u64 = 20;
 const RECORD: usize = 16;
+/// NaNs of other bits than the usual one.
+const NANS: [u32; 4] = [0x7f80_0001, 0x7fff_ffff, 0xff80_0001, 0xffc0_0000];
 
 /// The neighbour below, the number and the neighbour above, of both signs.
 fn around(points: &mut Vec<f32>, x: f32) {
@@ -228,48 +231,70 @@ fn random_bits(random: &mut Random, name: &str) -> u32 {
     }
 }
 
-fn record(list: &mut List, number: usize, arguments: [u32; 3]) {
-    let function = &FUNCTIONS[number];
-    list.word(number as u32);
-    let mut line = function.name.to_string();
-    for (index, argument) in arguments.into_iter().enumerate() {
-        let used = index < function.arguments;
-        list.word(if used { argument } else { 0 });
-        if used {
-            line += &format!(" {argument:08x}");
+/// The list as it grows; no record enters it twice.
+#[derive(Default)]
+struct Numbers {
+    list: List,
+    seen: HashSet<(usize, [u32; 3])>,
+}
+
+impl Numbers {
+    fn record(&mut self, number: usize, arguments: [u32; 3]) {
+        let function = &FUNCTIONS[number];
+        let used: [u32; 3] = std::array::from_fn(|index| {
+            if index < function.arguments {
+                arguments[index]
+            } else {
+                0
+            }
+        });
+        if !self.seen.insert((number, used)) {
+            return;
+        }
+        self.list.word(number as u32);
+        let mut line = function.name.to_string();
+        for (index, argument) in used.into_iter().enumerate() {
+            self.list.word(argument);
+            if index < function.arguments {
+                line += &format!(" {argument:08x}");
+            }
+        }
+        self.list.line(&format!("{line} {}", function.of(used)));
+    }
+
+    fn edges(&mut self) {
+        for (number, function) in FUNCTIONS.iter().enumerate() {
+            if function.arguments > 1 {
+                for row in rows(function.arguments) {
+                    self.record(number, row);
+                }
+                continue;
+            }
+            for point in points_of(function.name) {
+                self.record(number, [point.to_bits(), 0, 0]);
+            }
+            for nan in NANS {
+                self.record(number, [nan, 0, 0]);
+            }
         }
     }
-    list.line(&format!("{line} {}", function.of(arguments)));
+
+    fn fill(&mut self) {
+        let mut random = Random::new(SEED);
+        for number in (0..FUNCTIONS.len()).cycle() {
+            if self.list.calls.len() + RECORD > LARGEST {
+                return;
+            }
+            let name = FUNCTIONS[number].name;
+            let arguments = [0; 3].map(|_| random_bits(&mut random, name));
+            self.record(number, arguments);
+        }
+    }
 }
 
 pub fn list() -> List {
-    let mut list = List::default();
-    for (number, function) in FUNCTIONS.iter().enumerate() {
-        if function.arguments == 1 {
-            for point in points_of(function.name) {
-                record(&mut list, number, [point.to_bits(), 0, 0]);
-            }
-        } else {
-            for row in rows(function.arguments) {
-                record(&mut list, number, row);
-            }
-        }
-    }
-    let nans = [0x7f80_0001, 0x7fff_ffff, 0xff80_0001, 0xffc0_0000];
-    for number in [0, 1, 2, 4, 11, 17, 18] {
-        for nan in nans {
-            record(&mut list, number, [nan, 0, 0]);
-        }
-    }
-    let mut random = Random::new(SEED);
-    for turn in 0.. {
-        if list.calls.len() + RECORD > LARGEST {
-            break;
-        }
-        let number = turn % FUNCTIONS.len();
-        let name = FUNCTIONS[number].name;
-        let arguments = [0; 3].map(|_| random_bits(&mut random, name));
-        record(&mut list, number, arguments);
-    }
-    list
+    let mut numbers = Numbers::default();
+    numbers.edges();
+    numbers.fill();
+    numbers.list
 }
