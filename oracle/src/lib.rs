@@ -4,8 +4,15 @@
 #![forbid(unsafe_code)]
 
 pub mod bignum;
+pub mod calls;
 pub mod functions;
 pub mod lists;
 pub mod numbers;
 pub mod random;
+pub mod refusals;
 pub mod tables;
+
+#[path = "oiko_dsp/lib.rs"]
+pub mod oiko_dsp;
+#[path = "spectral_dsp/lib.rs"]
+pub mod spectral_dsp;

@@ -1,7 +1,7 @@
-//! The tables of document 01, made from their rules with whole numbers. No entry is typed in.
+//! The tables P, K and R of document 01, made from their rules with whole numbers. No entry is
+//! typed in. (The Gaussian is made in spectral_dsp, where the Rust makes it.)
 
 use crate::bignum::Natural;
-use crate::functions::exp;
 use std::sync::LazyLock;
 
 /// Of the 24 bits of F, the high ones choose an entry of P and the low ones a place after it.
@@ -14,8 +14,6 @@ pub const SINE_HALVINGS: usize = 8;
 pub const SINE_LOW_BITS: usize = 22 - SINE_HALVINGS;
 pub const SINE_STEPS: usize = 1 << SINE_HALVINGS;
 
-pub const GAUSSIAN_STEPS: usize = 1024;
-
 /// P[j], near 2^30 times the j-th of 256 equal steps from 1 to 2.
 pub static POWERS: LazyLock<[u64; POWER_STEPS + 1]> =
     LazyLock::new(|| std::array::from_fn(power_entry));
@@ -26,10 +24,6 @@ pub static HALF_ANGLE_COSINES: LazyLock<[u64; SINE_HALVINGS + 1]> =
 
 /// R[j], near 2^30 times the sine of j parts in 256 of a quarter turn.
 pub static SINES: LazyLock<[u64; SINE_STEPS + 1]> = LazyLock::new(sines);
-
-/// Entry i is exp(-i/128).
-pub static GAUSSIAN: LazyLock<[f32; GAUSSIAN_STEPS + 1]> =
-    LazyLock::new(|| std::array::from_fn(|index| exp(-(index as f32) / 128.0)));
 
 /// The greatest whole number from `low` up to, but not with, `high` that is allowed, where the
 /// allowed ones are those up to some point and `low` is one of them.
