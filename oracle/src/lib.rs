@@ -10,6 +10,7 @@ pub mod lists;
 pub mod numbers;
 pub mod random;
 pub mod refusals;
+pub mod scenes;
 pub mod tables;
 
 #[path = "oiko_dsp/lib.rs"]
