@@ -86,7 +86,7 @@ fn log2_is_l2() {
             |x: f32| (f64::from(x) * 2.0_f64.powi(49) - exact as f64 * 2.0_f64.powi(25)).abs();
         let (down, up) = (distance(result.next_down()), distance(result.next_up()));
         let own = distance(result);
-        let even = result.to_bits() % 2 == 0;
+        let even = result.to_bits().is_multiple_of(2);
         assert!(own < down || own == down && even, "{v:e}");
         assert!(own < up || own == up && even, "{v:e}");
     }

@@ -112,10 +112,12 @@ fn every_field_of_a_voice_is_tested() {
     }
 }
 
+type Change = fn(&mut MaskConfig);
+
 /// Each setting just past its limits, and at them.
 #[test]
 fn every_setting_is_tested() {
-    let faults: [(u8, fn(&mut MaskConfig)); 16] = [
+    let faults: [(u8, Change); 16] = [
         (1, |config| config.fft_size = 32),
         (1, |config| config.fft_size = 32_768),
         (1, |config| config.sample_rate = 8_000.0_f32.next_down()),
@@ -143,7 +145,7 @@ fn every_setting_is_tested() {
         fault(&mut scene.config);
         assert_eq!(scene.call(), refused(number, 0));
     }
-    let ends: [fn(&mut MaskConfig); 4] = [
+    let ends: [Change; 4] = [
         |config| (config.sample_rate, config.note_depth_db) = (8_000.0, -0.0),
         |config| (config.sample_rate, config.note_depth_db) = (192_000.0, 144.0),
         |config| (config.width_cents, config.partials) = (1200.0, 24),

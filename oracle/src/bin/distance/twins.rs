@@ -1,8 +1,8 @@
 //! The ported text once more, on other functions: std's, or std's with one family of document
 //! 01's among them. What a twin changes shows what that family alone changes.
 
-// A twin has every call, and not every twin's every call is asked for.
-#![allow(dead_code)]
+// One text is compiled on several functions, and not every twin is asked for every call.
+#![allow(clippy::duplicate_mod, dead_code)]
 
 /// Rust's own functions under the names of document 01's.
 pub mod std_functions {
