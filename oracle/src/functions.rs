@@ -107,13 +107,13 @@ pub fn log2(v: f32) -> f32 {
     (((e << 24) + f as i64) as f64 / TWO_TO_24) as f32
 }
 
-/// The greatest F with I(F) <= value, bit by bit from the highest.
+/// The greatest F with I(F) <= value, for a value from P[0] up to, but not with, the last entry.
 fn greatest_at_most(value: u64) -> u64 {
-    (0..24).rev().fold(0, |f, bit| {
-        let next = f | 1 << bit;
-        let fits = interpolate(&*POWERS, POWER_LOW_BITS, next) <= value;
-        if fits { next } else { f }
-    })
+    let h = POWERS.partition_point(|&entry| entry <= value) - 1;
+    let (above, step) = (value - POWERS[h], POWERS[h + 1] - POWERS[h]);
+    // floor(step·r / 2^16) <= above just where step·r < (above + 1)·2^16.
+    let r = (((above + 1) << POWER_LOW_BITS) - 1) / step;
+    ((h as u64) << POWER_LOW_BITS) + r
 }
 
 /// powf(10, y)
