@@ -7,8 +7,8 @@ use oracle::scenes::Scene;
 
 pub type Masks = [Vec<f32>; 2];
 
-/// The stereo call of one of the modules that hold the ported text, on a table prepared by it.
-macro_rules! stereo {
+/// A scene in the types of one of the modules that hold the ported text.
+macro_rules! given {
     ($scene:expr, $($dsp:ident)::+) => {{
         use $($dsp)::+ as dsp;
         let scene: &Scene = $scene;
@@ -51,19 +51,42 @@ macro_rules! stereo {
                 pan: voice.pan,
             })
             .collect();
+        let curve: &[f32; dsp::MANUAL_MASK_POINTS] =
+            scene.curve.as_slice().try_into().expect("a whole curve");
+        (config, voices, curve)
+    }};
+}
+
+/// The stereo call, on a table that the module prepares at a rate.
+macro_rules! stereo_at {
+    ($scene:expr, $rate:expr, $($dsp:ident)::+) => {{
+        use $($dsp)::+ as dsp;
+        let (config, voices, curve) = given!($scene, $($dsp)::+);
         let mut workspace = dsp::MaskWorkspace::default();
-        workspace.prepare(config.sample_rate, config.fft_size);
+        workspace.prepare($rate, config.fft_size);
         let mut left = vec![0.0; config.fft_size / 2 + 1];
         let mut right = left.clone();
         dsp::build_stereo_masks_with_voices_precomputed(
-            &mut left,
-            &mut right,
-            scene.curve.as_slice().try_into().expect("a whole curve"),
-            &voices,
-            config,
-            &workspace,
+            &mut left, &mut right, curve, &voices, config, &workspace,
         );
         [left, right]
+    }};
+}
+
+macro_rules! stereo {
+    ($scene:expr, $($dsp:ident)::+) => {
+        stereo_at!($scene, $scene.config.sample_rate, $($dsp)::+)
+    };
+}
+
+/// The call without a table.
+macro_rules! mono {
+    ($scene:expr, $($dsp:ident)::+) => {{
+        use $($dsp)::+ as dsp;
+        let (config, voices, curve) = given!($scene, $($dsp)::+);
+        let mut output = vec![0.0; config.fft_size / 2 + 1];
+        dsp::build_mask_with_voices(&mut output, curve, &voices, config);
+        output
     }};
 }
 
@@ -181,8 +204,49 @@ fn copied(seed: u64, count: u64) {
     print_pair("the copied right channel", &distance);
 }
 
+/// With two partials at most the compact way is never cheaper, and without a table never taken:
+/// there the ported text on std's functions writes what the unaltered Rust writes.
+fn same_text(seed: u64, count: u64) {
+    let mut random = Random::new(seed);
+    let mut distances = vec![Distance::default(); 3];
+    for number in 0..count {
+        let mut scene = Scene::anywhere(&mut random);
+        scene.voices.truncate(8);
+        let others_rate = random.pick(&[8_000.0, 44_100.0, 192_000.0]);
+        let without = [
+            mono!(&scene, original),
+            mono!(&scene, twins::plain::spectral_dsp),
+        ];
+        scene.config.partials = scene.config.partials.min(2);
+        let [own, other] = [unaltered(&scene), plain(&scene)];
+        let pairs = [
+            without,
+            [own.concat(), other.concat()],
+            [
+                stereo_at!(&scene, others_rate, original).concat(),
+                stereo_at!(&scene, others_rate, twins::plain::spectral_dsp).concat(),
+            ],
+        ];
+        for (distance, [one, other]) in distances.iter_mut().zip(&pairs) {
+            for (bin, (&a, &b)) in one.iter().zip(other).enumerate() {
+                distance.count(a, b, &|| describe(number, 0, bin, &scene));
+            }
+        }
+    }
+    println!("\n## The ported text on std's functions, {count} scenes without the compact way");
+    let names = [
+        "no table",
+        "two partials at most",
+        "a table of another rate",
+    ];
+    for (name, distance) in names.iter().zip(&distances) {
+        print_pair(name, distance);
+    }
+}
+
 pub fn print(seed: u64, count: u64) {
     compare("as a studio plays", Scene::studio, seed, count);
     compare("all over the limits", Scene::anywhere, seed, count);
     copied(seed, count);
+    same_text(seed, count);
 }
