@@ -18,7 +18,7 @@ struct Row {
     used: (f32, f32),
 }
 
-const ROWS: [Row; 12] = [
+const ROWS: [Row; 14] = [
     Row {
         name: "exp2",
         agreed: agreed::exp2,
@@ -103,6 +103,20 @@ const ROWS: [Row; 12] = [
         domain: (f32::MIN, f32::MAX),
         used: (-16.0, 16.0),
     },
+    Row {
+        name: "min(x, 0)",
+        agreed: |x| agreed::min(x, 0.0),
+        rust: |x| rust::min(x, 0.0),
+        domain: (f32::MIN, f32::MAX),
+        used: (-16.0, 16.0),
+    },
+    Row {
+        name: "clamp 0..1",
+        agreed: |x| agreed::clamp(x, 0.0, 1.0),
+        rust: |x| rust::clamp(x, 0.0, 1.0),
+        domain: (f32::MIN, f32::MAX),
+        used: (-2.0, 2.0),
+    },
 ];
 
 /// Exponents of 2 by their nearness to 0.
@@ -146,6 +160,24 @@ fn print_row(name: &str, range: &str, distance: &Distance) {
     );
 }
 
+/// Where the definitions end and std's functions go on.
+fn print_ends() {
+    println!("\nBeyond the domains:");
+    let ends: [(usize, &[f32]); 4] = [
+        (0, &[-126.5, -149.0, 128.0, f32::INFINITY, f32::NAN]),
+        (3, &[0.0, f32::from_bits(1), -1.0, f32::INFINITY, f32::NAN]),
+        (5, &[-1.0e-30, 1.0e9, f32::INFINITY, f32::NAN]),
+        (6, &[-1.0e-30, 1.0e9, f32::INFINITY, f32::NAN]),
+    ];
+    for (row, arguments) in ends {
+        let row = &ROWS[row];
+        for &x in arguments {
+            let (agreed, rust) = (both((row.agreed)(x)), both((row.rust)(x)));
+            println!("{:<11}{}: agreed {agreed}, std {rust}", row.name, both(x));
+        }
+    }
+}
+
 pub fn print(seed: u64, draws: u64) {
     println!("\n## Functions beside std's, {draws} arguments each");
     println!(
@@ -177,4 +209,5 @@ pub fn print(seed: u64, draws: u64) {
         let (agreed, rust) = (both((row.agreed)(x)), both((row.rust)(x)));
         println!("{:<11}{}: agreed {agreed}, std {rust}", row.name, both(x));
     }
+    print_ends();
 }

@@ -11,6 +11,7 @@ mod causes;
 mod functions;
 mod masks;
 mod measure;
+mod refused;
 mod twins;
 
 use std::process::ExitCode;
@@ -26,6 +27,7 @@ fn main() -> ExitCode {
     };
     masks::print(seed, count);
     causes::print(seed, count);
+    refused::print();
     functions::print(seed, count * 1000);
     calls::print(seed, count);
     ExitCode::SUCCESS
