@@ -1,5 +1,5 @@
-//! The judge of the port: the Rust that is ported, with the functions of document 01 put for its
-//! library calls, the plain way always, and the refusals of document 01's table.
+//! What the port is compared with: the Rust that is ported, with the functions of document 01 put
+//! for its library calls, the plain way always, and the refusals of document 01's table.
 
 #![forbid(unsafe_code)]
 

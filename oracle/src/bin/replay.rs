@@ -10,8 +10,6 @@ use oracle::lists::{ALL, List, Named};
 use std::path::{Path, PathBuf};
 use std::process::ExitCode;
 
-const USAGE: &str = "usage: replay [--check | --into FOLDER] [NAME ..]";
-
 fn files(folder: &Path, named: &Named) -> [PathBuf; 2] {
     let own = folder.join(format!("replay_{}", named.name));
     [own.join("data").join("calls.bin"), own.join("stdout")]
@@ -30,45 +28,62 @@ fn differs(paths: &[PathBuf; 2], list: &List) -> bool {
     !(same(&paths[0], &list.calls) && same(&paths[1], list.stdout.as_bytes()))
 }
 
-fn main() -> ExitCode {
-    let mut words: Vec<String> = std::env::args().skip(1).collect();
-    let crates = Path::new(env!("CARGO_MANIFEST_DIR")).join("../crates");
-    let check = words.first().is_some_and(|word| word == "--check");
-    let elsewhere = words.first().is_some_and(|word| word == "--into");
-    let folder = if elsewhere && words.len() > 1 {
-        PathBuf::from(&words[1])
-    } else {
-        crates
-    };
-    let taken = if elsewhere { 2 } else { usize::from(check) };
-    let known = |word: &String| ALL.iter().any(|named| named.name == word);
-    if words.len() < taken || !words[taken..].iter().all(known) {
-        eprintln!("{USAGE}");
-        return ExitCode::from(2);
-    }
-    words.drain(..taken);
-    let mut differing = 0;
-    for named in &ALL {
-        let paths = files(&folder, named);
-        let wanted = if words.is_empty() {
-            elsewhere || paths[0].exists()
-        } else {
-            words.iter().any(|word| word == named.name)
+/// What the words of the command ask for.
+struct Order {
+    folder: PathBuf,
+    check: bool,
+    /// Whether a list is wanted that is not in the folder yet.
+    new: bool,
+    names: Vec<String>,
+}
+
+impl Order {
+    fn of(words: &[&str]) -> Option<Self> {
+        let crates = Path::new(env!("CARGO_MANIFEST_DIR")).join("../crates");
+        let (folder, check, new, names) = match words {
+            ["--into", folder, names @ ..] => (PathBuf::from(folder), false, true, names),
+            ["--check", names @ ..] => (crates, true, !names.is_empty(), names),
+            names => (crates, false, !names.is_empty(), names),
         };
-        if !wanted {
-            continue;
-        }
-        let list = (named.write)();
-        let calls = list.stdout.lines().count();
-        if !check {
-            write(&paths, &list).expect("the folder can be written");
-            println!("{}: {calls} lines written", named.name);
-        } else if differs(&paths, &list) {
-            differing += 1;
-            println!("{}: differs from the list of today", named.name);
-        } else {
-            println!("{}: {calls} lines as today", named.name);
-        }
+        let known = |name: &&str| ALL.iter().any(|named| named.name == *name);
+        names.iter().all(known).then(|| Self {
+            folder,
+            check,
+            new,
+            names: names.iter().map(|name| name.to_string()).collect(),
+        })
     }
-    ExitCode::from(u8::from(differing > 0))
+
+    fn wants(&self, named: &Named) -> bool {
+        let chosen = self.names.is_empty() || self.names.iter().any(|name| name == named.name);
+        chosen && (self.new || files(&self.folder, named)[0].exists())
+    }
+
+    /// Writes or checks a list, and says whether it is as it should be.
+    fn carry_out(&self, named: &Named) -> bool {
+        let (paths, list) = (files(&self.folder, named), (named.write)());
+        let (name, lines) = (named.name, list.stdout.lines().count());
+        if !self.check {
+            write(&paths, &list).expect("the folder can be written");
+            println!("{name}: {lines} lines written");
+        } else if differs(&paths, &list) {
+            println!("{name}: differs from the list of today");
+            return false;
+        } else {
+            println!("{name}: {lines} lines as today");
+        }
+        true
+    }
+}
+
+fn main() -> ExitCode {
+    let words: Vec<String> = std::env::args().skip(1).collect();
+    let words: Vec<&str> = words.iter().map(String::as_str).collect();
+    let Some(order) = Order::of(&words) else {
+        eprintln!("usage: replay [--check | --into FOLDER] [NAME ..]");
+        return ExitCode::from(2);
+    };
+    let wanted = ALL.iter().filter(|named| order.wants(named));
+    let failed = wanted.filter(|named| !order.carry_out(named)).count();
+    ExitCode::from(u8::from(failed > 0))
 }

@@ -1,7 +1,7 @@
 //! The calls below the mask builders, on accepted input, beside the unaltered Rust's.
 
 use crate::measure::Distance;
-use crate::twins;
+use crate::variants;
 use oracle::random::Random;
 use oracle::scenes;
 use oracle::spectral_dsp::{MANUAL_MASK_POINTS, MotionConfig};
@@ -128,7 +128,11 @@ pub fn print(seed: u64, count: u64) {
         let given = Given::draw(&mut random);
         let rust = answers!(&given, original_oiko, original);
         let port = answers!(&given, oracle::oiko_dsp, oracle::spectral_dsp);
-        let same = answers!(&given, twins::plain::oiko_dsp, twins::plain::spectral_dsp);
+        let same = answers!(
+            &given,
+            variants::plain::oiko_dsp,
+            variants::plain::spectral_dsp
+        );
         for call in 0..NAMES.len() {
             for (index, &a) in rust[call].iter().enumerate() {
                 agreed[call].count(a, port[call][index], &String::new);

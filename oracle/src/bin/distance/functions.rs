@@ -1,7 +1,7 @@
 //! Each function beside std's.
 
 use crate::measure::{Distance, both};
-use crate::twins::std_functions as rust;
+use crate::variants::std_functions as rust;
 use oracle::functions as agreed;
 use oracle::numbers::bits_of;
 use oracle::random::Random;

@@ -12,7 +12,7 @@ mod functions;
 mod masks;
 mod measure;
 mod refused;
-mod twins;
+mod variants;
 
 use std::process::ExitCode;
 

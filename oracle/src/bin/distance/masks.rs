@@ -1,7 +1,7 @@
 //! Whole stereo masks over random scenes, and which cause parts them.
 
 use crate::measure::Distance;
-use crate::twins;
+use crate::variants;
 use oracle::random::Random;
 use oracle::scenes::Scene;
 
@@ -100,23 +100,23 @@ pub fn agreed(scene: &Scene) -> Masks {
 
 /// The unaltered Rust, but the plain way always.
 pub fn plain(scene: &Scene) -> Masks {
-    stereo!(scene, twins::plain::spectral_dsp)
+    stereo!(scene, variants::plain::spectral_dsp)
 }
 
 fn powers(scene: &Scene) -> Masks {
-    stereo!(scene, twins::powers::spectral_dsp)
+    stereo!(scene, variants::powers::spectral_dsp)
 }
 
 fn logarithms(scene: &Scene) -> Masks {
-    stereo!(scene, twins::logarithms::spectral_dsp)
+    stereo!(scene, variants::logarithms::spectral_dsp)
 }
 
 fn sines(scene: &Scene) -> Masks {
-    stereo!(scene, twins::sines::spectral_dsp)
+    stereo!(scene, variants::sines::spectral_dsp)
 }
 
 fn extremes(scene: &Scene) -> Masks {
-    stereo!(scene, twins::extremes::spectral_dsp)
+    stereo!(scene, variants::extremes::spectral_dsp)
 }
 
 type Run = fn(&Scene) -> Masks;
@@ -215,7 +215,7 @@ fn same_text(seed: u64, count: u64) {
         let others_rate = random.pick(&[8_000.0, 44_100.0, 192_000.0]);
         let without = [
             mono!(&scene, original),
-            mono!(&scene, twins::plain::spectral_dsp),
+            mono!(&scene, variants::plain::spectral_dsp),
         ];
         scene.config.partials = scene.config.partials.min(2);
         let [own, other] = [unaltered(&scene), plain(&scene)];
@@ -224,7 +224,7 @@ fn same_text(seed: u64, count: u64) {
             [own.concat(), other.concat()],
             [
                 stereo_at!(&scene, others_rate, original).concat(),
-                stereo_at!(&scene, others_rate, twins::plain::spectral_dsp).concat(),
+                stereo_at!(&scene, others_rate, variants::plain::spectral_dsp).concat(),
             ],
         ];
         for (distance, [one, other]) in distances.iter_mut().zip(&pairs) {

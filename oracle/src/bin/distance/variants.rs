@@ -1,7 +1,7 @@
 //! The ported text once more, on other functions: std's, or std's with one family of document
-//! 01's among them. What a twin changes shows what that family alone changes.
+//! 01's among them. What a variant changes shows what that family alone changes.
 
-// One text is compiled on several functions, and not every twin is asked for every call.
+// One text is compiled on several functions, and not every variant is asked for every call.
 #![allow(clippy::duplicate_mod, dead_code)]
 
 /// Rust's own functions under the names of document 01's.
