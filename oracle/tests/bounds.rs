@@ -1,7 +1,7 @@
 //! Document 01's bounds, over whole numbers.
 
 use oracle::bignum::Natural;
-use oracle::calls::{build_dual_synthesis_window, note_frequency};
+use oracle::calls::{advance_note_envelopes, build_dual_synthesis_window, is_held, note_frequency};
 use oracle::random::Random;
 
 /// A float from 0 up, as a whole number of parts of 2^-149.
@@ -75,4 +75,31 @@ fn dual_window() {
         }
     }
     assert!(held > 1000);
+}
+
+/// On every frame levels stay in 0..1, and none moves away from where it is held to.
+#[test]
+fn envelopes() {
+    let mut random = Random::new(9);
+    for _ in 0..500 {
+        let size = random.pick(&[1.0, 1.0e-5, 1.0e-30]);
+        let mut bank = std::array::from_fn(|_| random.between(0.0, size));
+        for _ in 0..20 {
+            let held = std::array::from_fn(|_| random.word() as u8);
+            let elapsed = random.pick(&[0.0, 1.0e-6, 0.005, 0.1, 10.0]);
+            let fade = random.pick(&[0.0, 1.0e-38, 1.0, 100.0, 60_000.0]);
+            let (outcome, next) = advance_note_envelopes(bank, held, elapsed, fade);
+            assert_eq!(outcome, Ok(()));
+            for (note, (before, after)) in bank.into_iter().zip(next).enumerate() {
+                assert!((0.0..=1.0).contains(&after), "{before:e} {after:e}");
+                let small = before.abs() < 1.0e-6 && after == 0.0;
+                let nearer = match is_held(held, note) {
+                    true => before <= after,
+                    false => after <= before,
+                };
+                assert!(nearer || small, "{before:e} {after:e}");
+            }
+            bank = next;
+        }
+    }
 }
