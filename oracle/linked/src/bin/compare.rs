@@ -1,0 +1,199 @@
+//! Random arguments through each exported function and through the oracle, compared bit by bit.
+//!
+//!     compare SEED COUNT
+//!
+//! COUNT is the number of calls of each function. Two NaNs count as equal; any other difference
+//! in bits is a failure. Exits 1 where there is one.
+
+use linked::*;
+use oracle::functions::*;
+use oracle::numbers::bits_of;
+use oracle::random::Random;
+use std::process::ExitCode;
+
+/// The differences that are printed of a function.
+const SHOWN: u64 = 5;
+/// The numbers in a slice that is lent.
+const LENT: usize = 4096;
+
+struct Tally {
+    name: &'static str,
+    calls: u64,
+    differences: u64,
+}
+
+impl Tally {
+    fn new(name: &'static str) -> Self {
+        Self {
+            name,
+            calls: 0,
+            differences: 0,
+        }
+    }
+
+    fn count(&mut self, arguments: &[u32], port: u64, oracle: u64) {
+        self.calls += 1;
+        if port == oracle {
+            return;
+        }
+        self.differences += 1;
+        if self.differences <= SHOWN {
+            let name = self.name;
+            println!("  {name}{arguments:08x?}: port {port:08x}, oracle {oracle:08x}");
+        }
+    }
+
+    fn close(self) -> u64 {
+        let (name, calls, differences) = (self.name, self.calls, self.differences);
+        println!("{name:<16}{calls:>12} calls{differences:>10} differences");
+        differences
+    }
+}
+
+fn same(x: f32) -> u64 {
+    u64::from(bits_of(x))
+}
+
+/// An argument: three in four from all bit patterns, the rest from the numbers near 0.
+fn argument(random: &mut Random) -> u32 {
+    if random.once_in(4) {
+        random.between(-200.0, 200.0).to_bits()
+    } else {
+        random.bits()
+    }
+}
+
+/// Three arguments, now and then two of them equal or opposite.
+fn arguments(random: &mut Random) -> [u32; 3] {
+    let mut found = [0; 3].map(|_| argument(random));
+    match random.below(8) {
+        0 => found[1] = found[0],
+        1 => found[1] = found[0] ^ 1 << 31,
+        2 => found[2] = found[0],
+        3 => found[2] = found[1],
+        _ => (),
+    }
+    found
+}
+
+/// A name, the port's function over a slice, and the oracle's of one number.
+type Pair = (&'static str, All, fn(f32) -> f32);
+
+fn compare_all(seed: u64, count: u64, (name, all, of): Pair) -> u64 {
+    let mut random = Random::new(seed);
+    let mut tally = Tally::new(name);
+    while tally.calls < count {
+        let length = (count - tally.calls).min(1 + random.below(LENT) as u64);
+        let bits: Vec<u32> = (0..length).map(|_| argument(&mut random)).collect();
+        let mut xs: Vec<f32> = bits.iter().map(|&bits| f32::from_bits(bits)).collect();
+        in_place(all, &mut xs);
+        for (bits, x) in bits.into_iter().zip(xs) {
+            tally.count(&[bits], same(x), same(of(f32::from_bits(bits))));
+        }
+    }
+    tally.close()
+}
+
+/// `port` and `of` give the bits of their answers.
+fn compare_one<const N: usize>(
+    seed: u64,
+    count: u64,
+    name: &'static str,
+    port: fn([f32; N]) -> u64,
+    of: fn([f32; N]) -> u64,
+) -> u64 {
+    let mut random = Random::new(seed);
+    let mut tally = Tally::new(name);
+    for _ in 0..count {
+        let three = arguments(&mut random);
+        let bits: [u32; N] = std::array::from_fn(|index| three[index]);
+        let xs = bits.map(f32::from_bits);
+        tally.count(&bits, port(xs), of(xs));
+    }
+    tally.close()
+}
+
+fn compare_numbers(seed: u64, count: u64) -> u64 {
+    let all: [Pair; 12] = [
+        ("exp2", dovetable_exp2_all, exp2),
+        ("log2", dovetable_log2_all, log2),
+        ("sin", dovetable_sin_all, sin),
+        ("cos", dovetable_cos_all, cos),
+        ("sqrt", dovetable_sqrt_all, sqrt),
+        ("pow10", dovetable_pow10_all, pow10),
+        ("exp", dovetable_exp_all, exp),
+        ("log10", dovetable_log10_all, log10),
+        ("rem_euclid", dovetable_rem_euclid_all, rem_euclid),
+        ("powi2", dovetable_powi2_all, powi2),
+        ("powi5", dovetable_powi5_all, powi5),
+        ("abs", dovetable_abs_all, abs),
+    ];
+    let mut differences = 0;
+    for pair in all {
+        differences += compare_all(seed, count, pair);
+    }
+    differences
+        + compare_one(
+            seed,
+            count,
+            "max",
+            |[a, b]| same(dovetable_max(a, b)),
+            |[a, b]| same(max(a, b)),
+        )
+        + compare_one(
+            seed,
+            count,
+            "min",
+            |[a, b]| same(dovetable_min(a, b)),
+            |[a, b]| same(min(a, b)),
+        )
+        + compare_one(
+            seed,
+            count,
+            "clamp",
+            |[x, low, high]| same(dovetable_clamp(x, low, high)),
+            |[x, low, high]| same(clamp(x, low, high)),
+        )
+        + compare_one(
+            seed,
+            count,
+            "floor_to_count",
+            |[x]| dovetable_floor_to_count(x) as u64,
+            |[x]| floor_to_count(x) as u64,
+        )
+        + compare_one(
+            seed,
+            count,
+            "ceil_to_count",
+            |[x]| dovetable_ceil_to_count(x) as u64,
+            |[x]| ceil_to_count(x) as u64,
+        )
+        + compare_one(
+            seed,
+            count,
+            "bits_of",
+            |[x]| u64::from(dovetable_bits_of(x)),
+            |[x]| same(x),
+        )
+        + compare_one(
+            seed,
+            count,
+            "of_bits",
+            |[x]| same(dovetable_of_bits(x.to_bits())),
+            |[x]| same(x),
+        )
+}
+
+fn main() -> ExitCode {
+    let numbers: Vec<u64> = std::env::args()
+        .skip(1)
+        .flat_map(|word| word.parse())
+        .collect();
+    let &[seed, count] = numbers.as_slice() else {
+        eprintln!("usage: compare SEED COUNT");
+        return ExitCode::from(2);
+    };
+    let differences = compare_numbers(seed, count);
+    println!("{differences} differences");
+    ExitCode::from(u8::from(differences > 0))
+}

@@ -1,0 +1,252 @@
+//! Whole stereo masks over random scenes, and which cause parts them.
+
+use crate::measure::Distance;
+use crate::variants;
+use oracle::random::Random;
+use oracle::scenes::Scene;
+
+pub type Masks = [Vec<f32>; 2];
+
+/// A scene in the types of one of the modules that hold the ported text.
+macro_rules! given {
+    ($scene:expr, $($dsp:ident)::+) => {{
+        use $($dsp)::+ as dsp;
+        let scene: &Scene = $scene;
+        let shapes = [
+            dsp::MotionShape::Ripple,
+            dsp::MotionShape::Harmonic,
+            dsp::MotionShape::Drift,
+            dsp::MotionShape::Scan,
+            dsp::MotionShape::Notch,
+            dsp::MotionShape::Saw,
+            dsp::MotionShape::Sprinkle,
+            dsp::MotionShape::Cloud,
+        ];
+        let config = dsp::MaskConfig {
+            sample_rate: scene.config.sample_rate,
+            fft_size: scene.config.fft_size,
+            note_depth_db: scene.config.note_depth_db,
+            note_layer_enabled: scene.config.note_layer_enabled,
+            width_cents: scene.config.width_cents,
+            partials: scene.config.partials,
+            harmonic_rolloff_db_per_octave: scene.config.harmonic_rolloff_db_per_octave,
+            motion: dsp::MotionConfig {
+                shape: shapes[scene.config.motion.shape as usize],
+                depth_db: scene.config.motion.depth_db,
+                phase: scene.config.motion.phase,
+                size_octaves: scene.config.motion.size_octaves,
+            },
+        };
+        let voices: Vec<dsp::MaskVoice> = scene
+            .voices
+            .iter()
+            .map(|voice| dsp::MaskVoice {
+                note: voice.note,
+                level: voice.level,
+                tuning_semitones: voice.tuning_semitones,
+                pressure: voice.pressure,
+                timbre: voice.timbre,
+                volume_gain: voice.volume_gain,
+                expression_gain: voice.expression_gain,
+                pan: voice.pan,
+            })
+            .collect();
+        let curve: &[f32; dsp::MANUAL_MASK_POINTS] =
+            scene.curve.as_slice().try_into().expect("a whole curve");
+        (config, voices, curve)
+    }};
+}
+
+/// The stereo call, on a table that the module prepares at a rate.
+macro_rules! stereo_at {
+    ($scene:expr, $rate:expr, $($dsp:ident)::+) => {{
+        use $($dsp)::+ as dsp;
+        let (config, voices, curve) = given!($scene, $($dsp)::+);
+        let mut workspace = dsp::MaskWorkspace::default();
+        workspace.prepare($rate, config.fft_size);
+        let mut left = vec![0.0; config.fft_size / 2 + 1];
+        let mut right = left.clone();
+        dsp::build_stereo_masks_with_voices_precomputed(
+            &mut left, &mut right, curve, &voices, config, &workspace,
+        );
+        [left, right]
+    }};
+}
+
+macro_rules! stereo {
+    ($scene:expr, $($dsp:ident)::+) => {
+        stereo_at!($scene, $scene.config.sample_rate, $($dsp)::+)
+    };
+}
+
+/// The call without a table.
+macro_rules! mono {
+    ($scene:expr, $($dsp:ident)::+) => {{
+        use $($dsp)::+ as dsp;
+        let (config, voices, curve) = given!($scene, $($dsp)::+);
+        let mut output = vec![0.0; config.fft_size / 2 + 1];
+        dsp::build_mask_with_voices(&mut output, curve, &voices, config);
+        output
+    }};
+}
+
+pub fn unaltered(scene: &Scene) -> Masks {
+    stereo!(scene, original)
+}
+
+pub fn agreed(scene: &Scene) -> Masks {
+    stereo!(scene, oracle::spectral_dsp)
+}
+
+/// The unaltered Rust, but the plain way always.
+pub fn plain(scene: &Scene) -> Masks {
+    stereo!(scene, variants::plain::spectral_dsp)
+}
+
+fn powers(scene: &Scene) -> Masks {
+    stereo!(scene, variants::powers::spectral_dsp)
+}
+
+fn logarithms(scene: &Scene) -> Masks {
+    stereo!(scene, variants::logarithms::spectral_dsp)
+}
+
+fn sines(scene: &Scene) -> Masks {
+    stereo!(scene, variants::sines::spectral_dsp)
+}
+
+fn extremes(scene: &Scene) -> Masks {
+    stereo!(scene, variants::extremes::spectral_dsp)
+}
+
+type Run = fn(&Scene) -> Masks;
+
+/// Two builds whose masks are compared, and what parts them.
+const PAIRS: [(&str, Run, Run); 7] = [
+    ("the whole distance: unaltered, agreed", unaltered, agreed),
+    ("compact way: unaltered, plain on std", unaltered, plain),
+    ("all functions: plain on std, agreed", plain, agreed),
+    ("powers alone", plain, powers),
+    ("logarithms alone", plain, logarithms),
+    ("sine and cosine alone", plain, sines),
+    ("max, min, clamp, sums and the rest", plain, extremes),
+];
+
+pub fn describe(number: u64, side: usize, bin: usize, scene: &Scene) -> String {
+    let config = &scene.config;
+    format!(
+        "scene {number}, {} bin {bin} of size {} at {} Hz, width {}, partials {}, voices {}",
+        ["left", "right"][side],
+        config.fft_size,
+        config.sample_rate,
+        config.width_cents,
+        config.partials,
+        scene.voices.len()
+    )
+}
+
+fn print_pair(name: &str, distance: &Distance) {
+    let (pairs, share) = (distance.pairs, distance.share());
+    println!("{name}");
+    println!(
+        "    bins {pairs}, differing {} ({share:.4} %)",
+        distance.differing
+    );
+    if distance.differing == 0 {
+        return;
+    }
+    let [fine, audible, gross] = distance.beyond;
+    println!("    over 0.001 dB {fine}, over 0.1 dB {audible}, over 10 dB {gross}");
+    let (absolute, decibels) = (&distance.absolute, &distance.decibels);
+    println!("    largest in gain {:.6}: {}", absolute.size, absolute.at);
+    println!(
+        "    largest in decibels {:.4}: {}",
+        decibels.size, decibels.at
+    );
+}
+
+fn compare(name: &str, draw: fn(&mut Random) -> Scene, seed: u64, count: u64) {
+    println!("\n## Whole stereo masks, {count} scenes, {name}");
+    let mut distances = vec![Distance::default(); PAIRS.len()];
+    let mut random = Random::new(seed);
+    for number in 0..count {
+        let scene = draw(&mut random);
+        for (distance, (_, first, second)) in distances.iter_mut().zip(PAIRS) {
+            let (one, other) = (first(&scene), second(&scene));
+            for side in [0, 1] {
+                for (bin, (&a, &b)) in one[side].iter().zip(&other[side]).enumerate() {
+                    distance.count(a, b, &|| describe(number, side, bin, &scene));
+                }
+            }
+        }
+    }
+    for (distance, (name, ..)) in distances.iter().zip(PAIRS) {
+        print_pair(name, distance);
+    }
+}
+
+/// Where every pan is 0 of either sign, the Rust copies the right from the left: the plain way,
+/// which builds both, writes the same.
+fn copied(seed: u64, count: u64) {
+    let mut random = Random::new(seed);
+    let mut distance = Distance::default();
+    for number in 0..count {
+        let mut scene = Scene::anywhere(&mut random);
+        for voice in &mut scene.voices {
+            voice.pan = random.pick(&[0.0, -0.0]);
+        }
+        let [left, right] = plain(&scene);
+        for (bin, (&a, &b)) in left.iter().zip(&right).enumerate() {
+            distance.count(a, b, &|| describe(number, 1, bin, &scene));
+        }
+    }
+    println!("\n## Left and right built apart, {count} scenes with every pan 0 or -0");
+    print_pair("the copied right channel", &distance);
+}
+
+/// With two partials at most the compact way is never cheaper, and without a table never taken:
+/// there the ported text on std's functions writes what the unaltered Rust writes.
+fn same_text(seed: u64, count: u64) {
+    let mut random = Random::new(seed);
+    let mut distances = vec![Distance::default(); 3];
+    for number in 0..count {
+        let mut scene = Scene::anywhere(&mut random);
+        scene.voices.truncate(8);
+        let others_rate = random.pick(&[8_000.0, 44_100.0, 192_000.0]);
+        let without = [
+            mono!(&scene, original),
+            mono!(&scene, variants::plain::spectral_dsp),
+        ];
+        scene.config.partials = scene.config.partials.min(2);
+        let [own, other] = [unaltered(&scene), plain(&scene)];
+        let pairs = [
+            without,
+            [own.concat(), other.concat()],
+            [
+                stereo_at!(&scene, others_rate, original).concat(),
+                stereo_at!(&scene, others_rate, variants::plain::spectral_dsp).concat(),
+            ],
+        ];
+        for (distance, [one, other]) in distances.iter_mut().zip(&pairs) {
+            for (bin, (&a, &b)) in one.iter().zip(other).enumerate() {
+                distance.count(a, b, &|| describe(number, 0, bin, &scene));
+            }
+        }
+    }
+    println!("\n## The ported text on std's functions, {count} scenes without the compact way");
+    let names = [
+        "no table",
+        "two partials at most",
+        "a table of another rate",
+    ];
+    for (name, distance) in names.iter().zip(&distances) {
+        print_pair(name, distance);
+    }
+}
+
+pub fn print(seed: u64, count: u64) {
+    compare("as a studio plays", Scene::studio, seed, count);
+    compare("all over the limits", Scene::anywhere, seed, count);
+    copied(seed, count);
+    same_text(seed, count);
+}

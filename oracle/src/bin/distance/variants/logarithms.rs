@@ -1,0 +1,11 @@
+//! On std's functions, but document 01's logarithms.
+
+pub mod functions {
+    pub use super::super::std_functions::*;
+    pub use oracle::functions::{log2, log10};
+}
+
+#[path = "../../../oiko_dsp/lib.rs"]
+pub mod oiko_dsp;
+#[path = "../../../spectral_dsp/lib.rs"]
+pub mod spectral_dsp;

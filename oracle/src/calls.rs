@@ -1,0 +1,253 @@
+//! The open calls: each tests its own input in the order of the refusals' numbers, and then does
+//! what the Rust does. A refused call changes nothing.
+
+use crate::refusals::{self as refuse, Outcome, Refusal, within};
+use crate::spectral_dsp::{
+    self as dsp, MANUAL_MASK_POINTS, MIDI_NOTES, MaskConfig, MaskVoice, MaskWorkspace,
+    MotionConfig, processing,
+};
+
+/// What a call for a single number answers.
+pub type Answer = Result<f32, Refusal>;
+
+pub fn db_to_gain(db: f32) -> Answer {
+    refuse::setting(within(db, refuse::DECIBELS))?;
+    Ok(crate::oiko_dsp::db_to_gain(db))
+}
+
+pub fn note_frequency(note: u8) -> Answer {
+    refuse::setting(note <= refuse::MAX_NOTE)?;
+    Ok(crate::oiko_dsp::note_frequency(note))
+}
+
+pub fn note_frequency_with_tuning(note: u8, tuning_semitones: f32) -> Answer {
+    refuse::setting(note <= refuse::MAX_NOTE)?;
+    refuse::setting(within(tuning_semitones, refuse::TUNING))?;
+    Ok(crate::oiko_dsp::note_frequency_with_tuning(
+        note,
+        tuning_semitones,
+    ))
+}
+
+pub fn note_emphasis_gain(width_cents: f32) -> Answer {
+    refuse::setting(within(width_cents, refuse::WIDTH))?;
+    Ok(dsp::note_emphasis_gain(width_cents))
+}
+
+pub fn note_gate_gain(note_depth_db: f32, width_cents: f32, openness: f32) -> Answer {
+    refuse::setting(within(note_depth_db, refuse::NOTE_DEPTH))?;
+    refuse::setting(within(width_cents, refuse::WIDTH))?;
+    refuse::setting(openness.is_finite())?;
+    Ok(dsp::note_gate_gain(note_depth_db, width_cents, openness))
+}
+
+/// The curve as the Rust takes it, once its length is tested.
+fn whole_curve(manual_mask_db: &[f32]) -> &[f32; MANUAL_MASK_POINTS] {
+    manual_mask_db.try_into().expect("the length was tested")
+}
+
+pub fn manual_gain_at_bin(mask_db: &[f32], bin: usize, fft_size: usize) -> Answer {
+    refuse::size(fft_size)?;
+    refuse::setting(bin <= refuse::MAX_BIN)?;
+    refuse::length(mask_db.len() == MANUAL_MASK_POINTS)?;
+    Ok(dsp::manual_gain_at_bin(whole_curve(mask_db), bin, fft_size))
+}
+
+pub fn motion_openness(frequency: f32, config: MotionConfig) -> Answer {
+    refuse::setting(within(frequency, refuse::FREQUENCY))?;
+    refuse::motion(config)?;
+    Ok(dsp::motion_openness(frequency, config))
+}
+
+pub fn motion_attenuation_db(frequency: f32, config: MotionConfig) -> Answer {
+    refuse::setting(within(frequency, refuse::FREQUENCY))?;
+    refuse::motion(config)?;
+    Ok(dsp::motion_attenuation_db(frequency, config))
+}
+
+pub fn motion_compensation_gain(config: MotionConfig) -> Answer {
+    refuse::motion(config)?;
+    Ok(dsp::motion_compensation_gain(config))
+}
+
+/// Whether a note is held: the most significant bit comes first.
+pub fn is_held(held: [u8; 16], note: usize) -> bool {
+    held[note / 8] >> (7 - note % 8) & 1 == 1
+}
+
+/// The bank goes in by value and comes back beside the outcome, as it came where it is refused.
+pub fn advance_note_envelopes(
+    mut levels: [f32; MIDI_NOTES],
+    held: [u8; 16],
+    elapsed_seconds: f32,
+    fade_ms: f32,
+) -> (Outcome, [f32; MIDI_NOTES]) {
+    let tests = || {
+        refuse::setting(within(elapsed_seconds, refuse::ELAPSED))?;
+        refuse::setting(within(fade_ms, refuse::FADE))?;
+        refuse::values(&levels, refuse::LEVEL)
+    };
+    let outcome = tests();
+    if outcome.is_ok() {
+        let held = std::array::from_fn(|note| is_held(held, note));
+        dsp::advance_note_envelopes(&mut levels, &held, elapsed_seconds, fade_ms);
+    }
+    (outcome, levels)
+}
+
+/// `MaskWorkspace::prepare` on a lent table.
+pub fn prepare(table: &mut [f32], sample_rate: f32, fft_size: usize) -> Outcome {
+    refuse::size_and_rate(fft_size, sample_rate)?;
+    refuse::length(table.len() == fft_size / 2 + 1)?;
+    let mut workspace = MaskWorkspace::default();
+    workspace.prepare(sample_rate, fft_size);
+    table.copy_from_slice(&workspace.bin_log2_hz);
+    Ok(())
+}
+
+pub fn build_mask(
+    output: &mut [f32],
+    manual_mask_db: &[f32],
+    note_levels: &[f32],
+    config: MaskConfig,
+) -> Outcome {
+    refuse::config(config)?;
+    refuse::length(output.len() == config.fft_size / 2 + 1)?;
+    refuse::length(manual_mask_db.len() == MANUAL_MASK_POINTS)?;
+    refuse::length(note_levels.len() == MIDI_NOTES)?;
+    refuse::values(note_levels, refuse::LEVEL)?;
+    let note_levels = note_levels.try_into().expect("the length was tested");
+    dsp::build_mask(output, whole_curve(manual_mask_db), note_levels, config);
+    Ok(())
+}
+
+pub fn build_mask_with_voices(
+    output: &mut [f32],
+    manual_mask_db: &[f32],
+    voices: &[MaskVoice],
+    config: MaskConfig,
+) -> Outcome {
+    refuse::config(config)?;
+    refuse::count(voices)?;
+    refuse::length(output.len() == config.fft_size / 2 + 1)?;
+    refuse::length(manual_mask_db.len() == MANUAL_MASK_POINTS)?;
+    refuse::voices(voices)?;
+    dsp::build_mask_with_voices(output, whole_curve(manual_mask_db), voices, config);
+    Ok(())
+}
+
+pub fn build_mask_with_voices_precomputed(
+    output: &mut [f32],
+    manual_mask_db: &[f32],
+    voices: &[MaskVoice],
+    config: MaskConfig,
+    table: &[f32],
+) -> Outcome {
+    refuse::config(config)?;
+    refuse::count(voices)?;
+    refuse::length(output.len() == config.fft_size / 2 + 1)?;
+    refuse::length(manual_mask_db.len() == MANUAL_MASK_POINTS)?;
+    refuse::length(table.len() == config.fft_size / 2 + 1)?;
+    refuse::voices(voices)?;
+    refuse::table(table)?;
+    dsp::build_mask_with_voices_precomputed(
+        output,
+        whole_curve(manual_mask_db),
+        voices,
+        config,
+        &MaskWorkspace::lent(table),
+    );
+    Ok(())
+}
+
+pub fn build_stereo_masks_with_voices_precomputed(
+    left: &mut [f32],
+    right: &mut [f32],
+    manual_mask_db: &[f32],
+    voices: &[MaskVoice],
+    config: MaskConfig,
+    table: &[f32],
+) -> Outcome {
+    refuse::config(config)?;
+    refuse::count(voices)?;
+    refuse::length(left.len() == config.fft_size / 2 + 1)?;
+    refuse::length(right.len() == config.fft_size / 2 + 1)?;
+    refuse::length(manual_mask_db.len() == MANUAL_MASK_POINTS)?;
+    refuse::length(table.len() == config.fft_size / 2 + 1)?;
+    refuse::voices(voices)?;
+    refuse::table(table)?;
+    dsp::build_stereo_masks_with_voices_precomputed(
+        left,
+        right,
+        whole_curve(manual_mask_db),
+        voices,
+        config,
+        &MaskWorkspace::lent(table),
+    );
+    Ok(())
+}
+
+pub fn build_dual_synthesis_window(
+    analysis: &[f32],
+    synthesis: &mut [f32],
+    overlap: usize,
+) -> Outcome {
+    refuse::length((1..=refuse::MAX_WINDOW).contains(&analysis.len()))?;
+    refuse::length(analysis.len() == synthesis.len())?;
+    refuse::values(analysis, refuse::WINDOW)?;
+    refuse::overlap(overlap, analysis.len())?;
+    processing::build_dual_synthesis_window(analysis, synthesis, overlap);
+    Ok(())
+}
+
+pub fn soften_spectral_edges(source: &[f32], output: &mut [f32]) -> Outcome {
+    refuse::length(source.len() <= refuse::MAX_GAINS)?;
+    refuse::length(source.len() == output.len())?;
+    refuse::values(source, refuse::GAIN)?;
+    processing::soften_spectral_edges(source, output);
+    Ok(())
+}
+
+pub fn smooth_mask_in_db(current: &mut [f32], target: &[f32], elapsed_seconds: f32) -> Outcome {
+    refuse::setting(within(elapsed_seconds, refuse::ELAPSED))?;
+    refuse::length(current.len() <= refuse::MAX_GAINS)?;
+    refuse::length(current.len() == target.len())?;
+    refuse::value_pairs(current, target, refuse::GAIN)?;
+    processing::smooth_mask_in_db(current, target, elapsed_seconds);
+    Ok(())
+}
+
+/// `PreparedSpectrum::new`, which fills one lent block with the window, its dual, the smooth
+/// window, its dual and the logarithms, and answers both coherent gains.
+pub fn prepared_spectrum_new(
+    sample_rate: f32,
+    window: &[f32],
+    smooth_analysis_window: &[f32],
+    overlap: usize,
+    block: &mut [f32],
+) -> Result<[f32; 2], Refusal> {
+    let size = window.len();
+    refuse::size_and_rate(size, sample_rate)?;
+    refuse::length(smooth_analysis_window.len() == size)?;
+    refuse::length(block.len() == 4 * size + size / 2 + 1)?;
+    refuse::value_pairs(window, smooth_analysis_window, refuse::WINDOW)?;
+    refuse::overlap(overlap, size)?;
+    let prepared = processing::PreparedSpectrum::new(
+        sample_rate,
+        window.to_vec(),
+        smooth_analysis_window.to_vec(),
+        overlap,
+    );
+    let parts = [
+        prepared.window,
+        prepared.synthesis_window,
+        prepared.smooth_analysis_window,
+        prepared.smooth_synthesis_window,
+        prepared.mask_workspace.bin_log2_hz,
+    ];
+    block.copy_from_slice(&parts.concat());
+    Ok([
+        prepared.window_coherent_gain,
+        prepared.smooth_window_coherent_gain,
+    ])
+}

@@ -1,0 +1,136 @@
+//! Replay lists: calls as bytes, and the text that a program which makes them has to print.
+//! The formats are stated in the folder's README.md.
+
+mod masks;
+mod numbers;
+mod oiko_dsp;
+mod processing;
+mod slices;
+mod spectral_dsp;
+
+use crate::calls::Answer;
+use crate::numbers::bits_of;
+use crate::refusals::{Outcome, Refusal};
+use slices::Slice;
+
+/// A list's two files.
+#[derive(Default)]
+pub struct List {
+    pub calls: Vec<u8>,
+    pub stdout: String,
+}
+
+/// A replay program holds no more bytes of calls than this.
+pub const LARGEST: usize = 65_536;
+
+impl List {
+    fn word(&mut self, word: u32) {
+        self.calls.extend(word.to_be_bytes());
+    }
+
+    fn words(&mut self, words: &[u32]) {
+        words.iter().for_each(|&word| self.word(word));
+    }
+
+    fn float(&mut self, x: f32) {
+        self.word(x.to_bits());
+    }
+
+    fn floats(&mut self, xs: &[f32]) {
+        xs.iter().for_each(|&x| self.float(x));
+    }
+
+    fn slices(&mut self, slices: &[Slice]) {
+        slices.iter().for_each(|slice| slice.words(self));
+    }
+
+    fn line(&mut self, line: &str) {
+        self.stdout.push_str(line);
+        self.stdout.push('\n');
+    }
+
+    /// Adds a record if there is room for it, and says whether there was.
+    fn add(&mut self, record: List) -> bool {
+        let room = self.calls.len() + record.calls.len() <= LARGEST;
+        if room {
+            self.calls.extend(record.calls);
+            self.stdout.push_str(&record.stdout);
+        }
+        room
+    }
+
+    /// Adds records, and says whether there was room for all.
+    fn add_all<const N: usize>(&mut self, records: [List; N]) -> bool {
+        records.into_iter().all(|record| self.add(record))
+    }
+}
+
+fn float_text(x: f32) -> String {
+    format!("{:08x}", bits_of(x))
+}
+
+fn refusal_text(refusal: Refusal) -> String {
+    format!("refused {} {}", refusal.number, refusal.place)
+}
+
+fn answer_text(answer: Answer) -> String {
+    answer.map_or_else(refusal_text, float_text)
+}
+
+fn outcome_text(outcome: Outcome) -> String {
+    outcome.map_or_else(refusal_text, |()| "done".to_string())
+}
+
+/// The ends of limits, one step past each, and the numbers that lie in no limits.
+fn around_limits((low, high): (f32, f32)) -> Vec<f32> {
+    let middle = low + (high - low) / 2.0;
+    let inside = [low, low.next_up(), middle, high.next_down(), high];
+    let outside = [low.next_down(), high.next_up(), -high];
+    let small = [
+        0.0,
+        -0.0,
+        f32::from_bits(1),
+        -f32::from_bits(1),
+        f32::MIN_POSITIVE,
+    ];
+    let none = [f32::NAN, f32::INFINITY, f32::NEG_INFINITY];
+    [&inside[..], &outside[..], &small[..], &none[..]].concat()
+}
+
+/// The numbers at which something that may be any finite number shows most.
+fn around_finite() -> Vec<f32> {
+    let limits = around_limits((-1.0, 1.0));
+    [&limits[..], &[f32::MAX, f32::MIN, 2.0, 0.5]].concat()
+}
+
+pub struct Named {
+    pub name: &'static str,
+    pub write: fn() -> List,
+}
+
+pub const ALL: [Named; 6] = [
+    Named {
+        name: "numbers",
+        write: numbers::list,
+    },
+    Named {
+        name: "oiko_dsp",
+        write: oiko_dsp::list,
+    },
+    Named {
+        name: "spectral_dsp",
+        write: spectral_dsp::list,
+    },
+    Named {
+        name: "processing",
+        write: processing::list,
+    },
+    Named {
+        name: "masks",
+        write: masks::list,
+    },
+    Named {
+        name: "mask_refusals",
+        write: masks::refusals,
+    },
+];

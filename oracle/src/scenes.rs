@@ -1,0 +1,149 @@
+//! Random scenes: what a mask call is given, accepted by every test.
+
+use crate::random::Random;
+use crate::refusals::{MAX_VOICES, within};
+use crate::spectral_dsp::{
+    MANUAL_MASK_POINTS, MaskConfig, MaskVoice, MaskWorkspace, MotionConfig, MotionShape,
+};
+
+pub const SHAPES: [MotionShape; 8] = [
+    MotionShape::Ripple,
+    MotionShape::Harmonic,
+    MotionShape::Drift,
+    MotionShape::Scan,
+    MotionShape::Notch,
+    MotionShape::Saw,
+    MotionShape::Sprinkle,
+    MotionShape::Cloud,
+];
+
+#[derive(Clone, Debug)]
+pub struct Scene {
+    pub config: MaskConfig,
+    pub voices: Vec<MaskVoice>,
+    pub curve: Vec<f32>,
+}
+
+impl Scene {
+    /// From all over the limits, their ends among them.
+    pub fn anywhere(random: &mut Random) -> Self {
+        let count = match random.below(16) {
+            0 => random.below(MAX_VOICES + 1),
+            1 => MAX_VOICES,
+            _ => random.pick(&[0, 1, 1, 2, 3, 6]),
+        };
+        Self {
+            config: config(random),
+            voices: (0..count).map(|_| voice(random)).collect(),
+            curve: curve(random),
+        }
+    }
+
+    /// As a studio plays: common rates and sizes, a chord of notes at their pitch, a flat curve.
+    pub fn studio(random: &mut Random) -> Self {
+        let config = MaskConfig {
+            sample_rate: random.pick(&[44_100.0, 48_000.0, 96_000.0]),
+            fft_size: 512 << random.below(6),
+            note_depth_db: random.pick(&[12.0, 24.0, 48.0, 96.0]),
+            width_cents: random.pick(&[20.0, 50.0, 100.0, 300.0, 1200.0]),
+            partials: 1 + random.below(24),
+            harmonic_rolloff_db_per_octave: random.pick(&[0.0, 3.0, 6.0, 12.0]),
+            ..MaskConfig::default()
+        };
+        let voice = |random: &mut Random| MaskVoice {
+            note: 36 + random.below(49) as u8,
+            level: random.between(0.2, 1.0),
+            pan: random.between(-1.0, 1.0),
+            ..MaskVoice::default()
+        };
+        let count = 1 + random.below(6);
+        Self {
+            config,
+            voices: (0..count).map(|_| voice(random)).collect(),
+            curve: vec![0.0; MANUAL_MASK_POINTS],
+        }
+    }
+
+    /// The frequency table prepared at the scene's rate and size.
+    pub fn table(&self) -> Vec<f32> {
+        let mut workspace = MaskWorkspace::default();
+        workspace.prepare(self.config.sample_rate, self.config.fft_size);
+        workspace.bin_log2_hz
+    }
+}
+
+/// One of the given numbers, or one from between the limits.
+fn mostly(random: &mut Random, usual: &[f32], limits: (f32, f32)) -> f32 {
+    if random.once_in(2) {
+        random.pick(usual)
+    } else {
+        random.between(limits.0, limits.1)
+    }
+}
+
+pub fn motion(random: &mut Random) -> MotionConfig {
+    MotionConfig {
+        shape: random.pick(&SHAPES),
+        depth_db: mostly(random, &[0.0, 0.001, 96.0], (0.0, 96.0)),
+        phase: mostly(random, &[0.0, 1.0, -1.0e-9, 1.0e9], (-3.0, 3.0)),
+        size_octaves: mostly(random, &[0.0, 0.05, 1.0, 100.0], (0.05, 4.0)),
+    }
+}
+
+pub fn config(random: &mut Random) -> MaskConfig {
+    let resting = MotionConfig::default();
+    let rates = [8_000.0, 44_100.0, 48_000.0, 96_000.0, 192_000.0];
+    MaskConfig {
+        sample_rate: mostly(random, &rates, (8_000.0, 192_000.0)),
+        fft_size: 64 << random.below(9),
+        note_depth_db: mostly(random, &[0.0, 24.0, 144.0], (0.0, 144.0)),
+        note_layer_enabled: !random.once_in(10),
+        width_cents: mostly(random, &[1.0, 20.0, 100.0, 1200.0], (1.0, 1200.0)),
+        partials: 1 + random.below(24),
+        harmonic_rolloff_db_per_octave: mostly(random, &[0.0, 6.0, 12.0], (0.0, 48.0)),
+        motion: if random.once_in(2) {
+            resting
+        } else {
+            motion(random)
+        },
+    }
+}
+
+pub fn voice(random: &mut Random) -> MaskVoice {
+    MaskVoice {
+        note: random.below(128) as u8,
+        level: mostly(random, &[1.0, 1.0, 1.0e-5, 0.0], (0.0, 1.0)),
+        tuning_semitones: mostly(random, &[0.0, 0.0, 0.0, 48.0, -48.0], (-48.0, 48.0)),
+        pressure: mostly(random, &[1.0], (-0.5, 1.5)),
+        timbre: mostly(random, &[0.5], (-0.5, 1.5)),
+        volume_gain: mostly(random, &[1.0, 1.0, -0.0], (-0.5, 4.0)),
+        expression_gain: mostly(random, &[1.0], (-0.5, 5.0)),
+        pan: mostly(random, &[0.0, 0.0, -0.0, 1.0, -1.0], (-1.2, 1.2)),
+    }
+}
+
+pub fn curve(random: &mut Random) -> Vec<f32> {
+    let point = |random: &mut Random| match random.below(64) {
+        0 => random.float(),
+        1 => -144.0,
+        2 => (-144.0_f32).next_up(),
+        _ => random.between(-150.0, 10.0),
+    };
+    if random.once_in(2) {
+        return vec![0.0; MANUAL_MASK_POINTS];
+    }
+    (0..MANUAL_MASK_POINTS).map(|_| point(random)).collect()
+}
+
+/// A table that is accepted and not prepared: any entries from -2 to 17, and entry 0 at will.
+pub fn unprepared(random: &mut Random, length: usize) -> Vec<f32> {
+    let (low, high) = random.pick(&[(-2.0, 17.0), (5.0, 9.0), (8.0, 8.5)]);
+    let mut table: Vec<f32> = (0..length).map(|_| random.between(low, high)).collect();
+    table[0] = random.float();
+    debug_assert!(
+        table[1..]
+            .iter()
+            .all(|&x| within(x, crate::refusals::TABLE))
+    );
+    table
+}
