@@ -2,6 +2,7 @@
 //! The formats are stated in the folder's README.md.
 
 mod masks;
+mod notes;
 mod numbers;
 mod oiko_dsp;
 mod processing;
@@ -105,32 +106,45 @@ fn around_finite() -> Vec<f32> {
 
 pub struct Named {
     pub name: &'static str,
+    /// The crate of the program that prints the list.
+    pub program: &'static str,
     pub write: fn() -> List,
 }
 
-pub const ALL: [Named; 6] = [
+pub const ALL: [Named; 7] = [
+    Named {
+        name: "notes",
+        program: "note_frequencies",
+        write: notes::list,
+    },
     Named {
         name: "numbers",
+        program: "replay_numbers",
         write: numbers::list,
     },
     Named {
         name: "oiko_dsp",
+        program: "replay_oiko_dsp",
         write: oiko_dsp::list,
     },
     Named {
         name: "spectral_dsp",
+        program: "replay_spectral_dsp",
         write: spectral_dsp::list,
     },
     Named {
         name: "processing",
+        program: "replay_processing",
         write: processing::list,
     },
     Named {
         name: "masks",
+        program: "replay_masks",
         write: masks::list,
     },
     Named {
         name: "mask_refusals",
+        program: "replay_mask_refusals",
         write: masks::refusals,
     },
 ];

@@ -10,22 +10,33 @@ use oracle::lists::{ALL, List, Named};
 use std::path::{Path, PathBuf};
 use std::process::ExitCode;
 
-fn files(folder: &Path, named: &Named) -> [PathBuf; 2] {
-    let own = folder.join(format!("replay_{}", named.name));
-    [own.join("data").join("calls.bin"), own.join("stdout")]
+fn stdout(folder: &Path, named: &Named) -> PathBuf {
+    folder.join(named.program).join("stdout")
 }
 
-fn write(paths: &[PathBuf; 2], list: &List) -> std::io::Result<()> {
-    for path in paths {
-        std::fs::create_dir_all(path.parent().expect("a file lies in a folder"))?;
+/// The files of a list with their contents. One without calls is its text alone.
+fn files(folder: &Path, named: &Named, list: &List) -> Vec<(PathBuf, Vec<u8>)> {
+    let mut files = vec![(stdout(folder, named), list.stdout.clone().into_bytes())];
+    if !list.calls.is_empty() {
+        let calls = folder.join(named.program).join("data").join("calls.bin");
+        files.push((calls, list.calls.clone()));
     }
-    std::fs::write(&paths[0], &list.calls)?;
-    std::fs::write(&paths[1], &list.stdout)
+    files
 }
 
-fn differs(paths: &[PathBuf; 2], list: &List) -> bool {
-    let same = |path: &Path, bytes: &[u8]| std::fs::read(path).is_ok_and(|found| found == bytes);
-    !(same(&paths[0], &list.calls) && same(&paths[1], list.stdout.as_bytes()))
+fn write(files: &[(PathBuf, Vec<u8>)]) -> std::io::Result<()> {
+    for (path, contents) in files {
+        std::fs::create_dir_all(path.parent().expect("a file lies in a folder"))?;
+        std::fs::write(path, contents)?;
+    }
+    Ok(())
+}
+
+fn differ(files: &[(PathBuf, Vec<u8>)]) -> bool {
+    let same = |(path, contents): &(PathBuf, Vec<u8>)| {
+        std::fs::read(path).is_ok_and(|found| found == *contents)
+    };
+    !files.iter().all(same)
 }
 
 /// What the words of the command ask for.
@@ -56,17 +67,18 @@ impl Order {
 
     fn wants(&self, named: &Named) -> bool {
         let chosen = self.names.is_empty() || self.names.iter().any(|name| name == named.name);
-        chosen && (self.new || files(&self.folder, named)[0].exists())
+        chosen && (self.new || stdout(&self.folder, named).exists())
     }
 
     /// Writes or checks a list, and says whether it is as it should be.
     fn carry_out(&self, named: &Named) -> bool {
-        let (paths, list) = (files(&self.folder, named), (named.write)());
+        let list = (named.write)();
+        let files = files(&self.folder, named, &list);
         let (name, lines) = (named.name, list.stdout.lines().count());
         if !self.check {
-            write(&paths, &list).expect("the folder can be written");
+            write(&files).expect("the folder can be written");
             println!("{name}: {lines} lines written");
-        } else if differs(&paths, &list) {
+        } else if differ(&files) {
             println!("{name}: differs from the list of today");
             return false;
         } else {
