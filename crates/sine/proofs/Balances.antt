@@ -24,10 +24,14 @@ module _ (L x y n r : ℕ) (positive : 0 < L) (hx : x * 2 ^ 24 ≡ n * L) (hy : 
       simp (mul-assoc, mul-comm, mul-left-comm) (omega (arith, simp (mul-assoc, mul-comm, mul-left-comm) at e))
 
   fewer : (a b : ℕ) → a * (r * (L * L)) ≤ b * (n * L * (L * L)) → r * a ≤ b * (n * L)
-  fewer a b h = le-of-mul-le-mul-right {k = L * L} (le-trans (le-of-eq (simp (mul-assoc, mul-comm, mul-left-comm))) (le-trans h (le-of-eq (sym (mul-assoc b (n * L) (L * L)))))) (mul-pos positive positive)
+  fewer a b h =
+      le-of-mul-le-mul-right {k = L * L} (le-trans (le-of-eq (simp (mul-assoc, mul-comm, mul-left-comm))) (le-trans h (le-of-eq (sym (mul-assoc b (n * L) (L * L))))))
+      (mul-pos positive positive)
 
   more : (a b : ℕ) → b * (n * L * (L * L)) ≤ a * (r * (L * L)) → b * (n * L) ≤ r * a
-  more a b h = le-of-mul-le-mul-right {k = L * L} (le-trans (le-of-eq (mul-assoc b (n * L) (L * L))) (le-trans h (le-of-eq (simp (mul-assoc, mul-comm, mul-left-comm))))) (mul-pos positive positive)
+  more a b h =
+      le-of-mul-le-mul-right {k = L * L} (le-trans (le-of-eq (mul-assoc b (n * L) (L * L))) (le-trans h (le-of-eq (simp (mul-assoc, mul-comm, mul-left-comm)))))
+      (mul-pos positive positive)
 
   pub times-root : Relative (2 ^ 23) (x * y * L) (L * L) r → TimesRoot L n r
   times-root w = record { high = fewer 140737488355328 11863284 (omega (arith, exact, w .hi)); low = more 140737488355328 11863282 (omega (arith, exact, w .lo)) }
@@ -82,8 +86,12 @@ pub record AddToTwo (L a b : ℕ) : Type 0 where
 pub balances-add-to-two : (L a b s c : ℕ) → NearCircle s c → TimesRoot L c a → TimesRoot L s b → AddToTwo L a b
 balances-add-to-two L a b s c q ha hb =
     record {
-      low = scaled-low (2 ^ 14) (2 ^ 80) (11863282 * 11863282) (s * s + c * c) (L * L) (a * a + b * b) (lit< tt) (2 ^ 48 - 2 ^ 32) (2 ^ 15 - 1) (squares-low (2 ^ 47) 11863282 L a b s c (ha .low) (hb .low)) (least (q .low)) (lit≤ tt);
-      high = scaled-high (2 ^ 14) (2 ^ 80) (11863284 * 11863284) (s * s + c * c) (L * L) (a * a + b * b) (lit< tt) (2 ^ 48 + 2 ^ 21) (2 ^ 15 + 1) (squares-high (2 ^ 47) 11863284 L a b s c (ha .high) (hb .high)) (q .high) (lit≤ tt);
+      low =
+          scaled-low (2 ^ 14) (2 ^ 80) (11863282 * 11863282) (s * s + c * c) (L * L) (a * a + b * b) (lit< tt) (2 ^ 48 - 2 ^ 32) (2 ^ 15 - 1)
+          (squares-low (2 ^ 47) 11863282 L a b s c (ha .low) (hb .low)) (least (q .low)) (lit≤ tt);
+      high =
+          scaled-high (2 ^ 14) (2 ^ 80) (11863284 * 11863284) (s * s + c * c) (L * L) (a * a + b * b) (lit< tt) (2 ^ 48 + 2 ^ 21) (2 ^ 15 + 1)
+          (squares-high (2 ^ 47) 11863284 L a b s c (ha .high) (hb .high)) (q .high) (lit≤ tt);
     }
   where
     least : 2 ^ 48 ≤ s * s + c * c + 2 ^ 32 → 2 ^ 48 - 2 ^ 32 ≤ s * s + c * c

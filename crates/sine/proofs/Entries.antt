@@ -22,7 +22,7 @@ pub R-rises : (j : ℕ) → j < 256 → (R j ≤ R (j + 1)) × (R (j + 1) ≤ 10
 unfolding rises
 R-rises j h =
     let t = at 256 rises all-rise j h in
-    (leb→le (R j) (R (j + 1)) (and-l (leb (R j) (R (j + 1))) (leb (R (j + 1)) 1073741824) t), leb→le (R (j + 1)) 1073741824 (and-r (leb (R j) (R (j + 1))) (leb (R (j + 1)) 1073741824) t))
+    (leb→le (R j) (R (j + 1)) (search and-l), leb→le (R (j + 1)) 1073741824 (search and-r))
 
 pub R-small : (j : ℕ) → j < 257 → R j ≤ 1073741824
 R-small j h = elim (here-or-on j 256) [ inl l ↦ le-trans (R-rises j l .0) (R-rises j l .1) | inr l ↦ rw (last l) (R-rises 255 (lit< tt) .1) ]

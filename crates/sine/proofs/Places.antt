@@ -34,18 +34,28 @@ turn s W j C a b z h = ap (λ (x : ℕ). x % W) (lift s) ∙ mul-add-mod-self-le
         back : (X Y : ℕ) → a ≤ Y → X + Y - a ≡ X + (Y - a)
         back X Y l = omega arith
 
-module _ (x : Float) (s : Bool) (m k : ℕ) (d : Decoded x s m k) where
-  -- x * 2 ^ 24 is m * 2 ^ k / 2 ^ 125
+-- ---- with C and n whole numbers the floor is the sum or the difference
+abbrev pub shifted : Bool → ℕ → ℕ → ℕ
+shifted false C n = C + n
+shifted true C n = C - n
+
+over-one : (s : Bool) (C n : ℕ) → floorAt s C n 1 ≡ shifted s C n
+over-one false C n = div-one (C * 1 + n) ∙ ap (λ (z : ℕ). z + n) (mul-one C)
+over-one true C n = div-one (C * 1 - n) ∙ ap (λ (z : ℕ). z - n) (mul-one C)
+
+-- ---- u is ±m * 2 ^ (k - 149), so u * 2 ^ 24 is ±m * 2 ^ k / 2 ^ 125
+module _ {x : Float} {s : Bool} {m k : ℕ} (d : Decoded x s m k) where
   base : moved (2 ^ 128) x ≡ floorAt s (2 ^ 152) (m * 2 ^ k) (2 ^ 125)
   unfolding moved
   base =
       ap (λ (t : Bool). floorAt t (2 ^ 152) (above x * 2 ^ 24) (below x)) (d .sign)
       ∙ floorAt-same s (2 ^ 152) (above x * 2 ^ 24) (below x) (m * 2 ^ k) (2 ^ 125) (below-pos x) (pow-pos 125) (mul-assoc (above x) (2 ^ 24) (2 ^ 125) ∙ d .value)
 
+  -- a fraction of a unit, or less than a turn of them
   pub small-place : k < 125 → moved (2 ^ 128) x % 16777216 ≡ floorAt s 16777216 m (2 ^ (125 - k)) % 16777216
   small-place h =
       ap (λ (z : ℕ). z % 16777216) (base ∙ floorAt-same s (2 ^ 152) (m * 2 ^ k) (2 ^ 125) m (2 ^ (125 - k)) (pow-pos 125) (pow-pos (125 - k)) cross)
-      ∙ turn s 16777216 (2 ^ 128 - 1) 16777216 m (2 ^ (125 - k)) (pow-pos (125 - k)) (let u = pow-pos (125 - k) in let l = d .small in omega arith)
+      ∙ turn s 16777216 (2 ^ 128 - 1) 16777216 m (2 ^ (125 - k)) (pow-pos (125 - k)) (let p = pow-pos (125 - k) in let l = d .small in omega arith)
     where
       sum : k + (125 - k) ≡ 125
       sum = omega arith
@@ -53,6 +63,7 @@ module _ (x : Float) (s : Bool) (m k : ℕ) (d : Decoded x s m k) where
       cross : m * 2 ^ k * 2 ^ (125 - k) ≡ m * 2 ^ 125
       cross = mul-assoc m (2 ^ k) (2 ^ (125 - k)) ∙ ap (λ (z : ℕ). m * z) (sym (pow-add 2 k (125 - k)) ∙ ap (λ (z : ℕ). 2 ^ z) sum)
 
+  -- whole units
   whole : 125 ≤ k → moved (2 ^ 128) x ≡ floorAt s (2 ^ 152) (m * 2 ^ (k - 125)) 1
   whole h = base ∙ floorAt-same s (2 ^ 152) (m * 2 ^ k) (2 ^ 125) (m * 2 ^ (k - 125)) 1 (pow-pos 125) (lit< tt) (mul-one (m * 2 ^ k) ∙ cross)
     where
@@ -62,20 +73,9 @@ module _ (x : Float) (s : Bool) (m k : ℕ) (d : Decoded x s m k) where
       cross : m * 2 ^ k ≡ m * 2 ^ (k - 125) * 2 ^ 125
       cross = ap (λ (z : ℕ). m * 2 ^ z) (sym sum) ∙ ap (λ (z : ℕ). m * z) (pow-add 2 (k - 125) 125) ∙ sym (mul-assoc m (2 ^ (k - 125)) (2 ^ 125))
 
-  size-lt : k ≤ 148 → m * 2 ^ (k - 125) ≤ 140737488355328
-  size-lt l = mul-le-mul {n₁ = m} {m₁ = 2 ^ (k - 125)} {n₂ = 16777216} {m₂ = 8388608} (le-of-lt (d .small)) (pow-mono {i = k - 125} {j = 23} (omega arith))
-
-  whole-place : 125 ≤ k → k ≤ 148 → moved (2 ^ 128) x % 16777216 ≡ floorAt s 281474976710656 (m * 2 ^ (k - 125)) 1 % 16777216
-  whole-place h l =
-      ap (λ (z : ℕ). z % 16777216) (whole h)
-      ∙ turn s 16777216 (2 ^ 128 - 2 ^ 24) 281474976710656 (m * 2 ^ (k - 125)) 1 (lit< tt) (le-trans (size-lt l) (lit≤ tt))
-
-  many : (s : Bool) (y : ℕ) → floorAt s (2 ^ 152) (y * 16777216) 1 % 16777216 ≡ 0
-  many false y = ap (λ (z : ℕ). z % 16777216) (div-one (2 ^ 152 + y * 16777216) ∙ sym (add-mul (2 ^ 128) y 16777216)) ∙ mul-mod-left (2 ^ 128 + y) 16777216
-  many true y = ap (λ (z : ℕ). z % 16777216) (div-one (2 ^ 152 - y * 16777216) ∙ sym (sub-mul (2 ^ 128) y 16777216)) ∙ mul-mod-left (2 ^ 128 - y) 16777216
-
+  -- whole turns
   pub large-place : 148 < k → 0 ≡ moved (2 ^ 128) x % 16777216
-  large-place h = sym (ap (λ (z : ℕ). z % 16777216) (whole (omega arith) ∙ ap (λ (z : ℕ). floorAt s (2 ^ 152) z 1) cross) ∙ many s (m * 2 ^ (k - 149)))
+  large-place h = sym (ap (λ (z : ℕ). z % 16777216) (whole (omega arith) ∙ over-one s (2 ^ 152) (m * 2 ^ (k - 125)) ∙ ap (shifted s (2 ^ 152)) cross) ∙ turns s (m * 2 ^ (k - 149)))
     where
       sum : k - 149 + 24 ≡ k - 125
       sum = omega arith
@@ -83,23 +83,29 @@ module _ (x : Float) (s : Bool) (m k : ℕ) (d : Decoded x s m k) where
       cross : m * 2 ^ (k - 125) ≡ m * 2 ^ (k - 149) * 16777216
       cross = ap (λ (z : ℕ). m * 2 ^ z) (sym sum) ∙ ap (λ (z : ℕ). m * z) (pow-add 2 (k - 149) 24) ∙ sym (mul-assoc m (2 ^ (k - 149)) 16777216)
 
-  -- ---- what the code computes
+      turns : (t : Bool) (y : ℕ) → shifted t (2 ^ 152) (y * 16777216) % 16777216 ≡ 0
+      turns false y = ap (λ (z : ℕ). z % 16777216) (sym (add-mul (2 ^ 128) y 16777216)) ∙ mul-mod-left (2 ^ 128 + y) 16777216
+      turns true y = ap (λ (z : ℕ). z % 16777216) (sym (sub-mul (2 ^ 128) y 16777216)) ∙ mul-mod-left (2 ^ 128 - y) 16777216
+
+  -- ---- whole units below 2 ^ 47, as the code computes them from 2 ^ 48 on
   module _ (h : 125 ≤ k) (l : k ≤ 148) where
+    size-le : m * 2 ^ (k - 125) ≤ 140737488355328
+    size-le = mul-le-mul {n₁ = m} {m₁ = 2 ^ (k - 125)} {n₂ = 16777216} {m₂ = 8388608} (le-of-lt (d .small)) (pow-mono {i = k - 125} {j = 23} (omega arith))
+
     kept : m * 2 ^ (k - 125) % 18446744073709551616 ≡ m * 2 ^ (k - 125)
-    kept = let u = size-lt l in mod-eq-of-lt (omega arith)
+    kept = mod-eq-of-lt (omega (arith, size-le))
 
     pub minus-room : m * 2 ^ (k - 125) % 18446744073709551616 ≤ 281474976710656
-    minus-room = rw kept (let u = size-lt l in omega arith)
+    minus-room = rw kept (omega (arith, size-le))
 
     pub plus-room : 281474976710656 + m * 2 ^ (k - 125) % 18446744073709551616 < 18446744073709551616
-    plus-room = rw kept (let u = size-lt l in omega arith)
+    plus-room = rw kept (omega (arith, size-le))
 
-    pub minus-place : s ≡ true → bitAnd (281474976710656 - m * 2 ^ (k - 125) % 18446744073709551616) 16777215 ≡ moved (2 ^ 128) x % 16777216
-    minus-place e =
-        and-mask (281474976710656 - m * 2 ^ (k - 125) % 18446744073709551616) 24
-        ∙ sym (whole-place h l ∙ ap (λ (t : Bool). floorAt t 281474976710656 (m * 2 ^ (k - 125)) 1 % 16777216) e ∙ ap (λ (z : ℕ). z % 16777216) (div-one (281474976710656 - m * 2 ^ (k - 125)) ∙ ap (λ (z : ℕ). 281474976710656 - z) (sym kept)))
-
-    pub plus-place : s ≡ false → bitAnd (281474976710656 + m * 2 ^ (k - 125) % 18446744073709551616) 16777215 ≡ moved (2 ^ 128) x % 16777216
-    plus-place e =
-        and-mask (281474976710656 + m * 2 ^ (k - 125) % 18446744073709551616) 24
-        ∙ sym (whole-place h l ∙ ap (λ (t : Bool). floorAt t 281474976710656 (m * 2 ^ (k - 125)) 1 % 16777216) e ∙ ap (λ (z : ℕ). z % 16777216) (div-one (281474976710656 + m * 2 ^ (k - 125)) ∙ ap (λ (z : ℕ). 281474976710656 + z) (sym kept)))
+    pub whole-place : (t : Bool) → s ≡ t → bitAnd (shifted t 281474976710656 (m * 2 ^ (k - 125) % 18446744073709551616)) 16777215 ≡ moved (2 ^ 128) x % 16777216
+    whole-place t e =
+        and-mask (shifted t 281474976710656 (m * 2 ^ (k - 125) % 18446744073709551616)) 24
+        ∙ ap (λ (n : ℕ). shifted t 281474976710656 n % 16777216) kept
+        ∙ ap (λ (b : Bool). shifted b 281474976710656 (m * 2 ^ (k - 125)) % 16777216) (sym e)
+        ∙ ap (λ (n : ℕ). n % 16777216) (sym (over-one s 281474976710656 (m * 2 ^ (k - 125))))
+        ∙ sym (turn s 16777216 (2 ^ 128 - 2 ^ 24) 281474976710656 (m * 2 ^ (k - 125)) 1 (lit< tt) (le-trans size-le (lit≤ tt)))
+        ∙ ap (λ (n : ℕ). n % 16777216) (sym (whole h))

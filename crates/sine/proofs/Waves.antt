@@ -48,7 +48,10 @@ at-end n h l = let e : n ≡ 4194304 = omega arith in rw e (sym last-entry)
 pub interp-le : (n : ℕ) → n ≤ 4194304 → interp 14 R n ≤ 1073741824
 interp-le n h =
     elim (here-or-on (n / 16384) 256) [
-      | inl l ↦ rw interp-is (le-trans (between (R (n / 16384)) (R (n / 16384 + 1)) _ (R-rises (n / 16384) l .0) (part-le (R (n / 16384 + 1) - R (n / 16384)) (n % 16384) 14 (le-of-lt (mod-lt n (pow-pos 14))))) (R-rises (n / 16384) l .1))
+      | inl l ↦
+          let step = R (n / 16384 + 1) - R (n / 16384) in
+          let up = between (R (n / 16384)) (R (n / 16384 + 1)) _ (R-rises (n / 16384) l .0) (part-le step (n % 16384) 14 (le-of-lt (mod-lt n (pow-pos 14)))) in
+          rw interp-is (le-trans up (R-rises (n / 16384) l .1))
       | inr l ↦ rw (← at-end n h l) (omega arith)
     ]
 

@@ -1,10 +1,10 @@
 -- U in document 01's own words, floor(u·2^24) mod 2^24, for every u: the 2 ^ 128 turns that the definition adds are whole, so they do not count. The size of u is above u / below u. Assumes nothing.
 use mathlib.Core.Path.{_≡_, refl, ap, _∙_}
-use mathlib.Core.Bool.{Bool, true, false, not, _&&_}
+use mathlib.Core.Bool.{Bool, true, false, not}
 use Prim.Native.Nat.{ℕ, zero, suc, zero-le, _+_, _-_, _*_, _/_, _%_, _^_, _≤_, _<_}
 use native.Mathlib.Nat.{le-trans, le-of-eq, le-of-lt, mul-right-comm, add-mul, mul-le-mul-right, mul-add-div-right, mul-add-mod-self-left, div-eq-of-lt, lt-of-mul-lt-mul-right, add-zero, mod-add-mod, mul-mod-right, zero-mul, suc-mul, le-of-suc-le-suc}
 use native.Mathlib.Omega.{arith}
-use lib.Dec.{T, ltb, leb, eqb, ltb→lt, lit≤}
+use lib.Dec.{T, ltb→lt, lit≤}
 use lib.Ieee.{Float, nan, inf, fin, binary32, up, down, fits}
 use lib.Ieee.Fits.{mul-fits, and-r}
 use lib.Ieee.Scale.{finite}
@@ -36,7 +36,7 @@ size-low nan h = lit≤ tt
 size-low (inf s) h = lit≤ tt
 size-low (fin s zero e) h = le-trans (le-of-eq (zero-mul (up e))) zero-le
 size-low (fin s (suc m) e) h =
-    le-of-lt (ltb→lt (suc m * up e) (2 ^ 128 * down e) (and-r (eqb (suc m % 2) 1 && ltb (suc m) (2 ^ 24) && leb (down e) (2 ^ 149)) (ltb (suc m * up e) (2 ^ 128 * down e)) h))
+    le-of-lt (ltb→lt (suc m * up e) (2 ^ 128 * down e) (search and-r))
 
 fewer : (n C a b : ℕ) → a ≤ C * b → n * b < a + b → n ≤ C
 fewer n C a b h k = le-of-suc-le-suc (lt-of-mul-lt-mul-right b {m = n} {n = suc C} (rw (suc-mul C b) (omega arith)))
@@ -59,7 +59,10 @@ module _ (θ : Float) where
   unfolding U moved
   place-of-negative s n h k =
       ap (λ (t : Bool). (floorAt t (2 ^ 152) a b % 16777216 + n) % 16777216) s
-      ∙ minus 16777216 (2 ^ 128) n a b (below-pos (u θ)) (fewer n (2 ^ 152) a b (le-trans (mul-le-mul-right (2 ^ 24) (size-low (u θ) (mul-fits binary32 θ TURNS-PER-RADIAN))) (le-of-eq (mul-right-comm (2 ^ 128) b (2 ^ 24)))) k) h k
+      ∙ minus 16777216 (2 ^ 128) n a b (below-pos (u θ)) (fewer n (2 ^ 152) a b room k) h k
+    where
+      room : a ≤ 2 ^ 152 * b
+      room = le-trans (mul-le-mul-right (2 ^ 24) (size-low (u θ) (mul-fits binary32 θ TURNS-PER-RADIAN))) (le-of-eq (mul-right-comm (2 ^ 128) b (2 ^ 24)))
 
 -- of a u that is infinite or no number
 no-place : (x : Float) → T (not (finite x)) → moved (2 ^ 128) x % 2 ^ 24 ≡ 0

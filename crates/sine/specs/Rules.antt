@@ -59,7 +59,7 @@ K-rule = record {
       let r = K (i + 1) in
       let n = (2 ^ 30 + K i) * 2 ^ 29 in
       let t : T (root r n) = at 8 K-next K-all i h in
-      (leb→le (r * r) n (and-l (leb (r * r) n) (ltb n ((r + 1) * (r + 1))) t), ltb→lt n ((r + 1) * (r + 1)) (and-r (leb (r * r) n) (ltb n ((r + 1) * (r + 1))) t));
+      (leb→le (r * r) n (search and-l), ltb→lt n ((r + 1) * (r + 1)) (search and-r));
 }
 
 pub R-rule : RuleOfR sineTable

@@ -11,7 +11,7 @@ halfAngleCosines = 0 ∷ 759250124 ∷ 992008094 ∷ 1053110175 ∷ 1068571463 �
 abbrev pub K : ℕ → ℕ
 K i = getD halfAngleCosines i 0
 
--- R: the sineTable of a quarter turn in 256 steps, in units of 2 ^ -30
+-- R: the sines of a quarter turn in 256 steps, in units of 2 ^ -30
 unfoldable pub sineTable : List ℕ
 sineTable =
     0 ∷ 6588355 ∷ 13176463 ∷ 19764074 ∷ 26350942 ∷ 32936817 ∷ 39521453 ∷ 46104600 ∷ 52686013 ∷ 59265440 ∷

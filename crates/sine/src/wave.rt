@@ -4,7 +4,7 @@
 // read backwards. The 8 top bits of p pick an entry of R and the 14 others the part of the step to the next, rounded
 // down. Of the 30 digits 24 are kept, which an f32 holds exactly.
 ghost use mathlib.Core.Path.{_≡_};
-ghost use Prim.Native.Nat.{_<_, _≤_};
+ghost use Prim.Native.Nat.{_^_, _<_, _≤_};
 ghost use Rattle.lists.specs.Interpolation.{interp};
 ghost use Rattle.sine.specs.Table.{sineTable, R};
 ghost use Rattle.sine.specs.Sine.{turned, wave};
@@ -24,7 +24,7 @@ fn entry(sines: &SineTable, j: usize) -> u64
 
 // Between the entries of R, over steps of 2^14. The last entry has none after it.
 fn interpolated(sines: &SineTable, p: u64) -> u64
-    requires { ⌜ (now sines ≡ sineTable) × (p ≤ 4194304) ⌝ }
+    requires { ⌜ (now sines ≡ sineTable) × (p ≤ 2 ^ 22) ⌝ }
     ensures { λ r. ⌜ r ≡ interp 14 R p ⌝ }
 {
     let h = (p >> 14) as usize;
@@ -38,7 +38,7 @@ fn interpolated(sines: &SineTable, p: u64) -> u64
 
 // p, turned for an odd quarter.
 fn turned_place(place: u64) -> u64
-    requires { ⌜ place < 16777216 ⌝ }
+    requires { ⌜ place < 2 ^ 24 ⌝ }
     ensures { λ r. ⌜ r ≡ turned place ⌝ }
 {
     let p = place & 0x3f_ffff;
@@ -50,7 +50,7 @@ fn turned_place(place: u64) -> u64
 
 // Negative in the quarters 2 and 3, but for zero.
 pub fn wave_at(sines: &SineTable, place: u64) -> f32
-    requires { ⌜ (now sines ≡ sineTable) × (place < 16777216) ⌝ }
+    requires { ⌜ (now sines ≡ sineTable) × (place < 2 ^ 24) ⌝ }
     ensures { λ r. ⌜ r ≡ wave place ⌝ }
 {
     let w = interpolated(sines, turned_place(place)) >> 6;

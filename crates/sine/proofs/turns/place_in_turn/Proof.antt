@@ -1,14 +1,13 @@
 -- `sine::turns::place_in_turn` meets its contract: u's digits, shifted and masked, are its floor in units of 2 ^ -24 mod 2 ^ 24 (Places.antt), in each range of its exponent. Assumes nothing.
 use borrow.Author.Needs.{needs}
 use mathlib.Core.Path.{sym, ap, subst, _∙_}
-use mathlib.Core.Bool.{Bool, not}
+use mathlib.Core.Bool.{true, false, not}
 use Prim.Native.Nat.{ℕ, _%_}
 use lib.Bits.{and-mask}
 use lib.Dec.{T}
-use lib.Ieee.{Float}
 use Rattle.float32.proofs.Made.{no-nan}
 use Rattle.sine.specs.Sine.{u, U}
-use Rattle.sine.proofs.Places.{nan-place, small-place, large-place, minus-room, minus-place, plus-room, plus-place}
+use Rattle.sine.proofs.Places.{nan-place, small-place, large-place, minus-room, plus-room, whole-place}
 use Rattle.sine.proofs.turns.place_in_turn.Statement.{statement}
 use Rattle.sine.proofs.turns.place_in_turn.Tie as tie
 
@@ -18,19 +17,6 @@ returns c = nan-place (u (c .before .args .angle)) (subst T (sym (c .if1 .taken)
 
 decode-requires : tie.Need-decode-requires
 decode-requires c κs = no-nan (u (c .before .args .angle)) (subst (λ b. T (not b)) (sym (c .if1 .left)) tt)
-
-module _ (d : tie.After-decode) where
-  abbrev x : Float
-  x = u (d .before .before .args .angle)
-
-  abbrev neg : Bool
-  neg = d .decode .result .neg
-
-  abbrev mant : ℕ
-  mant = d .decode .result .mant
-
-  abbrev expo : ℕ
-  expo = d .decode .result .expo
 
 cast-floor-above : tie.Need-cast-floor-above
 cast-floor-above c = search needs
@@ -44,13 +30,12 @@ floor-above-requires c κs = search needs
 returns-2 : tie.Need-returns-2
 unfolding U
 returns-2 c =
-    let d = c .before .before in
     and-mask (c .floor-above .result) 24 ∙ ap (λ (z : ℕ). z % 16777216) (c .floor-above .ensures)
-    ∙ sym (small-place (x d) (neg d) (mant d) (expo d) (d .decode .ensures) (c .before .if2 .taken))
+    ∙ sym (small-place (c .before .before .decode .ensures) (c .before .if2 .taken))
 
 returns-3 : tie.Need-returns-3
 unfolding U
-returns-3 c = let d = c .before .before in large-place (x d) (neg d) (mant d) (expo d) (d .decode .ensures) (c .if3 .taken)
+returns-3 c = large-place (c .before .before .decode .ensures) (c .if3 .taken)
 
 cast-n : tie.Need-cast-n
 cast-n c = search needs
@@ -62,18 +47,18 @@ shl-n : tie.Need-shl-n
 shl-n c = search needs
 
 sub-result : tie.Need-sub-result
-sub-result c = let d = c .before .before .before in minus-room (x d) (neg d) (mant d) (expo d) (d .decode .ensures) (c .before .before .if2 .left) (c .before .if3 .left)
+sub-result c = minus-room (c .before .before .before .decode .ensures) (c .before .before .if2 .left) (c .before .if3 .left)
 
 returns-4 : tie.Need-returns-4
 unfolding U
-returns-4 c = let d = c .before .before .before in minus-place (x d) (neg d) (mant d) (expo d) (d .decode .ensures) (c .before .before .if2 .left) (c .before .if3 .left) (c .if4 .taken)
+returns-4 c = whole-place (c .before .before .before .decode .ensures) (c .before .before .if2 .left) (c .before .if3 .left) true (c .if4 .taken)
 
 add-result : tie.Need-add-result
-add-result c = let d = c .before .before .before in record { fits = plus-room (x d) (neg d) (mant d) (expo d) (d .decode .ensures) (c .before .before .if2 .left) (c .before .if3 .left) }
+add-result c = record { fits = plus-room (c .before .before .before .decode .ensures) (c .before .before .if2 .left) (c .before .if3 .left) }
 
 returns-5 : tie.Need-returns-5
 unfolding U
-returns-5 c = let d = c .before .before .before in plus-place (x d) (neg d) (mant d) (expo d) (d .decode .ensures) (c .before .before .if2 .left) (c .before .if3 .left) (c .if4 .left)
+returns-5 c = whole-place (c .before .before .before .decode .ensures) (c .before .before .if2 .left) (c .before .if3 .left) false (c .if4 .left)
 
 pub place-in-turn-spec : {M : Type 1} → statement M
 place-in-turn-spec =
