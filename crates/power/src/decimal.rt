@@ -5,7 +5,8 @@ use crate::exp2::exp2;
 use crate::log2::log2;
 use crate::table::PowerTable;
 
-// Rust's f32 constants.
+// Powers of 10 and of e and logarithms to base 10, each by one product with a constant of Rust's, rounded before a power and after a logarithm.
+
 const LOG2_10: f32 = 3.321928;
 
 const LOG2_E: f32 = 1.442695;

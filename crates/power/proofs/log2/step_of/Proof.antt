@@ -37,13 +37,13 @@ loop-less c = omega arith
 loop-again : tie.Need-loop-again Inv-loop μ-loop
 loop-again c =
     let t = c .before .before .before .before .before .args .t in
-    let g : P (c .before .before .loop .h + 1) ≤ t = rw (c .before .power .ensures) at (c .if1 .taken) in
+    let g : P (c .before .before .loop .h + 1) ≤ t = omega arith in
     (not-last (c .before .before .loop .h) t (c .before .before .loop .inv .0) (c .before .before .before .before .before .pre .2) g, g)
 
 returns : tie.Need-returns Inv-loop μ-loop
 returns c =
     step-greatest (c .before .before .before .before .before .args .t) (c .before .before .loop .h)
-    record { within = c .before .before .loop .inv .0; from = c .before .before .loop .inv .1; to = rw (c .before .power .ensures) at (c .if1 .left) }
+    record { within = c .before .before .loop .inv .0; from = c .before .before .loop .inv .1; to = omega arith }
 
 pub step-of-spec : {M : Type 1} → statement M
 step-of-spec =
