@@ -1,7 +1,7 @@
 -- E2 as `exp2` makes it: +0 and the largest f32 at the ends, and between them the bits (N - 2) * 2 ^ 23 + floor (I(F) / 128), a sum that carries the leading one of
 -- floor (I(F) / 128), which has 24 digits, into the exponent's field. Assumes nothing.
 use mathlib.Core.Path.{_≡_, refl, sym, ap, _∙_}
-use mathlib.Core.Bool.{Bool, true, false, not, cond}
+use mathlib.Core.Bool.{Bool, true, false, not}
 use Prim.Native.Nat.{ℕ, _+_, _-_, _*_, _/_, _%_, _^_, _≤_, _<_}
 use native.Mathlib.Nat.{sub-le, mul-div-cancel, le-trans, mul-add-div-right, div-le-self}
 use native.Mathlib.Omega.{arith}

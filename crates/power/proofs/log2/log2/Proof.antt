@@ -1,10 +1,10 @@
 -- `log2` meets its contract: each of its answers is one of the cases of proofs/LogMade.antt. Assumes nothing.
 use mathlib.Core.Path.{_≡_, sym, subst, ap, _∙_}
 use mathlib.Core.Bool.{Bool, not}
-use Prim.Native.Nat.{ℕ, _-_, _*_, _%_, _^_, _<_, _≤_}
+use Prim.Native.Nat.{ℕ, _-_, _*_, _%_, _^_}
 use native.Mathlib.Omega.{arith}
 use lib.Dec.{T}
-use lib.Ieee.{Float, isNan, sub, add, ofInt, binary32}
+use lib.Ieee.{Float, sub, add, ofInt, binary32}
 use lib.IntN.{pos}
 use borrow.Author.Needs.{needs}
 use Rattle.power.specs.Table.{I}

@@ -1,5 +1,4 @@
 -- `step_of` meets its contract. The walk up stops before the last entry, which is 2 ^ 31; where it stops the step's entry is at most t and the next is above. Assumes nothing.
-use mathlib.Core.Path.{_≡_}
 use native.Mathlib.Omega.{arith}
 use Prim.Native.Nat.{_+_, _-_, _^_, _<_, _≤_}
 use Rattle.power.specs.Table.{highBits, P}
