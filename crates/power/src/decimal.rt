@@ -1,3 +1,4 @@
+// Powers of 10 and of e, and logarithms to base 10, by exp2 and log2 and one product each, rounded: with a power before, with a logarithm after.
 ghost use mathlib.Core.Path.{_≡_};
 ghost use Rattle.power.specs.Table.{powerTable};
 ghost use Rattle.power.specs.Decimal.{pow10, exp, log10};
@@ -5,8 +6,7 @@ use crate::exp2::exp2;
 use crate::log2::log2;
 use crate::table::PowerTable;
 
-// Powers of 10 and of e and logarithms to base 10, each by one product with a constant of Rust's, rounded before a power and after a logarithm.
-
+// Rust's f32 constants.
 const LOG2_10: f32 = 3.321928;
 
 const LOG2_E: f32 = 1.442695;

@@ -58,8 +58,9 @@ fn find(powers: &PowerTable, t: u64) -> u64
 
 // log2(v) of a positive normal v: L2 of document 01; of any other v 0.
 //
-// Method. v = M * 2^(e - 23) is taken apart, and F is the greatest of 24 bits whose power by the table is at most M / 2^23, so that log2 undoes what exp2 does. The table holds
-// 2^(30 + h/256) rounded down: its step is found by a walk from a guess, and the place within the step by one division. e and F / 2^24 are exact and their sum is rounded once.
+// Method. v = M * 2^(e - 23) is mant * 2^(expo - 149): so M is mant, which is below 2^23 where v is subnormal, and e is expo - 126, above 127 where v is infinite. F is the
+// greatest of 24 bits whose power, by the table that exp2 has, is at most M / 2^23, so that log2 undoes what exp2 does. The table holds 2^(30 + h/256) rounded down: its step is
+// found by a walk from a guess, and the place within the step by one division. e and F / 2^24 are exact, and their sum is rounded once.
 // Error, measured: F / 2^24 is at most 1.4e-6 below and 1.5e-9 above the fraction of log2(v), to which the rounding adds up to half a unit of the last place.
 pub fn log2(powers: &PowerTable, v: f32) -> f32
     requires { ⌜ now powers ≡ powerTable ⌝ }
@@ -68,7 +69,6 @@ pub fn log2(powers: &PowerTable, v: f32) -> f32
     if v != v {
         return 0.0;
     }
-    // v is mant * 2^(expo - 149): normal from 2^23 on, infinite at 254
     let d = float32::decode(v);
     let neg = d.neg;
     let mant = d.mant;
@@ -83,7 +83,6 @@ pub fn log2(powers: &PowerTable, v: f32) -> f32
         return 0.0;
     }
     let f = float32::fraction(find(powers, (mant as u64) << 7) as u32);
-    // e is expo - 126
     if expo < 126 {
         return f - ((126 - expo) as f32);
     }
