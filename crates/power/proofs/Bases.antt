@@ -5,7 +5,7 @@ use mathlib.Core.Bool.{false}
 use Prim.Native.Nat.{ℕ, suc}
 use lib.Dec.{T}
 use lib.Count.{trailingZeros}
-use lib.IntN.{ℤ, pos, negsuc}
+use lib.IntN.{ℤ, negsuc}
 use lib.Ieee.{Float, fin, binary32, le, mul, ofBits, round, size, span, climb, units, odd}
 use Rattle.float_laws.specs.Bounds.{one}
 use Rattle.float_laws.specs.Signed.{mul-by}

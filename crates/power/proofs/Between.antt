@@ -3,7 +3,7 @@
 use mathlib.Core.Path.{_≡_, sym, ap, _∙_, subst}
 use mathlib.Core.Bool.{Bool, true, false, not}
 use Prim.Native.Nat.{ℕ, suc, _+_, _-_, _*_, _/_, _%_, _^_, _≤_, _<_}
-use native.Mathlib.Nat.{le-trans, le-antisymm, le-of-suc-le-suc, mul-assoc, mul-right-comm, mul-one, suc-mul, mul-le-mul-right, mul-add-div-right, div-mul-le-self, div-lt-iff-lt-mul, le-div-iff-mul-le, eq-of-mul-eq-mul-right}
+use native.Mathlib.Nat.{le-antisymm, le-of-suc-le-suc, mul-assoc, mul-right-comm, mul-one, suc-mul, mul-le-mul-right, mul-add-div-right, div-mul-le-self, div-lt-iff-lt-mul, le-div-iff-mul-le, eq-of-mul-eq-mul-right}
 use native.Mathlib.Omega.{arith}
 use lib.Dec.{T}
 use lib.Pow.{pow-pos, pow-add}
@@ -47,9 +47,9 @@ module _ (m : ℕ) (e : ℤ) where
   unfolding moved
   moved-up = mul-add-div-right (down-pos e) (128 * 2 ^ 24) (m * up e * 2 ^ 24)
 
-  pub E2-from-zero : T (lt (fin false m e) limit) → HasValue (E2 (fin false m e)) false (I (X % 2 ^ 24) / 128 * 2 ^ (X / 2 ^ 24)) (2 ^ 23)
+  pub E2-of-positive : T (lt (fin false m e) limit) → HasValue (E2 (fin false m e)) false (I (X % 2 ^ 24) / 128 * 2 ^ (X / 2 ^ 24)) (2 ^ 23)
   unfolding isNan
-  E2-from-zero h =
+  E2-of-positive h =
       let y = moved-up in
       value (fin false m e) tt (pos-high m e) (under-of-lt (fin false m e) h) (X % 2 ^ 24) (X / 2 ^ 24 + 126) (omega arith) (omega arith) (2 ^ (X / 2 ^ 24)) (2 ^ 23)
       (ap (λ (z : ℕ). z * 2 ^ 23) (pow-add 2 (X / 2 ^ 24) 126) ∙ mul-assoc (2 ^ (X / 2 ^ 24)) (2 ^ 126) (2 ^ 23))
@@ -89,9 +89,9 @@ module _ (m : ℕ) (e : ℤ) where
   unfolding moved
   moved-down h = (floor-down (128 * 2 ^ 24) (m * up e * 2 ^ 24) (down e) (down-pos e) (omega arith), ceiling-le (126 * 2 ^ 24) (m * up e * 2 ^ 24) (down e) (down-pos e) (omega arith))
 
-  pub E2-below-zero : T (le lowest (fin true m e)) → HasValue (E2 (fin true m e)) false (I (j * 2 ^ 24 - Z) / 128) (2 ^ (23 + j))
+  pub E2-of-negative : T (le lowest (fin true m e)) → HasValue (E2 (fin true m e)) false (I (j * 2 ^ 24 - Z) / 128) (2 ^ (23 + j))
   unfolding isNan
-  E2-below-zero h =
+  E2-of-negative h =
       let y = moved-down (let g = ord-of-le true 63 (pos 1) true m e h in omega arith) in
       subst (λ (a : ℕ). HasValue (E2 (fin true m e)) false a (2 ^ (23 + j))) (mul-one (I (j * 2 ^ 24 - Z) / 128))
       (value (fin true m e) tt (high-of-le (fin true m e) h .1) (omega arith) (j * 2 ^ 24 - Z) (126 - j) (omega arith) (omega arith) 1 (2 ^ (23 + j))

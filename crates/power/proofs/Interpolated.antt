@@ -1,6 +1,6 @@
 -- I(F) never falls, and lies from 2 ^ 30 up and below 2 ^ 31, for any power of two of steps: within a step it is a line that rises, and at its end no higher than the next entry.
 -- Assumes nothing.
-use mathlib.Core.Path.{_≡_, sym, subst}
+use mathlib.Core.Path.{sym, subst}
 use mathlib.Core.Logic.{inl, inr}
 use Prim.Native.Nat.{ℕ, _+_, _-_, _*_, _/_, _%_, _^_, _≤_, _<_}
 use native.Mathlib.Nat.{le-trans, lt-of-lt-of-le, lt-of-le-of-lt, le-of-lt, eq-or-lt-of-le, eq-zero-or-pos, mul-le-mul-left, mod-lt, add-zero, zero-mul, mul-zero, zero-div, zero-mod}

@@ -37,25 +37,33 @@ module _ (v : Float) (s : Bool) (m k : ℕ) (d : Decoded v s m k) where
   pub log-infinite : 2 ^ 23 ≤ m → 253 < k → s ≡ false → ofBits binary32 0 ≡ L2 v
   log-infinite l h e = zero v (infinite-parts v m k (with-sign false e) l h)
 
-  -- F is what `find` found
-  module _ (l : 2 ^ 23 ≤ m) (h : k ≤ 253) (e : s ≡ false) (F : ℕ) (f : F ≡ greatest I (m * 128) (2 ^ 24)) where
-    is : HasValue v false (m * 2 ^ k) (2 ^ 149)
-    is = normal-parts v m k (with-sign false e) l h
+-- v is positive and normal with the parts m and k, and F is what `find` found
+pub record Found (v : Float) (s : Bool) (m k F : ℕ) : Type 0 where
+  pub parts : Decoded v s m k
+  pub positive : s ≡ false
+  pub normal : 2 ^ 23 ≤ m
+  pub finite : k ≤ 253
+  pub greatest-F : F ≡ greatest I (m * 128) (2 ^ 24)
 
-    F-is : F ≡ greatest I (128 * m) (2 ^ 24)
-    F-is = f ∙ ap (λ (z : ℕ). greatest I z (2 ^ 24)) (mul-comm m 128)
+module _ {v : Float} {s : Bool} {m k F : ℕ} (c : Found v s m k F) where
+  is : HasValue v false (m * 2 ^ k) (2 ^ 149)
+  is = normal-parts v m k (with-sign v s m k (c .parts) false (c .positive)) (c .normal) (c .finite)
 
-    pub F-lt : F < 2 ^ 24
-    F-lt = rw F-is (L2-F-lt v m k l (d .small) h is)
+  F-is : F ≡ greatest I (128 * m) (2 ^ 24)
+  F-is = c .greatest-F ∙ ap (λ (z : ℕ). greatest I z (2 ^ 24)) (mul-comm m 128)
 
-    pub log-below : k < 126 → sub binary32 (round binary32 false F (2 ^ 24)) (ofInt binary32 (pos (126 - k))) ≡ L2 v
-    log-below g =
-        let b = F-lt in
-        sub-at binary32 (round binary32 false F (2 ^ 24)) (ofInt binary32 (pos (126 - k))) F (2 ^ 24) (126 - k) 1 (lit< tt) (lit< tt) (fraction-value F b) (whole-value (126 - k) (omega arith)) (omega arith)
-        ∙ ap (λ (z : ℕ). round binary32 true ((126 - k) * 2 ^ 24 - z) (2 ^ 24)) (mul-one F ∙ F-is) ∙ sym (L2-below-one v m k l (d .small) h is g)
+  pub F-lt : F < 2 ^ 24
+  F-lt = rw F-is (L2-F-lt v m k (c .normal) (c .parts .small) (c .finite) is)
 
-    pub log-above : 126 ≤ k → add binary32 (ofInt binary32 (pos (k - 126))) (round binary32 false F (2 ^ 24)) ≡ L2 v
-    log-above g =
-        let b = F-lt in
-        add-at binary32 (ofInt binary32 (pos (k - 126))) (round binary32 false F (2 ^ 24)) (k - 126) 1 F (2 ^ 24) (lit< tt) (lit< tt) (whole-value (k - 126) (omega arith)) (fraction-value F b)
-        ∙ ap (λ (z : ℕ). round binary32 false ((k - 126) * 2 ^ 24 + z) (2 ^ 24)) (mul-one F ∙ F-is) ∙ sym (L2-from-one v m k l (d .small) h is g)
+  pub log-below : k < 126 → sub binary32 (round binary32 false F (2 ^ 24)) (ofInt binary32 (pos (126 - k))) ≡ L2 v
+  log-below g =
+      let b = F-lt in
+      sub-at binary32 (round binary32 false F (2 ^ 24)) (ofInt binary32 (pos (126 - k))) F (2 ^ 24) (126 - k) 1 (lit< tt) (lit< tt) (fraction-value F b) (whole-value (126 - k) (omega arith)) (omega arith)
+      ∙ ap (λ (z : ℕ). round binary32 true ((126 - k) * 2 ^ 24 - z) (2 ^ 24)) (mul-one F ∙ F-is) ∙ sym (L2-below-one v m k (c .normal) (c .parts .small) (c .finite) is g)
+
+  pub log-above : 126 ≤ k → add binary32 (ofInt binary32 (pos (k - 126))) (round binary32 false F (2 ^ 24)) ≡ L2 v
+  log-above g =
+      let b = F-lt in
+      let h = c .finite in
+      add-at binary32 (ofInt binary32 (pos (k - 126))) (round binary32 false F (2 ^ 24)) (k - 126) 1 F (2 ^ 24) (lit< tt) (lit< tt) (whole-value (k - 126) (omega arith)) (fraction-value F b)
+      ∙ ap (λ (z : ℕ). round binary32 false ((k - 126) * 2 ^ 24 + z) (2 ^ 24)) (mul-one F ∙ F-is) ∙ sym (L2-from-one v m k (c .normal) (c .parts .small) (c .finite) is g)

@@ -1,12 +1,12 @@
 -- log2 never falls on positive normal numbers, for any power of two of steps up to 2 ^ 24: as v rises so does k = e + 126, or with the same k M, and then F, the greatest
 -- with I(F) ≤ 128 * M; F is below 2 ^ 24, so that k * 2 ^ 24 + F rises too; and one rounding keeps the order. Assumes nothing.
-use mathlib.Core.Path.{_≡_, refl, sym, ap, _∙_, subst}
+use mathlib.Core.Path.{_≡_, sym, subst}
 use mathlib.Core.Logic.{inl, inr}
 use mathlib.Core.Bool.{Bool, true, false, not, cond}
-use Prim.Native.Nat.{ℕ, suc, _+_, _-_, _*_, _/_, _^_, _≤_, _<_}
+use Prim.Native.Nat.{ℕ, _+_, _-_, _*_, _/_, _^_, _≤_, _<_}
 use native.Mathlib.Nat.{le-trans, le-of-eq, lt-of-le-of-lt, lt-of-not-le, not-le-of-lt, eq-or-lt-of-le, mul-le-mul-left, mul-le-mul-right, le-div-iff-mul-le}
 use native.Mathlib.Omega.{arith}
-use lib.Dec.{T, ltb, ltb→lt, nltb→le, lit<}
+use lib.Dec.{T, ltb, ltb→lt, nltb→le}
 use lib.Pow.{pow-pos, pow-add, pow-mono, shr-mono}
 use lib.Ieee.{Float, Format, binary32, le, round, size}
 use lib.Ieee.Bits.{is-true}
@@ -39,7 +39,7 @@ round-order f d C Y Z z h = go (ltb Y C) (ltb Z C) (nltb→le Y C) (ltb→lt Z C
     go false true a b = absurd (omega (arith, a tt, b tt))
     go false false a b = by-keys false (Y - C) false (Z - C) (omega (arith, mono (Y - C) (Z - C) (omega arith)))
 
-rounded-mono : (Y Z : ℕ) → Y ≤ Z → T (le (rounded Y) (rounded Z))
+pub rounded-mono : (Y Z : ℕ) → Y ≤ Z → T (le (rounded Y) (rounded Z))
 unfolding rounded
 rounded-mono Y Z h = round-order binary32 (2 ^ 24) (126 * 2 ^ 24) Y Z (pow-pos 24) h
 
@@ -48,7 +48,7 @@ module _ (n : ℕ) (h : 2 ^ 23 ≤ n) where
   size-high : 24 ≤ size n
   size-high = lt-of-not-le (λ (g : size n ≤ 23). not-le-of-lt (size-lt n) (le-trans (pow-mono g) h))
 
-  M-low : 2 ^ 23 ≤ n / 2 ^ (size n - 24)
+  pub M-low : 2 ^ 23 ≤ n / 2 ^ (size n - 24)
   M-low =
       le-div-iff-mul-le (pow-pos (size n - 24)) .1
       (le-trans (le-of-eq (sym (pow-add 2 23 (size n - 24)))) (size-reaches n (23 + (size n - 24)) (let u = size-high in omega arith)))
@@ -61,7 +61,7 @@ module _ {k w : ℕ} {p : ℕ → ℕ} (R : Roots k w p) where
   F-mono : (M N : ℕ) → 2 ^ 23 ≤ M → M ≤ N → F M ≤ F N
   F-mono M N l h = greatest-mono (interp w p) (128 * M) (128 * N) (2 ^ 24) 0 (pow-pos 24) (le-trans (interp-first R) (omega arith)) (mul-le-mul-left 128 h)
 
-  F-lt : (M : ℕ) → 2 ^ 23 ≤ M → F M < 2 ^ 24
+  pub F-lt : (M : ℕ) → 2 ^ 23 ≤ M → F M < 2 ^ 24
   F-lt M l = F-greatest R (128 * M) (omega arith) .under
 
   digits-mono : (j i M N : ℕ) → j ≤ i → 2 ^ 23 ≤ M → (j ≡ i → M ≤ N) → j * 2 ^ 24 + F M ≤ i * 2 ^ 24 + F N

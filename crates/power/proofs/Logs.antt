@@ -1,12 +1,11 @@
 -- L2 in document 01's words: for a positive normal v = M * 2 ^ (e - 23), M in 2 ^ 23 .. 2 ^ 24 - 1, with F the greatest whose I(F) ≤ 128 * M, it is e + F / 2 ^ 24
 -- rounded once: round ((e * 2 ^ 24 + F) / 2 ^ 24) where e is from 0 up, and else -round ((-e * 2 ^ 24 - F) / 2 ^ 24). Of any other v it is +0.
 -- In units of 2 ^ -149 v is M * 2 ^ k with k = e + 126, which has k + 24 binary digits. Assumes nothing.
-use mathlib.Core.Path.{_≡_, refl, sym, ap, _∙_}
+use mathlib.Core.Path.{_≡_, sym, ap, _∙_}
 use mathlib.Core.Bool.{true, false}
-use Prim.Native.Nat.{ℕ, _+_, _-_, _*_, _/_, _^_, _≤_, _<_, zero-le}
-use native.Mathlib.Nat.{le-trans, le-of-eq, lt-of-lt-of-le, lt-of-not-le, not-le-of-lt, le-antisymm, mul-comm, mul-div-cancel, mul-le-mul-right}
+use Prim.Native.Nat.{ℕ, _+_, _-_, _*_, _^_, _≤_, _<_}
+use native.Mathlib.Nat.{le-trans, le-of-eq, lt-of-lt-of-le, lt-of-not-le, not-le-of-lt, le-antisymm, mul-div-cancel, mul-le-mul-right}
 use native.Mathlib.Omega.{arith}
-use lib.Dec.{T}
 use lib.Pow.{pow-pos, pow-add, pow-mono, shl-lt}
 use lib.Ieee.{Float, binary32, round, size}
 use lib.Ieee.Digits.{size-lt, size-le}
@@ -16,7 +15,7 @@ use Rattle.lists.specs.Interpolation.{interp}
 use Rattle.power.specs.Table.{lowBits, P, I}
 use Rattle.power.specs.Rules.{Roots, P-rule}
 use Rattle.power.specs.Power.{positiveZero}
-use Rattle.power.specs.Log.{greatest, positiveNormal, unitsOf, rounded, logAt, logOf, L2}
+use Rattle.power.specs.Log.{greatest, positiveNormal, rounded, logAt, logOf, L2}
 use Rattle.power.proofs.Interpolated.{interp-first}
 use Rattle.power.proofs.Greatest.{Greatest, is-greatest}
 use Rattle.power.proofs.Normal.{normal, units-are, from-least, to-largest}

@@ -1,7 +1,7 @@
 -- E2 as `exp2` makes it: +0 and the largest f32 at the ends, and between them the bits (N - 2) * 2 ^ 23 + floor (I(F) / 128), a sum that carries the leading one of
 -- floor (I(F) / 128), which has 24 digits, into the exponent's field. Assumes nothing.
 use mathlib.Core.Path.{_≡_, refl, sym, ap, _∙_}
-use mathlib.Core.Bool.{Bool, true, false, not, cond}
+use mathlib.Core.Bool.{Bool, true, false, not}
 use Prim.Native.Nat.{ℕ, _+_, _-_, _*_, _/_, _%_, _^_, _≤_, _<_}
 use native.Mathlib.Nat.{sub-le, mul-div-cancel, le-trans, mul-add-div-right, div-le-self}
 use native.Mathlib.Omega.{arith}
@@ -57,29 +57,37 @@ module _ (x : Float) (f : T (not (isNan x))) where
   pub at-mid : 2 ≤ moved 128 x / 2 ^ 24 → moved 128 x / 2 ^ 24 < 256 → E2 x ≡ odd 24 false (I (moved 128 x % 2 ^ 24) / 128) (moved 128 x / 2 ^ 24 - 2) 149
   at-mid h l = at ∙ mid-is _ _ h l
 
-  -- y and i are what the code computed
-  module _ (y i : ℕ) (hy : y ≡ moved 128 x) (low : 2 ≤ y / 2 ^ 24) (high : y < 2 ^ 32) (hi : i ≡ I (bitAnd y (2 ^ 24 - 1))) where
-    masked : i ≡ I (y % 2 ^ 24)
-    masked = hi ∙ ap (λ (z : ℕ). I z) (and-mask y 24)
+-- y and i are what the code computed: the floor, and I of its low bits
+pub record Middle (x : Float) (y i : ℕ) : Type 0 where
+  pub number : T (not (isNan x))
+  pub floor : y ≡ moved 128 x
+  pub from : 2 ≤ y / 2 ^ 24
+  pub below : y < 2 ^ 32
+  pub power : i ≡ I (bitAnd y (2 ^ 24 - 1))
 
-    bounds : (2 ^ 30 ≤ i) × (i < 2 ^ 31)
-    bounds = rw masked (interp-low P-rule (y % 2 ^ 24) (omega arith), interp-high P-rule (y % 2 ^ 24) (omega arith))
+module _ {x : Float} {y i : ℕ} (c : Middle x y i) where
+  masked : i ≡ I (y % 2 ^ 24)
+  masked = c .power ∙ ap (λ (z : ℕ). I z) (and-mask y 24)
 
-    shifted : (y / 2 ^ 24 - 2) * 2 ^ 23 % 2 ^ 64 ≡ (y / 2 ^ 24 - 2) * 2 ^ 23
-    shifted = omega arith
+  bounds : (2 ^ 30 ≤ i) × (i < 2 ^ 31)
+  bounds = rw masked (interp-low P-rule (y % 2 ^ 24) (omega arith), interp-high P-rule (y % 2 ^ 24) (omega arith))
 
-    pub bits-fit : (y / 2 ^ 24 - 2) * 2 ^ 23 % 2 ^ 64 + i / 128 < 2 ^ 32
-    bits-fit = let b = bounds in omega arith
+  shifted : (y / 2 ^ 24 - 2) * 2 ^ 23 % 2 ^ 64 ≡ (y / 2 ^ 24 - 2) * 2 ^ 23
+  shifted = let h = c .below in omega arith
 
-    pub bits-no-nan : T (not (nanBits binary32 ((y / 2 ^ 24 - 2) * 2 ^ 23 % 2 ^ 64 + i / 128)))
-    bits-no-nan = let b = bounds in rw shifted (made-no-nan (y / 2 ^ 24 - 2) (i / 128) (omega arith) (omega arith) (omega arith))
+  pub bits-fit : (y / 2 ^ 24 - 2) * 2 ^ 23 % 2 ^ 64 + i / 128 < 2 ^ 32
+  bits-fit = let b = bounds in let h = c .below in omega arith
 
-    pub bits-are : ofBits binary32 ((y / 2 ^ 24 - 2) * 2 ^ 23 % 2 ^ 64 + i / 128) ≡ E2 x
-    bits-are =
-        let b = bounds in
-        rw shifted
-        (made (y / 2 ^ 24 - 2) (i / 128) (omega arith) (omega arith) (omega arith) ∙ ap (λ (z : ℕ). odd 24 false (z / 128) (y / 2 ^ 24 - 2) 149) masked
-        ∙ sym (mid-is (y / 2 ^ 24) (y % 2 ^ 24) low (omega arith)) ∙ ap (λ (z : ℕ). powerAt lowBits P (z / 2 ^ 24) (z % 2 ^ 24)) hy ∙ sym at)
+  pub bits-no-nan : T (not (nanBits binary32 ((y / 2 ^ 24 - 2) * 2 ^ 23 % 2 ^ 64 + i / 128)))
+  bits-no-nan = let b = bounds in let h = c .below in rw shifted (made-no-nan (y / 2 ^ 24 - 2) (i / 128) (omega arith) (omega arith) (omega arith))
+
+  pub bits-are : ofBits binary32 ((y / 2 ^ 24 - 2) * 2 ^ 23 % 2 ^ 64 + i / 128) ≡ E2 x
+  bits-are =
+      let b = bounds in
+      let h = c .below in
+      rw shifted
+      (made (y / 2 ^ 24 - 2) (i / 128) (omega arith) (omega arith) (omega arith) ∙ ap (λ (z : ℕ). odd 24 false (z / 128) (y / 2 ^ 24 - 2) 149) masked
+      ∙ sym (mid-is (y / 2 ^ 24) (y % 2 ^ 24) (c .from) (omega arith)) ∙ ap (λ (z : ℕ). powerAt lowBits P (z / 2 ^ 24) (z % 2 ^ 24)) (c .floor) ∙ sym (at x (c .number)))
 
 -- ---- the floor has 32 bits
 pub floorAt-lt : (s : Bool) (m k : ℕ) → m < 2 ^ 24 → floorAt s (2 ^ 31) (m * 128) (2 ^ k) < 2 ^ 32

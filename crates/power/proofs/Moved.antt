@@ -1,18 +1,15 @@
 -- floor ((x + 128) * 2 ^ 24) as `exp2` computes it, from the parts of x by shifts: x * 2 ^ 24 is mant * 2 ^ 7 / 2 ^ (132 - expo), and from an expo of 133 on x is beyond both ends.
 -- Assumes nothing.
-use mathlib.Core.Path.{_≡_, refl, sym, ap, _∙_, subst}
-use mathlib.Core.Logic.{_⊎_, inl, inr}
-use mathlib.Core.Bool.{Bool, true, false, not}
-use Prim.Native.Nat.{ℕ, zero, suc, _+_, _-_, _*_, _/_, _%_, _^_, _≤_, _<_, min}
-use native.Mathlib.Nat.{le-trans, le-of-eq, lt-of-lt-of-le, le-of-lt, min-eq-left, min-eq-right, mul-comm, mul-assoc, mul-one, mul-right-comm, mul-left-comm, mul-le-mul, mul-le-mul-right, le-of-mul-le-mul-right, add-mul, sub-zero, mul-div-cancel, suc-mul, eq-of-mul-eq-mul-right, le-div-iff-mul-le, div-eq-of-lt, mod-eq-of-lt, zero-div, sub-eq-zero-of-le}
+use mathlib.Core.Path.{_≡_, sym, ap, _∙_, subst}
+use mathlib.Core.Bool.{Bool, true, false}
+use Prim.Native.Nat.{ℕ, _+_, _-_, _*_, _/_, _^_, _≤_, _<_}
+use native.Mathlib.Nat.{le-trans, le-of-eq, mul-comm, mul-assoc, mul-left-comm, mul-le-mul, mul-le-mul-right, le-of-mul-le-mul-right, eq-of-mul-eq-mul-right, le-div-iff-mul-le, zero-div}
 use native.Mathlib.Omega.{arith}
-use lib.Dec.{T, ltb, ltb→lt, nltb→le}
-use lib.Pow.{pow-pos, pow-add, pow-mono, pow-sub-lt, high}
+use lib.Pow.{pow-pos, pow-add, pow-mono}
 use lib.Ieee.{Float}
-use lib.Ieee.Nearest.{div-same}
 use Rattle.float32.specs.Value.{above, below, floorAt, moved, Decoded}
 use Rattle.float32.proofs.Floor.{below-pos}
-use Rattle.float32.proofs.Shifts.{capped, floorAt-same}
+use Rattle.float32.proofs.Shifts.{floorAt-same}
 
 module _ (x : Float) (s : Bool) (m k : ℕ) (d : Decoded x s m k) where
   -- x * 2 ^ 24 is m * 128 / 2 ^ (132 - k)

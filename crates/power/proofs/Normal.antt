@@ -34,7 +34,7 @@ fractions-of-le (fin false m e) (fin false n g) a c b d v w h =
 least-value : HasValue leastNormal false (2 ^ 23) (2 ^ 149)
 least-value = (refl, refl)
 
-largest-value : HasValue largest false (16777215 * 2 ^ 253) (2 ^ 149)
+pub largest-value : HasValue largest false (16777215 * 2 ^ 253) (2 ^ 149)
 largest-value = (refl, refl)
 
 -- ---- v is n units

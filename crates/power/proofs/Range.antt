@@ -8,7 +8,6 @@ use native.Mathlib.Omega.{arith}
 use lib.Dec.{T, ltb, ltb→lt, lit<}
 use lib.Pow.{pow-pos, pow-mono, shl-lt}
 use lib.Count.{trailingZeros}
-use lib.IntN.{pos}
 use lib.Ieee.{Float, nan, inf, fin, binary32, odd, le, lt, isNan, fits, ofBits}
 use lib.Ieee.Fits.{and-i, odd-fits}
 use lib.Ieee.Order.{le-of-values}

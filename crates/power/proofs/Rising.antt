@@ -3,12 +3,11 @@
 use mathlib.Core.Path.{_≡_, refl, sym, ap, _∙_, subst}
 use mathlib.Core.Logic.{inl, inr}
 use mathlib.Core.Bool.{Bool, true, false, not, cond}
-use Prim.Native.Nat.{ℕ, suc, _+_, _-_, _*_, _/_, _%_, _^_, _≤_, _<_, zero-le}
+use Prim.Native.Nat.{ℕ, suc, _-_, _*_, _/_, _%_, _^_, _≤_, _<_, zero-le}
 use native.Mathlib.Nat.{mul-assoc, pow-succ', le-trans, le-of-eq, le-refl, le-of-suc-le-suc, eq-or-lt-of-le, le-of-lt, mul-le-mul, mul-le-mul-right}
 use native.Mathlib.Omega.{arith}
 use lib.Dec.{T, ltb, ltb→lt, nltb→le}
 use lib.Pow.{pow-pos, pow-mono, shr-mono}
-use lib.IntN.{pos}
 use lib.Ieee.{Float, nan, inf, fin, odd, le, isNan}
 use lib.Ieee.Exact.{HasValue, odd-sign}
 use lib.Ieee.Order.{le-of-values}
@@ -18,12 +17,10 @@ use Rattle.lists.specs.Interpolation.{interp}
 use Rattle.power.specs.Rules.{Roots, P-rule}
 use Rattle.power.specs.Power.{positiveZero, largest, powerAt, powerOf, E2}
 use Rattle.power.proofs.Interpolated.{interp-low, interp-high, interp-mono}
+use Rattle.power.proofs.Normal.{largest-value}
 
 zero-value : HasValue positiveZero false 0 (2 ^ 149)
 zero-value = (refl, refl)
-
-largest-value : HasValue largest false (16777215 * 2 ^ 253) (2 ^ 149)
-largest-value = (refl, refl)
 
 module _ {k w : ℕ} {p : ℕ → ℕ} (R : Roots k w p) where
   -- ---- the power in units of 2 ^ -149, for N = n + 128

@@ -7,6 +7,11 @@ use crate::table::interpolate;
 const LARGEST: f32 = 3.4028235e38;
 
 // 2^x: E2 of document 01.
+//
+// Method. x = mant * 2^(expo - 149) is moved up by 128, so that it is not negative, and cut down to a multiple of 2^-24: y has the whole part above 24 bits of fraction, F.
+// (From an expo of 133 on x is 128 or more in size; 2147483648 is 128 * 2^24.) The table holds 2^(30 + h/256) rounded down, and a straight line joins its entries.
+// The 24 leading bits of that are added to the field of the exponent, into which their leading one carries.
+// Error, measured over the floats from -126 to 128: from -1.6e-7 to 9.2e-7 of 2^x, the line being above the curve and the cuts taking away.
 pub fn exp2(powers: &PowerTable, x: f32) -> f32
     requires { ⌜ now powers ≡ powerTable ⌝ }
     ensures { λ r. ⌜ r ≡ E2 x ⌝ }

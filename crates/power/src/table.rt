@@ -6,11 +6,11 @@ ghost use Rattle.power.specs.Table.{highBits, powerTable, P, I};
 pub type PowerTable = [u32; 257];
 
 // F has 24 bits. The high ones choose a step of the table, and the low ones the place within the step.
-pub const LAST_STEP: usize = 255;
+pub(crate) const LAST_STEP: usize = 255;
 
-pub const LOW_BITS: u64 = 16;
+pub(crate) const LOW_BITS: u64 = 16;
 
-pub const LOW_MASK: u64 = 0xffff;
+pub(crate) const LOW_MASK: u64 = 0xffff;
 
 // P, to be made once and lent to every function that looks something up in it.
 pub fn power_table() -> PowerTable
@@ -20,7 +20,7 @@ pub fn power_table() -> PowerTable
 }
 
 // P[j]
-pub fn power(powers: &PowerTable, j: usize) -> u64
+pub(crate) fn power(powers: &PowerTable, j: usize) -> u64
     requires { ⌜ (now powers ≡ powerTable) × (j ≤ 2 ^ highBits) ⌝ }
     ensures { λ r. ⌜ r ≡ P j ⌝ }
 {
@@ -28,7 +28,7 @@ pub fn power(powers: &PowerTable, j: usize) -> u64
 }
 
 // I(F): the line between two entries that stand side by side, rounded down.
-pub fn interpolate(powers: &PowerTable, f: u64) -> u64
+pub(crate) fn interpolate(powers: &PowerTable, f: u64) -> u64
     requires { ⌜ (now powers ≡ powerTable) × (f < 2 ^ 24) ⌝ }
     ensures { λ r. ⌜ r ≡ I f ⌝ }
 {

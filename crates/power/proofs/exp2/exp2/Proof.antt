@@ -2,14 +2,15 @@
 use mathlib.Core.Path.{_≡_, sym, ap, subst, _∙_}
 use mathlib.Core.Bool.{Bool, not}
 use Prim.Native.Nat.{ℕ, _-_, _*_, _/_, _%_, _^_, _<_}
+use native.Mathlib.Nat.{lt-of-le-of-lt}
 use native.Mathlib.Omega.{arith}
-use lib.Dec.{T}
+use lib.Dec.{T, lit<}
 use lib.Ieee.{Float, isNan}
-use lib.Bits.{mask-lt}
+use lib.Bits.{and-le-r}
 use borrow.Author.Needs.{needs}
 use Rattle.float32.specs.Value.{floorAt, moved}
 use Rattle.power.proofs.Moved.{moved-is, moved-low, moved-high}
-use Rattle.power.proofs.Made.{at-nan, at-low, at-high, bits-are, bits-fit, bits-no-nan, floorAt-lt}
+use Rattle.power.proofs.Made.{Middle, at-nan, at-low, at-high, bits-are, bits-fit, bits-no-nan, floorAt-lt}
 use Rattle.float32.proofs.Made.{no-nan}
 use Rattle.power.proofs.exp2.exp2.Statement.{statement}
 use Rattle.power.proofs.exp2.exp2.Tie as tie
@@ -77,19 +78,29 @@ returns-4 c =
     at-low (x d) (fine (d .before)) (subst (λ (z : ℕ). z / 2 ^ 24 < 2) (y-is (c .before)) (c .if4 .taken))
 
 interpolate-requires : tie.Need-interpolate-requires
-interpolate-requires c κs = (c .before .before .before .before .before .pre, mask-lt (c .before .floor-above .result) 24)
+interpolate-requires c κs = (c .before .before .before .before .before .pre, lt-of-le-of-lt (and-le-r (c .before .floor-above .result) _) (lit< tt))
+
+middle : (c : tie.After-interpolate) → Middle (x (c .before .before .before .before)) (c .before .before .floor-above .result) (c .interpolate .result)
+middle c =
+    record {
+      number = fine (c .before .before .before .before .before);
+      floor = y-is (c .before .before);
+      from = c .before .if4 .left;
+      below = y-lt (c .before .before);
+      power = c .interpolate .ensures;
+    }
+
+returns-5 : tie.Need-returns-5
+returns-5 c = bits-are (middle c)
 
 add-result : tie.Need-add-result
 add-result c = search needs
 
 cast-result : tie.Need-cast-result
-cast-result c = record { fits = bits-fit (x (c .before .before .before .before)) (fine (c .before .before .before .before .before)) (c .before .before .floor-above .result) (c .interpolate .result) (y-is (c .before .before)) (c .before .if4 .left) (y-lt (c .before .before)) (c .interpolate .ensures) }
+cast-result c = record { fits = bits-fit (middle c) }
 
 float-from-bits-result : tie.Need-float-from-bits-result
-float-from-bits-result c = bits-no-nan (x (c .before .before .before .before)) (fine (c .before .before .before .before .before)) (c .before .before .floor-above .result) (c .interpolate .result) (y-is (c .before .before)) (c .before .if4 .left) (y-lt (c .before .before)) (c .interpolate .ensures)
-
-returns-5 : tie.Need-returns-5
-returns-5 c = bits-are (x (c .before .before .before .before)) (fine (c .before .before .before .before .before)) (c .before .before .floor-above .result) (c .interpolate .result) (y-is (c .before .before)) (c .before .if4 .left) (y-lt (c .before .before)) (c .interpolate .ensures)
+float-from-bits-result c = bits-no-nan (middle c)
 
 pub exp2-spec : {M : Type 1} → statement M
 exp2-spec =

@@ -1,17 +1,17 @@
 -- `log2` meets its contract: each of its answers is one of the cases of proofs/LogMade.antt. Assumes nothing.
 use mathlib.Core.Path.{_≡_, sym, subst, ap, _∙_}
 use mathlib.Core.Bool.{Bool, not}
-use Prim.Native.Nat.{ℕ, _-_, _*_, _%_, _^_, _<_, _≤_}
+use Prim.Native.Nat.{ℕ, _-_, _*_, _%_, _^_}
 use native.Mathlib.Omega.{arith}
 use lib.Dec.{T}
-use lib.Ieee.{Float, isNan, sub, add, ofInt, binary32}
+use lib.Ieee.{Float, sub, add, ofInt, binary32}
 use lib.IntN.{pos}
 use borrow.Author.Needs.{needs}
 use Rattle.power.specs.Table.{I}
 use Rattle.power.specs.Log.{greatest}
 use Rattle.float32.proofs.Made.{no-nan}
 use Rattle.float32.proofs.Sums.{in-float}
-use Rattle.power.proofs.LogMade.{log-nan, log-negative, log-subnormal, log-infinite, log-below, log-above, F-lt}
+use Rattle.power.proofs.LogMade.{Found, log-nan, log-negative, log-subnormal, log-infinite, log-below, log-above, F-lt}
 use Rattle.power.proofs.log2.log2.Statement.{statement}
 use Rattle.power.proofs.log2.log2.Tie as tie
 
@@ -38,7 +38,7 @@ returns-2 : tie.Need-returns-2
 returns-2 c = let d = c .before in log-negative (v d) (neg d) (mant d) (expo d) (d .decode .ensures) (c .if2 .taken)
 
 returns-3 : tie.Need-returns-3
-returns-3 c = let d = c .before .before in log-subnormal (v d) (neg d) (mant d) (expo d) (d .decode .ensures) (c .if3 .taken) (c .before .if2 .left)
+returns-3 c = let d = c .before .before in log-subnormal (v d) (neg d) (mant d) (expo d) (d .decode .ensures) (omega arith) (c .before .if2 .left)
 
 returns-4 : tie.Need-returns-4
 returns-4 c = let d = c .before .before .before in log-infinite (v d) (neg d) (mant d) (expo d) (d .decode .ensures) (c .before .if3 .left) (c .if4 .taken) (c .before .before .if2 .left)
@@ -59,16 +59,21 @@ F-is c =
     let e : mant d * 128 % 2 ^ 64 ≡ mant d * 128 = omega arith in
     c .find .ensures ∙ ap (λ (z : ℕ). greatest I z (2 ^ 24)) e
 
-F-small : (c : tie.After-find) → c .find .result < 2 ^ 24
-F-small c =
-    let d = dec c in
-    F-lt (v d) (neg d) (mant d) (expo d) (d .decode .ensures) (c .before .before .if3 .left) (c .before .if4 .left) (c .before .before .before .if2 .left) (c .find .result) (F-is c)
+found : (c : tie.After-find) → Found (v (dec c)) (neg (dec c)) (mant (dec c)) (expo (dec c)) (c .find .result)
+found c =
+    record {
+      parts = dec c .decode .ensures;
+      positive = c .before .before .before .if2 .left;
+      normal = c .before .before .if3 .left;
+      finite = c .before .if4 .left;
+      greatest-F = F-is c;
+    }
 
 cast-fraction : tie.Need-cast-fraction
-cast-fraction c = let l = F-small c in omega arith
+cast-fraction c = let l = F-lt (found c) in omega arith
 
 fraction-requires : tie.Need-fraction-requires
-fraction-requires c κs = let l = F-small c in omega arith
+fraction-requires c κs = let l = F-lt (found c) in omega arith
 
 sub-result : tie.Need-sub-result
 sub-result c = search needs
@@ -79,9 +84,7 @@ int-to-float-result c = in-float _ (omega arith)
 returns-5 : tie.Need-returns-5
 returns-5 c =
     let f = c .before .before .before in
-    let d = dec f in
-    ap (λ (z : Float). sub binary32 z (ofInt binary32 (pos (126 - expo d)))) (c .before .before .fraction .ensures)
-    ∙ log-below (v d) (neg d) (mant d) (expo d) (d .decode .ensures) (f .before .before .if3 .left) (f .before .if4 .left) (f .before .before .before .if2 .left) (f .find .result) (F-is f) (c .before .if5 .taken)
+    ap (λ (z : Float). sub binary32 z (ofInt binary32 (pos (126 - expo (dec f))))) (c .before .before .fraction .ensures) ∙ log-below (found f) (c .before .if5 .taken)
 
 int-to-float-result-2 : tie.Need-int-to-float-result-2
 int-to-float-result-2 c = in-float _ (omega arith)
@@ -89,9 +92,7 @@ int-to-float-result-2 c = in-float _ (omega arith)
 returns-6 : tie.Need-returns-6
 returns-6 c =
     let f = c .before .before .before in
-    let d = dec f in
-    ap (λ (z : Float). add binary32 (ofInt binary32 (pos (expo d - 126))) z) (c .before .before .fraction .ensures)
-    ∙ log-above (v d) (neg d) (mant d) (expo d) (d .decode .ensures) (f .before .before .if3 .left) (f .before .if4 .left) (f .before .before .before .if2 .left) (f .find .result) (F-is f) (c .before .if5 .left)
+    ap (λ (z : Float). add binary32 (ofInt binary32 (pos (expo (dec f) - 126))) z) (c .before .before .fraction .ensures) ∙ log-above (found f) (c .before .if5 .left)
 
 pub log2-spec : {M : Type 1} → statement M
 log2-spec =

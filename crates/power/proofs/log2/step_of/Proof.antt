@@ -1,5 +1,4 @@
 -- `step_of` meets its contract. The walk up stops before the last entry, which is 2 ^ 31; where it stops the step's entry is at most t and the next is above. Assumes nothing.
-use mathlib.Core.Path.{_≡_}
 use native.Mathlib.Omega.{arith}
 use Prim.Native.Nat.{_+_, _-_, _^_, _<_, _≤_}
 use Rattle.power.specs.Table.{highBits, P}
@@ -37,13 +36,13 @@ loop-less c = omega arith
 loop-again : tie.Need-loop-again Inv-loop μ-loop
 loop-again c =
     let t = c .before .before .before .before .before .args .t in
-    let g : P (c .before .before .loop .h + 1) ≤ t = rw (c .before .power .ensures) at (c .if1 .taken) in
+    let g : P (c .before .before .loop .h + 1) ≤ t = omega arith in
     (not-last (c .before .before .loop .h) t (c .before .before .loop .inv .0) (c .before .before .before .before .before .pre .2) g, g)
 
 returns : tie.Need-returns Inv-loop μ-loop
 returns c =
     step-greatest (c .before .before .before .before .before .args .t) (c .before .before .loop .h)
-    record { within = c .before .before .loop .inv .0; from = c .before .before .loop .inv .1; to = rw (c .before .power .ensures) at (c .if1 .left) }
+    record { within = c .before .before .loop .inv .0; from = c .before .before .loop .inv .1; to = omega arith }
 
 pub step-of-spec : {M : Type 1} → statement M
 step-of-spec =

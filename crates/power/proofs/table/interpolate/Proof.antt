@@ -1,8 +1,7 @@
 -- `interpolate` meets its contract: the two entries never fall and are at most 2 ^ 31, so nothing wraps, and the mask and the shift are the remainder and the quotient by 2 ^ lowBits.
 -- Assumes nothing.
 use borrow.Author.Needs.{needs}
-use mathlib.Core.Path.{_≡_}
-use Prim.Native.Nat.{_/_, _+_, _^_, _≤_}
+use Prim.Native.Nat.{_^_, _≤_}
 use native.Mathlib.Omega.{arith}
 use Rattle.lists.specs.Interpolation.{product-fits, sum-fits, interpolated}
 use Rattle.power.specs.Table.{lowBits, P}
