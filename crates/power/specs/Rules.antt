@@ -7,7 +7,7 @@ use lib.Dec.{T, leb, ltb, leb→le, ltb→lt}
 use lib.ListN.{length, getD}
 use lib.Ieee.Fits.{and-l, and-r}
 use Rattle.power.specs.Table.{highBits, powers}
-use Rattle.lists.specs.Every.{every, at}
+use Rattle.lists.specs.Tested.{every, every-at}
 
 -- x is the greatest whole number whose power by n is at most 2 ^ (30 * n + j)
 pub record Root (n j x : ℕ) : Type 0 where
@@ -29,7 +29,7 @@ pub powers-rule : (j : ℕ) → j ≤ 2 ^ highBits → Root (2 ^ highBits) j (ge
 powers-rule j h =
     let x = getD powers j 0 in
     let n = 2 ^ highBits in
-    let t = at (isRoot n) powers all-powers j (rw long (omega arith)) in
+    let t = every-at 0 (isRoot n) powers all-powers j (rw long (omega arith)) in
     record {
       most = leb→le (x ^ n) (2 ^ (30 * n + j)) (and-l (leb (x ^ n) (2 ^ (30 * n + j))) (ltb (2 ^ (30 * n + j)) (suc x ^ n)) t);
       more = ltb→lt (2 ^ (30 * n + j)) (suc x ^ n) (and-r (leb (x ^ n) (2 ^ (30 * n + j))) (ltb (2 ^ (30 * n + j)) (suc x ^ n)) t);
