@@ -15,4 +15,3 @@ pub mod Sqrt
 pub mod Rise
 pub mod Bits
 pub mod Signs
-pub mod Signed

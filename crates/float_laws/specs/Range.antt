@@ -8,8 +8,8 @@ use lib.Dec.{T, lit≤}
 use lib.Ieee.{Float, Format, binary32, low, prec, le, add, sub, mul, round, neg}
 use lib.Ieee.Scale.{overflow}
 use Rattle.float_laws.specs.Units.{mag, sign, number, real, key, keyed, key→le, real-number, mag-below}
-use Rattle.float_laws.specs.Round.{rnd, rnd-real, real-zero}
-use Rattle.float_laws.specs.Mono.{o, rndU, rndU-mono, rndU-zero, center, center-up, center-down, key-zero, add-key, sub-key, add-number, sub-number, mul-number, mul-nonneg, nonneg-key, key-nonneg, size-nonneg, sizes, real-neg, key-neg, rndM, mul-key, center-mono}
+use Rattle.float_laws.specs.Round.{plus-zero, key-zero, rnd, rnd-real, real-zero}
+use Rattle.float_laws.specs.Mono.{rndU, rndU-mono, rndU-zero, center, center-up, center-down, add-key, sub-key, add-number, sub-number, mul-number, mul-nonneg, nonneg-key, key-nonneg, size-nonneg, sizes, real-neg, key-neg, rndM, mul-key, center-mono}
 use Rattle.float_laws.specs.Bounds.{one, real-one, mag-one, real-between, sub-nonneg, add-nonneg, mul-le-left, mul-real, rndM-le}
 use Rattle.float_laws.specs.Error.{Close, rnd-close}
 
@@ -31,7 +31,7 @@ small-key : (K m : ℕ) → m < K → K + m ≤ K + K
 small-key K m h = omega arith
 
 module _ (f : Format) (P : 2 ^ (prec f - 1) ≡ 8388608) (C : ℕ) (eC : 16777216 * C ≡ 16777217 * 2 ^ low f) (rC : rndU f C ≤ 2 ^ low f)
-    (l a : Float) (p : T (real f l)) (q : T (real f a)) (l0 : T (le o l)) (l1 : T (le l one)) (a0 : T (le o a)) (a1 : T (le a one)) where
+    (l a : Float) (p : T (real f l)) (q : T (real f a)) (l0 : T (le plus-zero l)) (l1 : T (le l one)) (a0 : T (le plus-zero a)) (a1 : T (le a one)) where
   -- ---- rising: l + (1 - l) * a
   size-l : (mag f l ≤ mag f one) × (key f l ≡ overflow f + mag f l) × (key f one ≡ overflow f + mag f one)
   size-l = sizes f l one p (real-one f) l0 l1
@@ -44,7 +44,7 @@ module _ (f : Format) (P : 2 ^ (prec f - 1) ≡ 8388608) (C : ℕ) (eC : 1677721
       ∙ center-up K (rndU f) (key f one + (K + K - key f l)) (mag f one - mag f l)
       (keys-minus K (key f one) (key f l) (mag f l) (mag f one) (s .2) (s .1) (s .0) (le-trans (le-of-eq (s .1)) (small-key K (mag f l) (mag-below f l p))))
 
-  gap-0 : T (le o (sub f one l))
+  gap-0 : T (le plus-zero (sub f one l))
   gap-0 = sub-nonneg f one l (real-one f) p l1
 
   gap-1 : T (le (sub f one l) one)
@@ -53,15 +53,15 @@ module _ (f : Format) (P : 2 ^ (prec f - 1) ≡ 8388608) (C : ℕ) (eC : 1677721
       (omega (arith, gap-key, size-l .2, rndU-mono f (mag f one - mag f l) (mag f one) (omega arith), rnd-real f one (real-one f)))
 
   gap-real : T (real f (sub f one l))
-  gap-real = real-between f o (sub f one l) one (sub-number f one l (real-one f) p) (real-zero f false) (real-one f) gap-0 gap-1
+  gap-real = real-between f plus-zero (sub f one l) one (sub-number f one l (real-one f) p) (real-zero f false) (real-one f) gap-0 gap-1
 
   step-real : T (real f (mul f (sub f one l) a))
   step-real = mul-real f (sub f one l) a gap-real q gap-0 a0 a1
 
-  step-0 : T (le o (mul f (sub f one l) a))
+  step-0 : T (le plus-zero (mul f (sub f one l) a))
   step-0 = mul-nonneg f (sub f one l) a gap-real q gap-0 a0
 
-  pub rise-low : T (le o (add f l (mul f (sub f one l) a)))
+  pub rise-low : T (le plus-zero (add f l (mul f (sub f one l) a)))
   rise-low = add-nonneg f l (mul f (sub f one l) a) p step-real l0 step-0
 
   pub rise-high : T (le (add f l (mul f (sub f one l) a)) one)
@@ -88,45 +88,45 @@ shrinks : (K : ℕ) (s : Bool) (m r : ℕ) → m ≤ K → r ≤ m → keyed K s
 shrinks K false m r M h k = omega arith
 shrinks K true m r M h k = omega arith
 
-module _ (f : Format) (l a : Float) (p : T (real f l)) (q : T (real f a)) (l0 : T (le o l)) (a0 : T (le o a)) (a1 : T (le a one)) where
-  o-real : T (real f o)
+module _ (f : Format) (l a : Float) (p : T (real f l)) (q : T (real f a)) (l0 : T (le plus-zero l)) (a0 : T (le plus-zero a)) (a1 : T (le a one)) where
+  o-real : T (real f plus-zero)
   o-real = real-zero f false
 
-  drop-key : key f (sub f o l) + mag f l ≡ overflow f
+  drop-key : key f (sub f plus-zero l) + mag f l ≡ overflow f
   drop-key =
       let K = overflow f in
       let m = mag f l in
       let z : rndU f m ≡ m = rnd-real f l p in
-      omega (arith, mag-below f l p, z, sub-key f o l o-real p ∙ center-down K (rndU f) (key f o + (K + K - key f l)) m (rndU-zero f) (keys-down K (key f o) (key f l) m (key-zero f) (size-nonneg f l p l0) (mag-below f l p)))
+      omega (arith, mag-below f l p, z, sub-key f plus-zero l o-real p ∙ center-down K (rndU f) (key f plus-zero + (K + K - key f l)) m (rndU-zero f) (keys-down K (key f plus-zero) (key f l) m (key-zero f) (size-nonneg f l p l0) (mag-below f l p)))
 
-  drop-number : T (number f (sub f o l))
-  drop-number = sub-number f o l o-real p
+  drop-number : T (number f (sub f plus-zero l))
+  drop-number = sub-number f plus-zero l o-real p
 
-  drop-real : T (real f (sub f o l))
+  drop-real : T (real f (sub f plus-zero l))
   drop-real =
       let n = real-neg f l p in
-      real-between f (neg l) (sub f o l) o drop-number n o-real
-      (key→le f (neg l) (sub f o l) (real-number f (neg l) n) drop-number (omega (arith, drop-key, key-neg f l (real-number f l p), size-nonneg f l p l0, mag-below f l p)))
-      (key→le f (sub f o l) o drop-number (real-number f o o-real) (omega (arith, drop-key, key-zero f)))
+      real-between f (neg l) (sub f plus-zero l) plus-zero drop-number n o-real
+      (key→le f (neg l) (sub f plus-zero l) (real-number f (neg l) n) drop-number (omega (arith, drop-key, key-neg f l (real-number f l p), size-nonneg f l p l0, mag-below f l p)))
+      (key→le f (sub f plus-zero l) plus-zero drop-number (real-number f plus-zero o-real) (omega (arith, drop-key, key-zero f)))
 
-  fall-key : (key f (sub f o l) ≤ key f (mul f (sub f o l) a)) × (key f (mul f (sub f o l) a) ≤ overflow f)
+  fall-key : (key f (sub f plus-zero l) ≤ key f (mul f (sub f plus-zero l) a)) × (key f (mul f (sub f plus-zero l) a) ≤ overflow f)
   fall-key =
-      let d = sub f o l in
+      let d = sub f plus-zero l in
       let w = shrinks (overflow f) (sign d) (mag f d) (rndM f (mag f d) (mag f a)) (le-of-lt (mag-below f d drop-real)) (rndM-le f d a drop-real q a0 a1) (omega (arith, drop-key)) in
       let e = mul-key f d a drop-real q (nonneg-key f a (real-number f a q) a0) in
       (omega (arith, e, w .0), omega (arith, e, w .1))
 
-  fall-real : T (real f (mul f (sub f o l) a))
+  fall-real : T (real f (mul f (sub f plus-zero l) a))
   fall-real =
-      let d = sub f o l in
+      let d = sub f plus-zero l in
       let t = mul f d a in
       let n = mul-number f d a drop-real q in
-      real-between f d t o n drop-real o-real (key→le f d t drop-number n (fall-key .0)) (key→le f t o n (real-number f o o-real) (omega (arith, fall-key .1, key-zero f)))
+      real-between f d t plus-zero n drop-real o-real (key→le f d t drop-number n (fall-key .0)) (key→le f t plus-zero n (real-number f plus-zero o-real) (omega (arith, fall-key .1, key-zero f)))
 
-  fall-sum : (overflow f ≤ key f (add f l (mul f (sub f o l) a))) × (key f (add f l (mul f (sub f o l) a)) ≤ key f l)
+  fall-sum : (overflow f ≤ key f (add f l (mul f (sub f plus-zero l) a))) × (key f (add f l (mul f (sub f plus-zero l) a)) ≤ key f l)
   fall-sum =
       let K = overflow f in
-      let t = mul f (sub f o l) a in
+      let t = mul f (sub f plus-zero l) a in
       let m = mag f l in
       let kl = size-nonneg f l p l0 in
       let lo : K + K ≤ key f l + key f t = omega (arith, drop-key, fall-key .0) in
@@ -138,16 +138,16 @@ module _ (f : Format) (l a : Float) (p : T (real f l)) (q : T (real f a)) (l0 : 
       let e = add-key f l t p fall-real in
       (omega (arith, u, x, e), omega (arith, v, y, e, rnd-real f l p))
 
-  pub fall-low : T (le o (add f l (mul f (sub f o l) a)))
-  fall-low = key-nonneg f (add f l (mul f (sub f o l) a)) (add-number f l (mul f (sub f o l) a) p fall-real) (fall-sum .0)
+  pub fall-low : T (le plus-zero (add f l (mul f (sub f plus-zero l) a)))
+  fall-low = key-nonneg f (add f l (mul f (sub f plus-zero l) a)) (add-number f l (mul f (sub f plus-zero l) a) p fall-real) (fall-sum .0)
 
-  pub fall-high : T (le (add f l (mul f (sub f o l) a)) l)
-  fall-high = key→le f (add f l (mul f (sub f o l) a)) l (add-number f l (mul f (sub f o l) a) p fall-real) (real-number f l p) (fall-sum .1)
+  pub fall-high : T (le (add f l (mul f (sub f plus-zero l) a)) l)
+  fall-high = key→le f (add f l (mul f (sub f plus-zero l) a)) l (add-number f l (mul f (sub f plus-zero l) a) p fall-real) (real-number f l p) (fall-sum .1)
 
 -- ---- for f32
-module _ (l a : Float) (p : T (real binary32 l)) (q : T (real binary32 a)) (l0 : T (le o l)) (l1 : T (le l one)) (a0 : T (le o a)) (a1 : T (le a one)) where
-  pub rise-32 : T (le o (add binary32 l (mul binary32 (sub binary32 one l) a))) × T (le (add binary32 l (mul binary32 (sub binary32 one l) a)) one)
+module _ (l a : Float) (p : T (real binary32 l)) (q : T (real binary32 a)) (l0 : T (le plus-zero l)) (l1 : T (le l one)) (a0 : T (le plus-zero a)) (a1 : T (le a one)) where
+  pub rise-32 : T (le plus-zero (add binary32 l (mul binary32 (sub binary32 one l) a))) × T (le (add binary32 l (mul binary32 (sub binary32 one l) a)) one)
   rise-32 = (rise-low binary32 refl (2 ^ 149 + 2 ^ 125) refl tie l a p q l0 l1 a0 a1, rise-high binary32 refl (2 ^ 149 + 2 ^ 125) refl tie l a p q l0 l1 a0 a1)
 
-  pub fall-32 : T (le o (add binary32 l (mul binary32 (sub binary32 o l) a))) × T (le (add binary32 l (mul binary32 (sub binary32 o l) a)) l)
+  pub fall-32 : T (le plus-zero (add binary32 l (mul binary32 (sub binary32 plus-zero l) a))) × T (le (add binary32 l (mul binary32 (sub binary32 plus-zero l) a)) l)
   fall-32 = (fall-low binary32 l a p q l0 a0 a1, fall-high binary32 l a p q l0 a0 a1)

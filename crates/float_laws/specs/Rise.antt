@@ -11,15 +11,15 @@ use lib.Ieee.{Float, Format, emax, low, le, add, mul}
 use lib.Ieee.Scale.{overflow}
 use Rattle.float_laws.specs.Units.{mag, number, real, key, key→le, real-number}
 use Rattle.float_laws.specs.Order.{larger, larger-number, key-larger, larger-mono, clamp, clamp-number, clamp-low, clamp-high, clamp-mono, le-refl-f}
-use Rattle.float_laws.specs.Round.{real-zero}
+use Rattle.float_laws.specs.Round.{plus-zero, real-zero}
 use Rattle.float_laws.specs.Ops.{mul-comm-f}
-use Rattle.float_laws.specs.Mono.{o, rndU, rndM, center-up, add-key, add-number, mul-number, add-mono, mul-mono, mul-nonneg, mul-key-nonneg, key-nonneg, size-nonneg, sizes}
+use Rattle.float_laws.specs.Mono.{rndU, rndM, center-up, add-key, add-number, mul-number, add-mono, mul-mono, mul-nonneg, mul-key-nonneg, key-nonneg, size-nonneg, sizes}
 use Rattle.float_laws.specs.Bounds.{one, real-one, mag-one, one-nonneg, real-between, mul-real}
 use Rattle.float_laws.specs.Power.{power, mag-power, real-power, rnd-power}
 
 pub record Upto (f : Format) (k : ℕ) (x : Float) : Type 0 where
   pub is-real : T (real f x)
-  pub low : T (le o x)
+  pub low : T (le plus-zero x)
   pub high : mag f x ≤ 2 ^ k * 2 ^ lib.Ieee.low f
 
 pub record Rise (f : Format) (k : ℕ) (x y : Float) : Type 0 where
@@ -32,15 +32,15 @@ module _ (f : Format) where
   sized : (k : ℕ) → k ≤ emax f → (x : Float) (n : ℕ) → T (number f x) → key f x ≡ overflow f + n → n ≤ 2 ^ k * 2 ^ low f → Upto f k x
   sized k h x n p e l =
       let K = overflow f in
-      let b : T (le o x) = key-nonneg f x p (omega arith) in
+      let b : T (le plus-zero x) = key-nonneg f x p (omega arith) in
       let w : key f (power k) ≡ K + 2 ^ k * 2 ^ low f = ap (λ (z : ℕ). K + z) (mag-power f k) in
-      let r : T (real f x) = real-between f o x (power k) p (real-zero f false) (real-power f k h) b (key→le f x (power k) p (real-number f (power k) (real-power f k h)) (omega arith)) in
+      let r : T (real f x) = real-between f plus-zero x (power k) p (real-zero f false) (real-power f k h) b (key→le f x (power k) p (real-number f (power k) (real-power f k h)) (omega arith)) in
       record { is-real = r; low = b; high = omega (arith, size-nonneg f x r b) }
 
   pub upto-weaken : {j k : ℕ} {x : Float} → j ≤ k → Upto f j x → Upto f k x
   upto-weaken {j} {k} {x} h u = record { is-real = u .is-real; low = u .low; high = le-trans (u .high) (mul-le-mul-right (2 ^ low f) (pow-mono h)) }
 
-  pub upto-level : (x : Float) → T (real f x) → T (le o x) → T (le x one) → Upto f 0 x
+  pub upto-level : (x : Float) → T (real f x) → T (le plus-zero x) → T (le x one) → Upto f 0 x
   upto-level x p h k = record { is-real = p; low = h; high = le-trans (sizes f x one p (real-one f) h k .0) (omega (arith, mag-one f)) }
 
   -- ---- products
@@ -114,29 +114,29 @@ module _ (f : Format) where
       }
 
   -- ---- a clamp to 0..1
-  pub upto-clamp : (x : Float) → T (number f x) → Upto f 0 (clamp o one x)
+  pub upto-clamp : (x : Float) → T (number f x) → Upto f 0 (clamp plus-zero one x)
   upto-clamp x p =
-      let z = real-number f o (real-zero f false) in
+      let z = real-number f plus-zero (real-zero f false) in
       let w = real-number f one (real-one f) in
-      let n = clamp-number f o one z w one-nonneg x p in
-      let a = clamp-low f o one z w one-nonneg x p in
-      let b = clamp-high f o one z w one-nonneg x p in
-      upto-level (clamp o one x) (real-between f o (clamp o one x) one n (real-zero f false) (real-one f) a b) a b
+      let n = clamp-number f plus-zero one z w one-nonneg x p in
+      let a = clamp-low f plus-zero one z w one-nonneg x p in
+      let b = clamp-high f plus-zero one z w one-nonneg x p in
+      upto-level (clamp plus-zero one x) (real-between f plus-zero (clamp plus-zero one x) one n (real-zero f false) (real-one f) a b) a b
 
-  pub rise-clamp : {k : ℕ} {x y : Float} → Rise f k x y → Rise f 0 (clamp o one x) (clamp o one y)
+  pub rise-clamp : {k : ℕ} {x y : Float} → Rise f k x y → Rise f 0 (clamp plus-zero one x) (clamp plus-zero one y)
   rise-clamp {k} {x} {y} r =
       record {
         from = upto-clamp x (num (r .from));
         to = upto-clamp y (num (r .to));
-        up = clamp-mono f o one (real-number f o (real-zero f false)) (real-number f one (real-one f)) one-nonneg x y (num (r .from)) (num (r .to)) (r .up);
+        up = clamp-mono f plus-zero one (real-number f plus-zero (real-zero f false)) (real-number f one (real-one f)) one-nonneg x y (num (r .from)) (num (r .to)) (r .up);
       }
 
 -- ---- with no bound but that both are finite: a product with what is at most 1, on either side
 pub record Up (f : Format) (x y : Float) : Type 0 where
   pub from-real : T (real f x)
   pub to-real : T (real f y)
-  pub from-low : T (le o x)
-  pub to-low : T (le o y)
+  pub from-low : T (le plus-zero x)
+  pub to-low : T (le plus-zero y)
   pub up : T (le x y)
 
 module _ (f : Format) where
@@ -158,12 +158,12 @@ module _ (f : Format) where
         up = mul-mono f x x' y y' (r .from-real) (r .to-real) (s .from .is-real) (s .to .is-real) (r .from-low) (s .from .low) (r .up) (s .up);
       }
 
-  pub up-clamp : {x y : Float} → Up f x y → Rise f 0 (clamp o one x) (clamp o one y)
+  pub up-clamp : {x y : Float} → Up f x y → Rise f 0 (clamp plus-zero one x) (clamp plus-zero one y)
   up-clamp {x} {y} r =
       record {
         from = upto-clamp f x (real-number f x (r .from-real));
         to = upto-clamp f y (real-number f y (r .to-real));
-        up = clamp-mono f o one (real-number f o (real-zero f false)) (real-number f one (real-one f)) one-nonneg x y (real-number f x (r .from-real)) (real-number f y (r .to-real)) (r .up);
+        up = clamp-mono f plus-zero one (real-number f plus-zero (real-zero f false)) (real-number f one (real-one f)) one-nonneg x y (real-number f x (r .from-real)) (real-number f y (r .to-real)) (r .up);
       }
 
   pub scale-up : {x x' y y' : Float} → Rise f 0 y y' → Up f x x' → Up f (mul f y x) (mul f y' x')

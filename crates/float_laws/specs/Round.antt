@@ -139,6 +139,9 @@ pub rnd-exact : (f : Format) (x : Float) (a c : ℕ) → T (real f x) → 0 < c 
 rnd-exact f x a c p C h = rnd-same f a c (mag f x) (2 ^ low f) C (pow-pos (low f)) h ∙ rnd-real f x p
 
 -- ---- zero
+abbrev pub plus-zero : Float
+plus-zero = fin false 0 (pos 0)
+
 pub mag-zero : (f : Format) (s : Bool) (e : ℤ) → mag f (fin s 0 e) ≡ 0
 unfolding mag
 mag-zero f s e = ap (λ (z : ℕ). z * 2 ^ low f / down e) (zero-mul (up e)) ∙ ap (λ (z : ℕ). z / down e) (zero-mul (2 ^ low f)) ∙ zero-div (down e)
@@ -149,5 +152,7 @@ real-zero f s = tt
 
 pub rnd-zero : (f : Format) (c : ℕ) → 0 < c → rnd f 0 c ≡ 0
 rnd-zero f c C =
-    let o = fin false 0 (pos 0) in
-    rnd-exact f o 0 c (real-zero f false) C (zero-mul (2 ^ low f) ∙ sym (zero-mul c) ∙ ap (λ (z : ℕ). z * c) (sym (mag-zero f false (pos 0)))) ∙ mag-zero f false (pos 0)
+    rnd-exact f plus-zero 0 c (real-zero f false) C (zero-mul (2 ^ low f) ∙ sym (zero-mul c) ∙ ap (λ (z : ℕ). z * c) (sym (mag-zero f false (pos 0)))) ∙ mag-zero f false (pos 0)
+
+pub key-zero : (f : Format) → key f plus-zero ≡ overflow f
+key-zero f = omega (arith, mag-zero f false (pos 0))

@@ -13,9 +13,9 @@ use lib.Ieee.{Float, nan, inf, fin, Format, binary32, prec, emax, low, fits, add
 use lib.Ieee.Scale.{overflow}
 use Rattle.float_laws.specs.Units.{mag, sign, number, real, key, keyed, mag-inf, mag-below, lt→key, le→key, real-number}
 use Rattle.float_laws.specs.Order.{larger, le-left}
-use Rattle.float_laws.specs.Round.{rnd, sign-round, mag-round, round-number, mag-zero, real-zero}
+use Rattle.float_laws.specs.Round.{plus-zero, rnd, sign-round, mag-round, round-number, mag-zero, real-zero}
 use Rattle.float_laws.specs.Ops.{mul-round, div-round, add-sum, sum-clear}
-use Rattle.float_laws.specs.Mono.{o, rndU, rndM, real-neg}
+use Rattle.float_laws.specs.Mono.{rndU, rndM, real-neg}
 use Rattle.float_laws.specs.Error.{Within, Close, rnd-within, rnd-close, hi-32, lo-32}
 use Rattle.float_laws.specs.Bounds.{one, real-between}
 use Rattle.float_laws.specs.Power.{rnd-power, power-below, real-power}
@@ -30,7 +30,7 @@ energy f d (x ∷ xs) = energy f (add f d (mul f x x)) xs
 
 -- the value x over the larger of that sum and c
 abbrev pub dual : Format → Float → List Float → Float → Float
-dual f c ys x = div f x (larger (energy f o ys) c)
+dual f c ys x = div f x (larger (energy f plus-zero ys) c)
 
 -- of each entry of the second list its dual, the sum being taken from the entry on, round the end to the first list
 abbrev pub pairs : Format → Float → List Float → List Float → List (Float × Float)
@@ -221,12 +221,12 @@ module _ (f : Format) (P : 2 ^ (prec f - 1) ≡ 8388608) (big : 2 ^ 57 ≤ 2 ^ l
     e : ℕ
     e = rolled (λ d g. rndU f (d + g)) (λ m. rndM f m m) 0 (mags f ys)
 
-    plain-o : Plain f o 0
+    plain-o : Plain f plus-zero 0
     plain-o = record { is-real = real-zero f false; clear = refl; size = mag-zero f false (pos 0) }
 
-    plain-e : Plain f (energy f o ys) e
+    plain-e : Plain f (energy f plus-zero ys) e
     unfolding e
-    plain-e = energy-plain f P big wide 8 o 0 ys (omega arith) (omega arith) plain-o (omega arith) ok
+    plain-e = energy-plain f P big wide 8 plus-zero 0 ys (omega arith) (omega arith) plain-o (omega arith) ok
 
     near-e : Near 16 e Q
     unfolding e
@@ -238,12 +238,12 @@ module _ (f : Format) (P : 2 ^ (prec f - 1) ≡ 8388608) (big : 2 ^ 57 ≤ 2 ^ l
     floor-is : 2 ^ low f ≤ 2 ^ 32 * e
     floor-is = floor-e (2 ^ low f) Q e fl near-e
 
-    key-e : key f (energy f o ys) ≡ overflow f + e
-    key-e = ap (λ (s : Bool). keyed (overflow f) s (mag f (energy f o ys))) (plain-e .clear) ∙ ap (λ (z : ℕ). overflow f + z) (plain-e .size)
+    key-e : key f (energy f plus-zero ys) ≡ overflow f + e
+    key-e = ap (λ (s : Bool). keyed (overflow f) s (mag f (energy f plus-zero ys))) (plain-e .clear) ∙ ap (λ (z : ℕ). overflow f + z) (plain-e .size)
 
-    divisor-is : larger (energy f o ys) c ≡ energy f o ys
+    divisor-is : larger (energy f plus-zero ys) c ≡ energy f plus-zero ys
     divisor-is =
-        let E = energy f o ys in
+        let E = energy f plus-zero ys in
         cond-no (lt E c) c E
         (not-T (lt E c)
         (λ (h : T (lt E c)).
@@ -259,7 +259,7 @@ module _ (f : Format) (P : 2 ^ (prec f - 1) ≡ 8388608) (big : 2 ^ 57 ≤ 2 ^ l
     module _ (x : Float) (okx : Ok f x) where
       dual-round : dual f c ys x ≡ round f (sign x) (mag f x) e
       dual-round =
-          let E = energy f o ys in
+          let E = energy f plus-zero ys in
           ap (div f x) divisor-is
           ∙ div-round f x E (okx .is-real) (plain-e .is-real) (subst (λ (z : ℕ). 0 < z) (sym (plain-e .size)) e-pos)
           ∙ ap (λ (s : Bool). round f s (mag f x) (mag f E)) (unlike-clear (sign x) (sign E) (plain-e .clear))
