@@ -10,6 +10,7 @@ use lib.Dec.{T}
 use lib.Ieee.{Float, nan, inf, fin, Format, binary32, binary64, low, fits, round, le, eq, unlike, add, sub, mul}
 use lib.Ieee.Scale.{overflow}
 use Rattle.float_laws.specs.Units.{mag, sign, number, real, key, keyed, mag-below, mag-inf, le→key, key→le, key→eq, real-number, overflow-pos, unique}
+use Rattle.float_laws.specs.Order.{le-trans-f}
 use Rattle.float_laws.specs.Round.{plus-zero, key-zero, rnd, rnd-zero, rnd-exact, rnd-real, key-round, round-number, mag-zero, real-zero, mag-round, sign-round}
 use Rattle.float_laws.specs.Ops.{mul-round, add-sum, sum-clear}
 use Rattle.float_laws.specs.Mono.{center, center-up, center-down, rndU, rndM, rndM-mono, add-number, add-key, sub-number, sub-key, mul-number, mul-key-nonneg, mul-nonneg, key-nonneg, size-nonneg, sizes}
@@ -88,6 +89,13 @@ mul-le-left f x y p q X Y h =
 
 pub mul-real : (f : Format) (x y : Float) → T (real f x) → T (real f y) → T (le plus-zero x) → T (le plus-zero y) → T (le y one) → T (real f (mul f x y))
 mul-real f x y p q X Y h = real-between f plus-zero (mul f x y) x (mul-number f x y p q) (real-zero f false) p (mul-nonneg f x y p q X Y) (mul-le-left f x y p q X Y h)
+
+-- so the product of two that are in 0..1 is in 0..1
+pub mul-levels : (f : Format) (x y : Float) → T (real f x) → T (real f y) → T (le plus-zero x) → T (le x one) → T (le plus-zero y) → T (le y one) → T (le plus-zero (mul f x y)) × T (le (mul f x y) one)
+mul-levels f x y p q X h Y k = (
+  mul-nonneg f x y p q X Y,
+  le-trans-f f (mul f x y) x one (mul-number f x y p q) (real-number f x p) (real-number f one (real-one f)) (mul-le-left f x y p q X Y k) h,
+)
 
 -- ---- 1 and 0 change nothing
 unlike-false : (s : Bool) → unlike s false ≡ s

@@ -14,7 +14,7 @@ use lib.Ieee.Fits.{two, two-le-pos, round-fits}
 use lib.Ieee.Nearest.{closest}
 use lib.Ieee.Order.{drop, kept}
 use lib.Ieee.Scale.{overflow, grid, finite, round-val, round-under}
-use Rattle.float_laws.specs.Units.{mag, number, real, mag-inf}
+use Rattle.float_laws.specs.Units.{mag, real, real-of-size}
 use Rattle.float_laws.specs.Round.{rnd, rnd-mono, rnd-real, round-number, mag-of-value}
 
 abbrev pub Cmp : Ordering → ℕ → ℕ → Type 0
@@ -94,17 +94,17 @@ grid-within f a c C =
     }
 
 -- ---- the same of `rnd`, where the result is finite
-finite-of-size : (f : Format) (x : Float) → T (number f x) → mag f x < overflow f → T (finite x)
-finite-of-size f nan p h = p
-finite-of-size f (inf s) p h = absurd (lt-irrefl (overflow f) (subst (λ (z : ℕ). z < overflow f) (mag-inf f s) h))
-finite-of-size f (fin s m e) p h = tt
+finite-real : (f : Format) (x : Float) → T (real f x) → T (finite x)
+finite-real f nan p = p
+finite-real f (inf s) p = p
+finite-real f (fin s m e) p = tt
 
 pub rnd-grid : (f : Format) (a c : ℕ) → rnd f a c < overflow f → rnd f a c ≡ grid f a c
 unfolding rnd
 rnd-grid f a c h =
     let r = round f false a c in
     eq-of-mul-eq-mul-right (2 ^ low f) (pow-pos (low f)) (mag f r) (grid f a c)
-    (mag-of-value f r false (grid f a c) (2 ^ low f) (round-fits f false a c) (round-val f a c (round-under f a c (finite-of-size f r (round-number f false a c) h))))
+    (mag-of-value f r false (grid f a c) (2 ^ low f) (round-fits f false a c) (round-val f a c (round-under f a c (finite-real f r (real-of-size f r (round-number f false a c) h)))))
 
 pub rnd-within : (f : Format) (a c : ℕ) → 0 < c → rnd f a c < overflow f → Within (2 ^ (prec f - 1)) (a * 2 ^ low f) c (rnd f a c)
 rnd-within f a c C h = subst (λ (z : ℕ). Within (2 ^ (prec f - 1)) (a * 2 ^ low f) c z) (sym (rnd-grid f a c h)) (grid-within f a c C)

@@ -8,6 +8,7 @@ pub mod Error
 pub mod Near
 pub mod Dual
 pub mod Power
+pub mod Exact
 pub mod Window
 pub mod Inf
 pub mod Range

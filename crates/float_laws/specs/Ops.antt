@@ -11,7 +11,7 @@ use lib.Ieee.Fits.{down-pos}
 use lib.Ieee.Positive.{first-pos}
 use lib.Ieee.Scale.{round-same}
 use Rattle.float_laws.specs.Units.{mag, sign, real, mag-exact, scaled-lt}
-use Rattle.float_laws.specs.Round.{mag-zero, round-neg}
+use Rattle.float_laws.specs.Round.{mag-zero, sign-round, round-neg}
 use Rattle.float_laws.specs.Signs.{sub-mul}
 
 -- ---- the product
@@ -34,6 +34,9 @@ mul-round f (inf s) y p q = absurd p
 mul-round f (fin s m e) nan p q = absurd q
 mul-round f (fin s m e) (inf t) p q = absurd q
 mul-round f (fin s m e) (fin t n d) p q = mul-fin f s m e t n d p q
+
+pub mul-sign : (f : Format) (x y : Float) → T (real f x) → T (real f y) → sign (mul f x y) ≡ unlike (sign x) (sign y)
+mul-sign f x y p q = ap sign (mul-round f x y p q) ∙ sign-round f (unlike (sign x) (sign y)) (mag f x * mag f y) (2 ^ low f * 2 ^ low f)
 
 -- of any two values
 unlike-comm : (s t : Bool) → unlike s t ≡ unlike t s
@@ -83,6 +86,9 @@ div-round f (inf s) y p q N = absurd p
 div-round f (fin s m e) nan p q N = absurd q
 div-round f (fin s m e) (inf t) p q N = absurd q
 div-round f (fin s m e) (fin t n d) p q N = div-fin f s m e t n d p q N
+
+pub div-sign : (f : Format) (x y : Float) → T (real f x) → T (real f y) → 0 < mag f y → sign (div f x y) ≡ unlike (sign x) (sign y)
+div-sign f x y p q N = ap sign (div-round f x y p q N) ∙ sign-round f (unlike (sign x) (sign y)) (mag f x) (mag f y)
 
 -- ---- the sum
 bool-ext : (x y : Bool) → (T x → T y) → (T y → T x) → x ≡ y

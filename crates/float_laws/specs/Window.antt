@@ -11,7 +11,7 @@ use lib.Dec.{T, lit≤, not-T}
 use lib.ListN.{length, length-append}
 use lib.Ieee.{Float, nan, inf, fin, Format, binary32, prec, emax, low, fits, add, mul, div, lt, le, unlike, round, neg}
 use lib.Ieee.Scale.{overflow}
-use Rattle.float_laws.specs.Units.{mag, sign, number, real, key, keyed, mag-inf, mag-below, lt→key, le→key, real-number}
+use Rattle.float_laws.specs.Units.{mag, sign, number, real, key, keyed, real-of-size, mag-below, lt→key, le→key, real-number}
 use Rattle.float_laws.specs.Order.{larger, le-left}
 use Rattle.float_laws.specs.Round.{plus-zero, rnd, sign-round, mag-round, round-number, mag-zero, real-zero}
 use Rattle.float_laws.specs.Ops.{mul-round, div-round, add-sum, sum-clear}
@@ -43,18 +43,10 @@ pub record Plain (f : Format) (x : Float) (n : ℕ) : Type 0 where
   pub clear : sign x ≡ false
   pub size : mag f x ≡ n
 
-finite-number : (f : Format) (x : Float) → T (number f x) → mag f x < overflow f → T (real f x)
-finite-number f nan p h = p
-finite-number f (inf s) p h = absurd (clash (overflow f) (mag f (inf s)) (mag-inf f s) h)
-  where
-    clash : (a b : ℕ) → b ≡ a → b < a → ⊥
-    clash a b e l = omega arith
-finite-number f (fin s m e) p h = p
-
 plain-round : (f : Format) (a c : ℕ) → rnd f a c < overflow f → Plain f (round f false a c) (rnd f a c)
 plain-round f a c h =
     record {
-      is-real = finite-number f (round f false a c) (round-number f false a c) (lt-of-le-of-lt (le-of-eq (mag-round f false a c)) h);
+      is-real = real-of-size f (round f false a c) (round-number f false a c) (lt-of-le-of-lt (le-of-eq (mag-round f false a c)) h);
       clear = sign-round f false a c;
       size = mag-round f false a c;
     }
