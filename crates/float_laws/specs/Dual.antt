@@ -6,16 +6,8 @@ use native.Mathlib.Nat.{zero-mul, mul-comm, mul-assoc, mul-left-comm, add-mul, m
 use mathlib.Core.Logic.{inl, inr}
 use native.Mathlib.Omega.{arith}
 use lib.ListN.{length}
+use Rattle.lists.specs.Totals.{total, All}
 use Rattle.float_laws.specs.Near.{B, Near, near-refl, near-sym, near-weaken, near-add, near-trans, near-scale, near-unscale, near-of}
-
--- the sum of g over a list
-unfoldable pub total : {A : Type 0} → (A → ℕ) → List A → ℕ
-total g [] = 0
-total g (x ∷ xs) = g x + total g xs
-
-abbrev pub All : {A : Type 0} → (A → Type 0) → List A → Type 0
-All P [] = Unit
-All P (x ∷ xs) = P x × All P xs
 
 -- ---- a sum that is rounded at each step, from the left
 -- d is the sum so far. `up` is the rounded sum.

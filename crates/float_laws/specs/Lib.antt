@@ -10,6 +10,7 @@ pub mod Dual
 pub mod Power
 pub mod Exact
 pub mod Window
+pub mod Classes
 pub mod Inf
 pub mod Range
 pub mod Sqrt

@@ -12,6 +12,7 @@ use native.Mathlib.Omega.{arith}
 use lib.Dec.{T}
 use lib.ListN.{length, getD, take, drop, drop-of-length-le, length-take}
 use lib.Seq.{drop-cons, getD-take, length-take-le}
+use Rattle.lists.specs.Maps.{tabFrom}
 
 -- ---- the numbers from i on, n of them
 unfoldable pub range : ℕ → ℕ → List ℕ
@@ -64,6 +65,12 @@ module _ {A S : Type 0} where
   unfolding fold
   fold-keeps P step k s [] p = p
   fold-keeps P step k s (x ∷ xs) p = fold-keeps P step k (step s x) xs (k s x p)
+
+-- a run over numbers that reads an entry at each is a run over the list of these entries
+pub fold-tab : {A S : Type 0} (step : S → A → S) (g : ℕ → A) (s : S) (i n : ℕ) → fold (λ s k. step s (g k)) s (range i n) ≡ fold step s (tabFrom g i n)
+unfolding fold range tabFrom
+fold-tab step g s i zero = refl
+fold-tab step g s i (suc n) = fold-tab step g (step s (g i)) (suc i) n
 
 -- a part h of the state that each step turns by its own old value alone is a run of its own: so an entry of a list that a run writes is a run over that entry
 pub fold-part : {A S U : Type 0} (h : S → U) (P : S → Type 0) (step : S → A → S) (own : U → A → U)

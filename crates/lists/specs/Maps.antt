@@ -1,6 +1,6 @@
 -- Lists made entry by entry: `tabulate n f` has f k at each place k below n; `mapAt g xs` has g k x where xs has x at k; `mapRange g lo hi xs` has that from lo on and below hi, and xs elsewhere.
 -- For each its length and its entries. Assumes nothing.
-use mathlib.Core.Path.{_≡_, refl, ap, _∙_}
+use mathlib.Core.Path.{_≡_, refl, sym, ap, _∙_}
 use mathlib.Core.Bool.{Bool, true, false, cond, _&&_}
 use mathlib.Core.List.{List, [], _∷_}
 use Prim.Native.Nat.{ℕ, zero, suc, _+_, _≤_, _<_}
@@ -10,6 +10,7 @@ use native.Mathlib.Omega.{arith}
 use borrow.Author.Tests.{le-leb, lt-leb, lt-ltb, le-ltb}
 use lib.Dec.{leb, ltb}
 use lib.ListN.{length, getD}
+use lib.Seq.{ext-getD}
 
 module _ {A B : Type 0} where
   -- g at each entry and its place, counted from j
@@ -65,6 +66,10 @@ module _ {A : Type 0} where
 
   pub getD-tabulate : (f : ℕ → A) (n k : ℕ) (d : A) → k < n → getD (tabulate n f) k d ≡ f k
   getD-tabulate f n k d h = getD-tab f 0 n k d h ∙ rw (zero-add k)
+
+  -- a list is the tabulated list of its own entries
+  pub tabulate-self : (d : A) (xs : List A) → xs ≡ tabulate (length xs) (λ k. getD xs k d)
+  tabulate-self d xs = ext-getD d xs (tabulate (length xs) (λ k. getD xs k d)) (sym (length-tab (λ k. getD xs k d) 0 (length xs))) (λ k h. sym (getD-tabulate (λ k. getD xs k d) (length xs) k d h))
 
   pub mapFrom-tab : {B : Type 0} (f : ℕ → A) (j : ℕ) (xs : List B) → mapFrom (λ k x. f k) j xs ≡ tabFrom f j (length xs)
   unfolding mapFrom tabFrom
