@@ -2,18 +2,17 @@
 -- The indices of one residue class modulo hop read one list of values, each from its own place on, so the bound of Window is one of the slice. Assumes nothing.
 use mathlib.Core.Path.{_≡_, refl, sym, ap, _∙_, subst}
 use mathlib.Core.Bool.{Bool, true, false, cond}
-use mathlib.Core.List.{List, _++_}
+use mathlib.Core.List.{List}
 use Prim.Native.Nat.{ℕ, _+_, _-_, _*_, _/_, _%_, _^_, _≤_, _<_}
-use native.Mathlib.Nat.{zero-add, one-mul, add-mul, mod-eq-of-lt, div-add-mod', div-lt-iff-lt-mul, le-trans, le-of-eq, lt-of-le-of-lt, lt-of-lt-of-le}
+use native.Mathlib.Nat.{zero-add, one-mul, add-mul, mod-eq-of-lt, div-add-mod', div-lt-iff-lt-mul, le-trans, le-of-eq, lt-of-lt-of-le}
 use native.Mathlib.Decide.{decLt}
 use native.Mathlib.Omega.{arith}
 use lib.Arith.{digits-lt, digits-mod}
 use lib.Count.{trailingZeros}
 use lib.Dec.{T, eqb, lit≤}
-use lib.IntN.{negsuc}
 use lib.ListN.{length, getD, take, drop, length-drop, List·getD-append}
 use lib.Seq.{ext-getD, getD-append-add, getD-drop, getD-take}
-use lib.Ieee.{Float, nan, fin, Format, binary32, prec, emax, low, fits, le, unlike, add, mul, div, ofBits, odd, ofFields}
+use lib.Ieee.{Float, nan, Format, binary32, prec, emax, low, fits, le, unlike, add, mul, div, ofBits, odd, ofFields}
 use Rattle.lists.specs.Maps.{tabulate, length-tab, getD-tabulate}
 use Rattle.lists.specs.Folds.{fold, range, fold-tab}
 use Rattle.lists.specs.Totals.{total, All, all-tab, total-tab, total-same, total-none, residues, residues-rows}

@@ -3,7 +3,7 @@ use mathlib.Core.Path.{_≡_, sym, ap, _∙_, subst}
 use mathlib.Core.Logic.{inl, inr}
 use mathlib.Core.Bool.{false, not}
 use Prim.Native.Nat.{ℕ, _+_, _-_, _*_, _/_, _%_, _^_, _≤_, _<_, compare, Ordering, Ordering·lt, Ordering·eq, Ordering·gt}
-use native.Mathlib.Nat.{one-mul, mul-one, mul-comm, mul-assoc, mul-left-comm, mul-right-comm, add-mul, mul-add, mul-pos, eq-zero-or-pos, le-of-eq, le-trans, lt-irrefl, mul-le-mul-right, mul-le-mul-left, le-div-iff-mul-le, div-add-mod', mod-lt, eq-of-mul-eq-mul-right, suc-mul, le-of-mul-le-mul-right}
+use native.Mathlib.Nat.{one-mul, mul-one, mul-comm, mul-assoc, mul-left-comm, mul-right-comm, add-mul, mul-add, mul-pos, eq-zero-or-pos, le-of-eq, le-trans, mul-le-mul-right, mul-le-mul-left, le-div-iff-mul-le, div-add-mod', mod-lt, eq-of-mul-eq-mul-right, suc-mul, le-of-mul-le-mul-right}
 use native.Mathlib.Omega.{arith}
 use lib.Pow.{pow-add, pow-pos}
 use lib.Dec.{T, isLe, isEq, eqb, leb→le, nleb→lt, eqb→eq, eqb-refl}

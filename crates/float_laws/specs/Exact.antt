@@ -4,22 +4,22 @@ use mathlib.Core.Path.{_≡_, refl, sym, ap, _∙_, subst}
 use mathlib.Core.Logic.{inl, inr}
 use mathlib.Core.Bool.{Bool, true, false, not, _&&_, cond, true≢false, Bool·beq}
 use Prim.Native.Nat.{ℕ, suc, _+_, _-_, _*_, _^_, _≤_, _<_}
-use native.Mathlib.Nat.{one-mul, mul-one, mul-comm, mul-assoc, mul-left-comm, mul-right-comm, mul-mul-mul-comm, mul-pos, add-mul, mul-le-mul-right, mul-le-mul-left, mul-lt-mul-of-pos-right, le-of-mul-le-mul-right, eq-of-mul-eq-mul-right, le-trans, le-of-eq, le-of-lt, lt-irrefl, lt-of-le-of-lt, lt-of-lt-of-le, not-le-of-lt, eq-or-lt-of-le}
+use native.Mathlib.Nat.{one-mul, mul-one, mul-comm, mul-assoc, mul-right-comm, mul-mul-mul-comm, mul-pos, add-mul, mul-le-mul-right, mul-le-mul-left, mul-lt-mul-of-pos-right, le-of-mul-le-mul-right, eq-of-mul-eq-mul-right, le-trans, le-of-eq, le-of-lt, lt-irrefl, lt-of-le-of-lt, lt-of-lt-of-le, not-le-of-lt, eq-or-lt-of-le}
 use native.Mathlib.Decide.{decLe}
 use native.Mathlib.Omega.{arith}
 use lib.IntN.{ℤ, pos, negsuc}
 use lib.Pow.{pow-pos, pow-add, pow-lt, pow-mono}
-use lib.Dec.{T, ltb, ltb→lt, lit<, lit≤}
+use lib.Dec.{T, ltb, ltb→lt, lit≤}
 use lib.Ieee.{Float, nan, inf, fin, Format, binary32, binary64, prec, emax, low, up, down, le, round, neg, unlike, sum, add, sub, mul, div, ofInt}
 use lib.Ieee.Digits.{back}
 use lib.Ieee.Fits.{two, down-pos, up-pos}
 use lib.Ieee.Positive.{first-pos}
 use lib.Ieee.Scale.{overflow, round-same}
-use Rattle.float_laws.specs.Units.{mag, sign, number, real, key, mag-exact, mag-below, real-number, real-of-size, unique}
-use Rattle.float_laws.specs.Round.{plus-zero, rnd, Held, rnd-held, held-real, mag-round, mag-neg, rnd-zero, sign-round, round-number, mag-zero, real-zero}
-use Rattle.float_laws.specs.Signs.{sub-mul, neg-round}
+use Rattle.float_laws.specs.Units.{mag, sign, real, key, mag-exact, mag-below, real-number, real-of-size, unique}
+use Rattle.float_laws.specs.Round.{plus-zero, Held, rnd-held, held-real, mag-round, mag-neg, rnd-zero, sign-round, round-number, mag-zero, real-zero}
+use Rattle.float_laws.specs.Signs.{sub-mul}
 use Rattle.float_laws.specs.Ops.{mul-round, div-round, add-sum, sum-clear}
-use Rattle.float_laws.specs.Mono.{center, center-up, center-down, rndU, rndU-zero, add-key, sub-key, key-high, real-neg, sub-number, size-nonneg}
+use Rattle.float_laws.specs.Mono.{center, center-up, center-down, rndU, rndU-zero, add-key, sub-key, key-high, real-neg, size-nonneg}
 
 -- ---- which numbers of units the format holds
 pub held-small : (f : Format) (n : ℕ) → n ≤ 2 ^ prec f → Held f n

@@ -3,13 +3,12 @@
 use mathlib.Core.Path.{_≡_, refl, sym, ap, _∙_, subst, subst₂}
 use mathlib.Core.Logic.{inl, inr}
 use mathlib.Core.Bool.{Bool, true, false, cond, true≢false}
-use Prim.Native.Nat.{ℕ, _+_, _-_, _*_, _≤_, _<_}
+use Prim.Native.Nat.{ℕ, _*_, _<_}
 use native.Mathlib.Nat.{zero-mul, mul-pos, eq-zero-or-pos}
 use native.Mathlib.Omega.{arith}
 use lib.Dec.{T, eqb, eqb→eq}
 use lib.Ieee.{Float, nan, inf, fin, Format, up, down, lt, le, neg, unlike, add, sub, mul, div}
 use lib.Ieee.Fits.{up-pos, and-l, eq→eqb}
-use lib.Ieee.Scale.{overflow}
 use Rattle.float_laws.specs.Units.{mag, sign, number, real, mag-inf, key→le, key→lt, lt→key, real-number}
 use Rattle.float_laws.specs.Order.{le-trans-f, lt→le-f}
 use Rattle.float_laws.specs.Round.{plus-zero, key-zero, mag-zero, real-zero}

@@ -6,14 +6,13 @@ use Prim.Native.Nat.{ℕ, _+_, _-_, _*_, _^_, _≤_, _<_}
 use native.Mathlib.Nat.{zero-mul, mul-zero, mul-pos, le-of-lt, le-refl, mul-le-mul-right, mul-le-mul-left, mul-le-mul}
 use native.Mathlib.Decide.{decLe}
 use native.Mathlib.Omega.{arith}
-use lib.IntN.{pos}
 use lib.Pow.{pow-pos}
 use lib.Dec.{T, ltb, ltb→lt, nltb→le}
 use lib.Ieee.{Float, nan, inf, fin, Format, low, round, neg, le, lt, eq, unlike, sum, add, sub, mul, div}
 use lib.Ieee.Fits.{neg-fits}
 use lib.Ieee.Scale.{overflow}
 use Rattle.float_laws.specs.Units.{mag, sign, number, real, key, keyed, mag-below, mag-le, le→key, key→le, lt→key, key→lt, key→eq, real-number, overflow-pos}
-use Rattle.float_laws.specs.Round.{plus-zero, key-zero, rnd, rnd-le, rnd-mono, rnd-zero, key-round, round-number, mag-zero, real-zero}
+use Rattle.float_laws.specs.Round.{plus-zero, key-zero, rnd, rnd-le, rnd-mono, rnd-zero, key-round, round-number, real-zero}
 use Rattle.float_laws.specs.Ops.{mul-round, div-round, add-sum, mul-neg}
 
 -- ---- a function of sizes that keeps their order and takes 0 to 0, on signed sizes

@@ -2,7 +2,7 @@
 use mathlib.Core.Path.{_≡_, refl, sym, ap, _∙_, subst}
 use mathlib.Core.Bool.{Bool, true, false, not, _&&_, cond, true≢false, Bool·beq}
 use Prim.Native.Nat.{ℕ, _+_, _-_, _*_, _^_, _<_}
-use native.Mathlib.Nat.{mul-comm, mul-assoc, mul-left-comm, mul-right-comm, mul-mul-mul-comm, mul-pos, add-mul, mul-sub, lt-irrefl, eq-of-mul-eq-mul-right}
+use native.Mathlib.Nat.{mul-comm, mul-assoc, mul-left-comm, mul-right-comm, mul-mul-mul-comm, mul-pos, add-mul, lt-irrefl, eq-of-mul-eq-mul-right}
 use lib.IntN.{ℤ, pos}
 use lib.Pow.{pow-pos}
 use lib.Dec.{T, ltb, eqb, ltb→lt, lt→ltb, eqb→eq}

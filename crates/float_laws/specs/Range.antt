@@ -11,7 +11,7 @@ use lib.Ieee.{Float, Format, binary32, low, prec, le, add, sub, mul, round, neg}
 use lib.Ieee.Scale.{overflow}
 use Rattle.float_laws.specs.Units.{mag, sign, number, real, key, keyed, key→le, real-number, mag-below}
 use Rattle.float_laws.specs.Round.{plus-zero, key-zero, rnd, rnd-real, real-zero}
-use Rattle.float_laws.specs.Mono.{rndU, rndU-mono, rndU-zero, center, center-up, center-down, add-key, sub-key, add-number, sub-number, mul-number, mul-nonneg, nonneg-key, key-nonneg, size-nonneg, sizes, real-neg, key-neg, rndM, mul-key, center-mono}
+use Rattle.float_laws.specs.Mono.{rndU, rndU-mono, rndU-zero, center-up, center-down, add-key, sub-key, add-number, sub-number, mul-number, mul-nonneg, nonneg-key, key-nonneg, size-nonneg, sizes, real-neg, key-neg, rndM, mul-key, center-mono}
 use Rattle.float_laws.specs.Bounds.{one, real-one, mag-one, real-between, sub-nonneg, mul-le-left, mul-real, rndM-le}
 use Rattle.float_laws.specs.Exact.{sub-near}
 use Rattle.float_laws.specs.Error.{Close, rnd-close}

@@ -1,6 +1,6 @@
 -- The dual window over one residue class, as the list of the class's values: the operations in the order of the code, and the bound of Dual for them. Assumes nothing.
 use mathlib.Core.Path.{_≡_, refl, sym, ap, _∙_, subst}
-use mathlib.Core.Bool.{Bool, true, false, not, cond, true≢false}
+use mathlib.Core.Bool.{Bool, true, false, true≢false}
 use mathlib.Core.List.{List, [], _∷_, _++_}
 use Prim.Native.Nat.{ℕ, suc, _+_, _-_, _*_, _^_, _≤_, _<_}
 use native.Mathlib.Nat.{mul-comm, mul-assoc, mul-left-comm, mul-right-comm, mul-pos, add-mul, add-comm, zero-add, le-trans, le-of-eq, le-of-lt, lt-of-le-of-lt, mul-le-mul, mul-le-mul-right, le-of-mul-le-mul-right, pow-suc, div-one}
@@ -15,7 +15,7 @@ use lib.Ieee.Scale.{overflow}
 use Rattle.lists.specs.Maps.{tabulate, length-tab}
 use Rattle.lists.specs.Folds.{fold, range}
 use Rattle.lists.specs.Totals.{total, All, total-append, all-append, all-take, all-drop, all-at, all-tab, total-tab, total-getD}
-use Rattle.float_laws.specs.Units.{mag, sign, number, real, key, keyed, real-of-size, mag-below, lt→key, le→key, real-number}
+use Rattle.float_laws.specs.Units.{mag, sign, real, key, keyed, real-of-size, mag-below, lt→key, le→key, real-number}
 use Rattle.float_laws.specs.Order.{maximum, maximum-number, le-left}
 use Rattle.float_laws.specs.Round.{plus-zero, rnd, sign-round, mag-round, round-number, mag-zero, real-zero}
 use Rattle.float_laws.specs.Ops.{mul-round, div-round, add-sum, sum-clear}

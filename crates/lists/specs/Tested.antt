@@ -1,7 +1,7 @@
 -- Rules of tables by tests that antt computes: a test at every entry of a list and its place, and a test at every number below n. One law each carries the test to an entry,
 -- and one each joins two pieces, since antt ends a declaration at 50 million steps: a long table is tested in pieces, a declaration each. Assumes nothing.
-use mathlib.Core.Path.{_≡_, sym, _∙_, subst}
-use mathlib.Core.Bool.{Bool, true, false, _&&_}
+use mathlib.Core.Path.{sym, _∙_, subst}
+use mathlib.Core.Bool.{Bool, true, _&&_}
 use mathlib.Core.List.{List, [], _∷_}
 use Prim.Native.Nat.{ℕ, zero, suc, _+_, _<_}
 use native.Mathlib.Nat.{add-zero, zero-add, add-suc, suc-add, le-of-suc-le-suc, not-suc-le-zero}
