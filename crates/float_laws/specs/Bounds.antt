@@ -2,17 +2,17 @@
 use mathlib.Core.Path.{_≡_, refl, sym, ap, _∙_}
 use mathlib.Core.Bool.{Bool, true, false}
 use Prim.Native.Nat.{ℕ, _+_, _-_, _*_, _^_, _≤_, _<_}
-use native.Mathlib.Nat.{one-mul, div-one, mul-assoc, mul-pos, le-of-eq, le-refl, le-trans}
+use native.Mathlib.Nat.{one-mul, div-one, mul-assoc, le-of-eq, le-refl, le-trans}
 use native.Mathlib.Omega.{arith}
 use lib.IntN.{pos}
 use lib.Pow.{pow-pos}
 use lib.Dec.{T}
 use lib.Ieee.{Float, nan, inf, fin, Format, binary32, binary64, low, fits, round, le, eq, unlike, add, sub, mul}
 use lib.Ieee.Scale.{overflow}
-use Rattle.float_laws.specs.Units.{mag, sign, number, real, key, keyed, mag-below, mag-inf, le→key, key→le, key→eq, real-number, overflow-pos, unique}
+use Rattle.float_laws.specs.Units.{mag, sign, number, real, key, keyed, mag-below, mag-inf, le→key, key→le, key→eq, real-number, overflow-pos, unique, keyed-le, keyed-ge}
 use Rattle.float_laws.specs.Order.{le-trans-f}
-use Rattle.float_laws.specs.Round.{plus-zero, key-zero, rnd, rnd-zero, rnd-exact, rnd-real, key-round, round-number, mag-zero, real-zero, mag-round, sign-round}
-use Rattle.float_laws.specs.Ops.{mul-round, add-sum, sum-clear}
+use Rattle.float_laws.specs.Round.{plus-zero, key-zero, rnd, rnd-zero, rnd-exact, rnd-real, key-round, round-number, mag-zero, real-zero, mag-round, sign-round, squared-pos}
+use Rattle.float_laws.specs.Ops.{mul-round, add-sum, sum-clear, unlike-clear}
 use Rattle.float_laws.specs.Mono.{center, center-up, center-down, rndU, rndM, rndM-mono, add-number, add-key, sub-number, sub-key, mul-number, mul-key-nonneg, mul-nonneg, key-nonneg, size-nonneg, sizes}
 
 -- ---- one
@@ -36,14 +36,6 @@ one-nonneg = tt
 between : (K : ℕ) → 0 < K → (s : Bool) (a b : ℕ) → a < K → b < K → K - a ≤ keyed K s K → keyed K s K ≤ K + b → ⊥
 between K P false a b A B h k = omega arith
 between K P true a b A B h k = omega arith
-
-keyed-ge : (K : ℕ) (s : Bool) (m : ℕ) → K - m ≤ keyed K s m
-keyed-ge K false m = omega arith
-keyed-ge K true m = omega arith
-
-keyed-le : (K : ℕ) (s : Bool) (m : ℕ) → keyed K s m ≤ K + m
-keyed-le K false m = omega arith
-keyed-le K true m = omega arith
 
 pub real-between : (f : Format) (a x b : Float) → T (number f x) → T (real f a) → T (real f b) → T (le a x) → T (le x b) → T (real f x)
 real-between f a nan b p q r h k = p
@@ -69,7 +61,7 @@ pub sub-nonneg : (f : Format) (x y : Float) → T (real f x) → T (real f y) �
 sub-nonneg f x y p q h =
     let K = overflow f in
     let l = le→key f y x (real-number f y q) (real-number f x p) h in
-    let b = le-trans (keyed-le K (sign y) (mag f y)) (le-of-eq refl) in
+    let b = keyed-le K (sign y) (mag f y) in
     let m = mag-below f y q in
     key-nonneg f (sub f x y) (sub-number f x y p q)
     (omega (arith, sub-key f x y p q, center-up K (rndU f) (key f x + (K + K - key f y)) (key f x - key f y) (omega arith)))
@@ -80,7 +72,7 @@ rndM-le f x y p q Y h =
     let L = 2 ^ low f in
     let a : mag f y ≤ L = le-trans (sizes f y one q (real-one f) Y h .0) (le-of-eq (mag-one f)) in
     le-trans (rndM-mono f (mag f x) (mag f x) (mag f y) L (le-refl (mag f x)) a)
-    (le-of-eq (rnd-exact f x (mag f x * L) (L * L) p (mul-pos (pow-pos (low f)) (pow-pos (low f))) (mul-assoc (mag f x) L L)))
+    (le-of-eq (rnd-exact f x (mag f x * L) (L * L) p (squared-pos f) (mul-assoc (mag f x) L L)))
 
 pub mul-le-left : (f : Format) (x y : Float) → T (real f x) → T (real f y) → T (le plus-zero x) → T (le plus-zero y) → T (le y one) → T (le (mul f x y) x)
 mul-le-left f x y p q X Y h =
@@ -98,18 +90,14 @@ mul-levels f x y p q X h Y k = (
 )
 
 -- ---- 1 and 0 change nothing
-unlike-false : (s : Bool) → unlike s false ≡ s
-unlike-false true = refl
-unlike-false false = refl
-
 pub mul-one-f : (f : Format) (x : Float) → T (real f x) → mul f x one ≡ x
 mul-one-f f x p =
     let L = 2 ^ low f in
     let r = mul-round f x one p (real-one f) in
     unique f (mul f x one) x (mul-number f x one p (real-one f)) (real-number f x p)
-    (ap sign r ∙ sign-round f (unlike (sign x) false) (mag f x * mag f one) (L * L) ∙ unlike-false (sign x))
+    (ap sign r ∙ sign-round f (unlike (sign x) false) (mag f x * mag f one) (L * L) ∙ unlike-clear (sign x) false refl)
     (ap (mag f) r ∙ mag-round f (unlike (sign x) false) (mag f x * mag f one) (L * L)
-    ∙ rnd-exact f x (mag f x * mag f one) (L * L) p (mul-pos (pow-pos (low f)) (pow-pos (low f))) (ap (λ (z : ℕ). mag f x * z * L) (mag-one f) ∙ mul-assoc (mag f x) L L))
+    ∙ rnd-exact f x (mag f x * mag f one) (L * L) p (squared-pos f) (ap (λ (z : ℕ). mag f x * z * L) (mag-one f) ∙ mul-assoc (mag f x) L L))
 
 pub add-zero-f : (f : Format) (x : Float) → T (real f x) → T (eq (add f x plus-zero) x)
 add-zero-f f x p =

@@ -1,13 +1,13 @@
 -- The dual window's bound, over whole numbers. A value's size is m, in units of which L make 1. Assumes nothing.
-use mathlib.Core.Path.{_≡_, sym, ap, _∙_, subst}
+use mathlib.Core.Path.{_≡_, ap, _∙_, subst}
 use mathlib.Core.List.{List, [], _∷_}
 use Prim.Native.Nat.{ℕ, suc, _+_, _*_, _^_, _≤_, _<_}
-use native.Mathlib.Nat.{zero-mul, mul-comm, mul-assoc, mul-left-comm, add-mul, mul-add, mul-pos, le-trans, mul-le-mul-right, mul-le-mul-left, mul-le-mul, suc-mul, add-zero, zero-add, eq-zero-or-pos}
+use native.Mathlib.Nat.{zero-mul, mul-comm, mul-assoc, mul-left-comm, add-mul, mul-pos, le-trans, mul-le-mul-right, mul-le-mul-left, mul-le-mul, suc-mul, add-zero, zero-add, eq-zero-or-pos}
 use mathlib.Core.Logic.{inl, inr}
 use native.Mathlib.Omega.{arith}
 use lib.ListN.{length}
 use Rattle.lists.specs.Totals.{total, All}
-use Rattle.float_laws.specs.Near.{B, Near, near-refl, near-sym, near-weaken, near-add, near-trans, near-scale, near-unscale, near-of}
+use Rattle.float_laws.specs.Near.{B, Near, near-refl, near-sym, near-weaken, near-add, near-trans, near-scale, near-unscale, near-of, times}
 
 -- ---- a sum that is rounded at each step, from the left
 -- d is the sum so far. `up` is the rounded sum.
@@ -94,22 +94,10 @@ abbrev cross : Item → ℕ
 cross i = i .m * i .D
 
 times-hi : (m D t L : ℕ) → B * (t * D) ≤ 16777217 * (m * L) + 8388608 * D → B * (m * t * D) ≤ 16777217 * (m * m * L) + 8388608 * (m * D)
-times-hi m D t L h =
-    let l = mul-le-mul-left m h in
-    let a : m * (B * (t * D)) ≡ B * (m * t * D) = mul-left-comm m B (t * D) ∙ ap (λ (z : ℕ). B * z) (sym (mul-assoc m t D)) in
-    let b : m * (16777217 * (m * L)) ≡ 16777217 * (m * m * L) = mul-left-comm m 16777217 (m * L) ∙ ap (λ (z : ℕ). 16777217 * z) (sym (mul-assoc m m L)) in
-    let c : m * (8388608 * D) ≡ 8388608 * (m * D) = mul-left-comm m 8388608 D in
-    let d = mul-add m (16777217 * (m * L)) (8388608 * D) in
-    omega arith
+times-hi m D t L h = rw (mul-assoc m t D, mul-assoc m m L) (times m B 16777217 8388608 (t * D) (m * L) D h)
 
 times-lo : (m D t L : ℕ) → 16777215 * (m * L) ≤ B * (t * D) + 8388608 * D → 16777215 * (m * m * L) ≤ B * (m * t * D) + 8388608 * (m * D)
-times-lo m D t L h =
-    let l = mul-le-mul-left m h in
-    let a : m * (B * (t * D)) ≡ B * (m * t * D) = mul-left-comm m B (t * D) ∙ ap (λ (z : ℕ). B * z) (sym (mul-assoc m t D)) in
-    let b : m * (16777215 * (m * L)) ≡ 16777215 * (m * m * L) = mul-left-comm m 16777215 (m * L) ∙ ap (λ (z : ℕ). 16777215 * z) (sym (mul-assoc m m L)) in
-    let c : m * (8388608 * D) ≡ 8388608 * (m * D) = mul-left-comm m 8388608 D in
-    let d = mul-add m (B * (t * D)) (8388608 * D) in
-    omega arith
+times-lo m D t L h = rw (mul-assoc m t D, mul-assoc m m L) (times m 16777215 B 8388608 (m * L) (t * D) D h)
 
 nothing : (S X Z : ℕ) → B * S ≤ B * X + 2 * S → X ≡ 0 → Z ≤ 2 ^ 30 * S → 0 < Z → ⊥
 nothing S X Z a b c d = omega arith

@@ -16,7 +16,7 @@ use lib.Ieee.Fits.{two, down-pos, up-pos}
 use lib.Ieee.Positive.{first-pos}
 use lib.Ieee.Scale.{overflow, round-same}
 use Rattle.float_laws.specs.Units.{mag, sign, real, key, mag-exact, mag-below, real-number, real-of-size, unique}
-use Rattle.float_laws.specs.Round.{plus-zero, Held, rnd-held, held-real, mag-round, mag-neg, rnd-zero, sign-round, round-number, mag-zero, real-zero}
+use Rattle.float_laws.specs.Round.{plus-zero, Held, rnd-held, held-real, mag-round, mag-neg, rnd-zero, sign-round, round-number, mag-zero, real-zero, squared-pos}
 use Rattle.float_laws.specs.Signs.{sub-mul}
 use Rattle.float_laws.specs.Ops.{mul-round, div-round, add-sum, sum-clear}
 use Rattle.float_laws.specs.Mono.{center, center-up, center-down, rndU, rndU-zero, add-key, sub-key, key-high, real-neg, size-nonneg}
@@ -140,7 +140,7 @@ module _ (f : Format) (x y : Float) (n : ℕ) (p : T (real f x)) (q : T (real f 
       let L = 2 ^ low f in
       ap (mag f) (mul-round f x y p q)
       ∙ mag-round f (unlike (sign x) (sign y)) (mag f x * mag f y) (L * L)
-      ∙ rnd-held f n (mag f x * mag f y) (L * L) h b (mul-pos (pow-pos (low f)) (pow-pos (low f))) (ap (λ (z : ℕ). z * L) e ∙ mul-assoc n L L)
+      ∙ rnd-held f n (mag f x * mag f y) (L * L) h b (squared-pos f) (ap (λ (z : ℕ). z * L) e ∙ mul-assoc n L L)
 
   pub div-exact : 0 < mag f y → mag f x * 2 ^ low f ≡ n * mag f y → mag f (div f x y) ≡ n
   div-exact N e = ap (mag f) (div-round f x y p q N) ∙ mag-round f (unlike (sign x) (sign y)) (mag f x) (mag f y) ∙ rnd-held f n (mag f x) (mag f y) h b N e
@@ -252,7 +252,7 @@ module _ (f : Format) (m n : ℕ) (g : m ≤ 2 ^ prec f) (h : n ≤ 2 ^ prec f) 
       mul-round f x y (real-whole f m g) (real-whole f n h)
       ∙ ap (λ (s : Bool). round f (unlike s (sign y)) (mag f x * mag f y) (L * L)) (sign-whole f m g)
       ∙ ap (λ (s : Bool). round f (unlike false s) (mag f x * mag f y) (L * L)) (sign-whole f n h)
-      ∙ round-same f false (mag f x * mag f y) (L * L) (m * n) 1 (mul-pos (pow-pos (low f)) (pow-pos (low f))) (lit≤ tt)
+      ∙ round-same f false (mag f x * mag f y) (L * L) (m * n) 1 (squared-pos f) (lit≤ tt)
       (mul-one (mag f x * mag f y) ∙ ap (λ (z : ℕ). z * mag f y) (mag-whole f m g) ∙ ap (λ (z : ℕ). m * L * z) (mag-whole f n h) ∙ mul-mul-mul-comm m L n L)
 
 -- ---- a value less itself is +0

@@ -2,7 +2,7 @@
 -- A product with, and a quotient by, a finite constant above zero keeps the order of all numbers; below zero it turns it. Assumes nothing.
 use mathlib.Core.Path.{_≡_, refl, sym, ap, _∙_, subst, subst₂}
 use mathlib.Core.Logic.{inl, inr}
-use mathlib.Core.Bool.{Bool, true, false, cond, true≢false}
+use mathlib.Core.Bool.{Bool, true, false, cond}
 use Prim.Native.Nat.{ℕ, _*_, _<_}
 use native.Mathlib.Nat.{zero-mul, mul-pos, eq-zero-or-pos}
 use native.Mathlib.Omega.{arith}
@@ -12,7 +12,7 @@ use lib.Ieee.Fits.{up-pos, and-l, eq→eqb}
 use Rattle.float_laws.specs.Units.{mag, sign, number, real, mag-inf, key→le, key→lt, lt→key, real-number}
 use Rattle.float_laws.specs.Order.{le-trans-f, lt→le-f}
 use Rattle.float_laws.specs.Round.{plus-zero, key-zero, mag-zero, real-zero}
-use Rattle.float_laws.specs.Ops.{mul-comm-f, neg-neg, mul-neg, div-neg}
+use Rattle.float_laws.specs.Ops.{mul-comm-f, neg-neg, mul-neg, div-neg, unlike-clear}
 use Rattle.float_laws.specs.Mono.{key-high, key-neg, number-neg, real-neg, le-neg, add-mono, mul-mono, mul-mono-l, mul-number, div-number, div-mono, above-zero}
 
 pub le-top : (f : Format) (x : Float) → T (number f x) → T (le x (inf false))
@@ -201,11 +201,6 @@ module _ (f : Format) (h : Float → Float) (far : (s : Bool) → h (inf s) ≡ 
       go (finite a) (top e) = high-end e
       go (finite a) (finite b) = near x y a b l
 
-unlike-clear : (s t : Bool) → t ≡ false → unlike s t ≡ s
-unlike-clear true false h = refl
-unlike-clear false false h = refl
-unlike-clear s true h = absurd (true≢false h)
-
 mul-inf-by : (f : Format) (s : Bool) (z : Float) → T (real f z) → sign z ≡ false → 0 < mag f z → mul f (inf s) z ≡ inf s
 unfolding mul
 mul-inf-by f s nan r c N = absurd r
@@ -244,25 +239,21 @@ module _ (f : Format) (z : Float) (r : T (real f z)) (Z : T (lt plus-zero z)) wh
   pub div-by : (x y : Float) → T (number f x) → T (number f y) → T (le x y) → T (le (div f x z) (div f y z))
   div-by = image-mono f (λ x. div f x z) (λ s. div-inf-by f s z r (above .0)) (λ x p. div-number f x z p r (above .1)) (λ x y p q h. div-mono f x y z p q r Z h)
 
--- below zero the order turns
+-- below zero the order turns, since the negative of the image is one that keeps it
+turned : (f : Format) (h g : Float → Float) → ((x : Float) → g x ≡ neg (h x)) → ((x : Float) → T (number f x) → T (number f (g x)))
+    → ((x y : Float) → T (number f x) → T (number f y) → T (le x y) → T (le (g x) (g y))) → (x y : Float) → T (number f x) → T (number f y) → T (le x y) → T (le (h y) (h x))
+turned f h g e n m x y p q l =
+    subst₂ (λ (a b : Float). T (le a b)) (ap neg (e y) ∙ neg-neg (h y)) (ap neg (e x) ∙ neg-neg (h x)) (le-neg f (g x) (g y) (n x p) (n y q) (m x y p q l))
+
 module _ (f : Format) (z : Float) (r : T (real f z)) (Z : T (lt z plus-zero)) (x y : Float) (p : T (number f x)) (q : T (number f y)) where
   away : T (lt plus-zero (neg z))
   away =
-      let o = real-number f plus-zero (real-zero f false) in
+      let z₀ = real-number f plus-zero (real-zero f false) in
       let n = real-number f z r in
-      key→lt f plus-zero (neg z) o (number-neg f z n) (omega (arith, key-neg f z n, key-zero f, lt→key f z plus-zero n o Z))
-
-  turn : (u v : Float) → T (number f (neg u)) → T (number f (neg v)) → T (le (neg u) (neg v)) → T (le v u)
-  turn u v a b l = subst₂ (λ (c d : Float). T (le c d)) (neg-neg v) (neg-neg u) (le-neg f (neg u) (neg v) a b l)
+      key→lt f plus-zero (neg z) z₀ (number-neg f z n) (omega (arith, key-neg f z n, key-zero f, lt→key f z plus-zero n z₀ Z))
 
   pub mul-by-turns : T (le x y) → T (le (mul f y z) (mul f x z))
-  mul-by-turns l =
-      let s = real-neg f z r in
-      turn (mul f x z) (mul f y z) (rw (← mul-neg f x z) (mul-by-number f (neg z) s away x p)) (rw (← mul-neg f y z) (mul-by-number f (neg z) s away y q))
-      (subst₂ (λ (c d : Float). T (le c d)) (mul-neg f x z) (mul-neg f y z) (mul-by f (neg z) s away x y p q l))
+  mul-by-turns = turned f (λ x. mul f x z) (λ x. mul f x (neg z)) (λ x. mul-neg f x z) (mul-by-number f (neg z) (real-neg f z r) away) (mul-by f (neg z) (real-neg f z r) away) x y p q
 
   pub div-by-turns : T (le x y) → T (le (div f y z) (div f x z))
-  div-by-turns l =
-      let s = real-neg f z r in
-      turn (div f x z) (div f y z) (rw (← div-neg f x z) (div-by-number f (neg z) s away x p)) (rw (← div-neg f y z) (div-by-number f (neg z) s away y q))
-      (subst₂ (λ (c d : Float). T (le c d)) (div-neg f x z) (div-neg f y z) (div-by f (neg z) s away x y p q l))
+  div-by-turns = turned f (λ x. div f x z) (λ x. div f x (neg z)) (λ x. div-neg f x z) (div-by-number f (neg z) (real-neg f z r) away) (div-by f (neg z) (real-neg f z r) away) x y p q

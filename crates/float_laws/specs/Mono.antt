@@ -3,7 +3,7 @@ use mathlib.Core.Path.{_≡_, refl, sym, ap, _∙_, subst₂}
 use mathlib.Core.Logic.{_⊎_, inl, inr}
 use mathlib.Core.Bool.{Bool, true, false, not, _&&_, cond, Bool·beq}
 use Prim.Native.Nat.{ℕ, _+_, _-_, _*_, _^_, _≤_, _<_}
-use native.Mathlib.Nat.{zero-mul, mul-zero, mul-pos, le-of-lt, le-refl, mul-le-mul-right, mul-le-mul-left, mul-le-mul}
+use native.Mathlib.Nat.{zero-mul, mul-zero, le-of-lt, le-refl, mul-le-mul-right, mul-le-mul-left, mul-le-mul}
 use native.Mathlib.Decide.{decLe}
 use native.Mathlib.Omega.{arith}
 use lib.Pow.{pow-pos}
@@ -11,9 +11,9 @@ use lib.Dec.{T, ltb, ltb→lt, nltb→le}
 use lib.Ieee.{Float, nan, inf, fin, Format, low, round, neg, le, lt, eq, unlike, sum, add, sub, mul, div}
 use lib.Ieee.Fits.{neg-fits}
 use lib.Ieee.Scale.{overflow}
-use Rattle.float_laws.specs.Units.{mag, sign, number, real, key, keyed, mag-below, mag-le, le→key, key→le, lt→key, key→lt, key→eq, real-number, overflow-pos}
-use Rattle.float_laws.specs.Round.{plus-zero, key-zero, rnd, rnd-le, rnd-mono, rnd-zero, key-round, round-number, real-zero}
-use Rattle.float_laws.specs.Ops.{mul-round, div-round, add-sum, mul-neg}
+use Rattle.float_laws.specs.Units.{mag, sign, number, real, key, keyed, mag-below, mag-le, le→key, key→le, lt→key, key→lt, key→eq, real-number, overflow-pos, keyed-le}
+use Rattle.float_laws.specs.Round.{plus-zero, key-zero, rnd, rnd-le, rnd-mono, rnd-zero, key-round, round-number, real-zero, squared-pos}
+use Rattle.float_laws.specs.Ops.{mul-round, div-round, add-sum, mul-neg, unlike-clear}
 
 -- ---- a function of sizes that keeps their order and takes 0 to 0, on signed sizes
 keyed-map : (K : ℕ) (g : ℕ → ℕ) → ((m n : ℕ) → m ≤ n → g m ≤ g n) → g 0 ≡ 0 → (s : Bool) (m : ℕ) (t : Bool) (n : ℕ) → m ≤ K → n ≤ K → keyed K s m ≤ keyed K t n → keyed K s (g m) ≤ keyed K t (g n)
@@ -127,12 +127,8 @@ key-neg f nan p = absurd p
 key-neg f (inf s) p = keyed-neg (overflow f) s (overflow f) (le-refl (overflow f))
 key-neg f (fin s m e) p = keyed-neg (overflow f) s (mag f (fin s m e)) (mag-le f (fin s m e) p)
 
-keyed-high : (K : ℕ) (s : Bool) (m : ℕ) → m ≤ K → keyed K s m ≤ K + K
-keyed-high K false m h = omega arith
-keyed-high K true m h = omega arith
-
 pub key-high : (f : Format) (x : Float) → T (number f x) → key f x ≤ overflow f + overflow f
-key-high f x p = keyed-high (overflow f) (sign x) (mag f x) (mag-le f x p)
+key-high f x p = omega (arith, keyed-le (overflow f) (sign x) (mag f x), mag-le f x p)
 
 pub number-neg : (f : Format) (x : Float) → T (number f x) → T (number f (neg x))
 unfolding neg
@@ -205,24 +201,17 @@ nonneg-key f x p h = omega (arith, key-zero f, le→key f plus-zero x (real-numb
 pub key-nonneg : (f : Format) (x : Float) → T (number f x) → overflow f ≤ key f x → T (le plus-zero x)
 key-nonneg f x p h = key→le f plus-zero x (real-number f plus-zero (real-zero f false)) p (omega (arith, key-zero f))
 
-unlike-false : (s : Bool) → unlike s false ≡ s
-unlike-false true = refl
-unlike-false false = refl
-
 abbrev pub rndM : Format → ℕ → ℕ → ℕ
 rndM f m n = rnd f (m * n) (2 ^ low f * 2 ^ low f)
 
-LL-pos : (f : Format) → 0 < 2 ^ low f * 2 ^ low f
-LL-pos f = mul-pos (pow-pos (low f)) (pow-pos (low f))
-
 pub rndM-mono : (f : Format) (m m' n n' : ℕ) → m ≤ m' → n ≤ n' → rndM f m n ≤ rndM f m' n'
-rndM-mono f m m' n n' h k = rnd-mono f (m * n) (2 ^ low f * 2 ^ low f) (m' * n') (2 ^ low f * 2 ^ low f) (LL-pos f) (LL-pos f) (mul-le-mul-right (2 ^ low f * 2 ^ low f) (mul-le-mul h k))
+rndM-mono f m m' n n' h k = rnd-mono f (m * n) (2 ^ low f * 2 ^ low f) (m' * n') (2 ^ low f * 2 ^ low f) (squared-pos f) (squared-pos f) (mul-le-mul-right (2 ^ low f * 2 ^ low f) (mul-le-mul h k))
 
 pub rndM-zero : (f : Format) (n : ℕ) → rndM f 0 n ≡ 0
-rndM-zero f n = ap (λ (z : ℕ). rnd f z (2 ^ low f * 2 ^ low f)) (zero-mul n) ∙ rnd-zero f (2 ^ low f * 2 ^ low f) (LL-pos f)
+rndM-zero f n = ap (λ (z : ℕ). rnd f z (2 ^ low f * 2 ^ low f)) (zero-mul n) ∙ rnd-zero f (2 ^ low f * 2 ^ low f) (squared-pos f)
 
 pub rndM-zero-r : (f : Format) (m : ℕ) → rndM f m 0 ≡ 0
-rndM-zero-r f m = ap (λ (z : ℕ). rnd f z (2 ^ low f * 2 ^ low f)) (mul-zero m) ∙ rnd-zero f (2 ^ low f * 2 ^ low f) (LL-pos f)
+rndM-zero-r f m = ap (λ (z : ℕ). rnd f z (2 ^ low f * 2 ^ low f)) (mul-zero m) ∙ rnd-zero f (2 ^ low f * 2 ^ low f) (squared-pos f)
 
 pub mul-number : (f : Format) (x y : Float) → T (real f x) → T (real f y) → T (number f (mul f x y))
 mul-number f x y p q = rw mul-round (round-number f (unlike (sign x) (sign y)) (mag f x * mag f y) (2 ^ low f * 2 ^ low f))
@@ -239,7 +228,7 @@ mul-key f x z p q h =
     ap (key f) (mul-round f x z p q)
     ∙ key-round f (unlike (sign x) (sign z)) (mag f x * mag f z) (2 ^ low f * 2 ^ low f)
     ∙ elim (nonneg-cases K (sign z) (mag f z) h (overflow-pos f) (real-le f z q)) [
-      | inl e ↦ ap (λ (b : Bool). keyed K b (rndM f (mag f x) (mag f z))) (ap (unlike (sign x)) e ∙ unlike-false (sign x))
+      | inl e ↦ ap (λ (b : Bool). keyed K b (rndM f (mag f x) (mag f z))) (unlike-clear (sign x) (sign z) e)
       | inr e ↦ keyed-at-zero K (unlike (sign x) (sign z)) (sign x) (rndM f (mag f x) (mag f z)) (ap (rndM f (mag f x)) e ∙ rndM-zero-r f (mag f x))
     ]
 
@@ -314,7 +303,7 @@ div-key f x y p q Y =
     let a = above-zero f y (real-number f y q) Y in
     ap (key f) (div-round f x y p q (a .1))
     ∙ key-round f (unlike (sign x) (sign y)) (mag f x) (mag f y)
-    ∙ ap (λ (b : Bool). keyed (overflow f) b (rnd f (mag f x) (mag f y))) (ap (unlike (sign x)) (a .0) ∙ unlike-false (sign x))
+    ∙ ap (λ (b : Bool). keyed (overflow f) b (rnd f (mag f x) (mag f y))) (unlike-clear (sign x) (sign y) (a .0))
 
 module _ (f : Format) (x x' y : Float) (p : T (real f x)) (p' : T (real f x')) (q : T (real f y)) where
   pub div-mono : T (lt plus-zero y) → T (le x x') → T (le (div f x y) (div f x' y))

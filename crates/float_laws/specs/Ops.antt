@@ -11,7 +11,7 @@ use lib.Ieee.Fits.{down-pos}
 use lib.Ieee.Positive.{first-pos}
 use lib.Ieee.Scale.{round-same}
 use Rattle.float_laws.specs.Units.{mag, sign, real, mag-exact, scaled-lt}
-use Rattle.float_laws.specs.Round.{mag-zero, sign-round, round-neg}
+use Rattle.float_laws.specs.Round.{mag-zero, sign-round, round-neg, squared-pos}
 use Rattle.float_laws.specs.Signs.{sub-mul}
 
 -- ---- the product
@@ -22,7 +22,7 @@ mul-fin f s m e t n d h k =
     let L = 2 ^ low f in
     let x = mag f (fin s m e) in
     let y = mag f (fin t n d) in
-    round-same f (unlike s t) (m * up e * (n * up d)) (down e * down d) (x * y) (L * L) (mul-pos (down-pos e) (down-pos d)) (mul-pos (pow-pos (low f)) (pow-pos (low f)))
+    round-same f (unlike s t) (m * up e * (n * up d)) (down e * down d) (x * y) (L * L) (mul-pos (down-pos e) (down-pos d)) (squared-pos f)
     (mul-mul-mul-comm (m * up e) (n * up d) L L
     ∙ ap (λ (z : ℕ). z * (n * up d * L)) (sym (mag-exact f s m e h))
     ∙ ap (λ (z : ℕ). x * down e * z) (sym (mag-exact f t n d k))
@@ -37,6 +37,12 @@ mul-round f (fin s m e) (fin t n d) p q = mul-fin f s m e t n d p q
 
 pub mul-sign : (f : Format) (x y : Float) → T (real f x) → T (real f y) → sign (mul f x y) ≡ unlike (sign x) (sign y)
 mul-sign f x y p q = ap sign (mul-round f x y p q) ∙ sign-round f (unlike (sign x) (sign y)) (mag f x * mag f y) (2 ^ low f * 2 ^ low f)
+
+-- with a clear sign the other stays
+pub unlike-clear : (s t : Bool) → t ≡ false → unlike s t ≡ s
+unlike-clear true false h = refl
+unlike-clear false false h = refl
+unlike-clear s true h = absurd (true≢false h)
 
 -- of any two values
 unlike-comm : (s t : Bool) → unlike s t ≡ unlike t s

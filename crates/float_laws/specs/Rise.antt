@@ -1,19 +1,19 @@
 -- Chains of operations on values that are not negative. `Upto f k x` says that x is finite, not negative and at most 2 ^ k. `Rise f k x y` says that of x and y, and that x is at most y.
 -- Each operation has one law: what its operands' relations give for its result. A chain's law is these laws applied in the chain's order. Assumes nothing.
-use mathlib.Core.Path.{_≡_, sym, ap, _∙_, subst₂}
+use mathlib.Core.Path.{_≡_, sym, ap, _∙_, subst, subst₂}
 use mathlib.Core.Bool.{false}
-use Prim.Native.Nat.{ℕ, suc, _+_, _*_, _^_, _≤_, max}
-use native.Mathlib.Nat.{le-trans, le-of-eq, mul-le-mul, mul-le-mul-right, mul-pos, mul-mul-mul-comm, pow-suc, mul-right-comm}
+use Prim.Native.Nat.{ℕ, suc, _+_, _*_, _-_, _^_, _≤_, max}
+use native.Mathlib.Nat.{le-trans, le-of-eq, mul-le-mul, mul-le-mul-right, mul-mul-mul-comm, pow-suc, mul-right-comm}
 use native.Mathlib.Omega.{arith}
 use lib.Pow.{pow-pos, pow-add, pow-mono}
 use lib.Dec.{T}
-use lib.Ieee.{Float, Format, emax, low, le, add, mul}
+use lib.Ieee.{Float, Format, emax, low, le, add, sub, mul}
 use lib.Ieee.Scale.{overflow}
-use Rattle.float_laws.specs.Units.{mag, number, real, key, key→le, real-number}
-use Rattle.float_laws.specs.Order.{larger, larger-number, key-larger, larger-mono, clamp, clamp-number, clamp-low, clamp-high, clamp-mono, le-refl-f}
-use Rattle.float_laws.specs.Round.{plus-zero, real-zero}
+use Rattle.float_laws.specs.Units.{mag, number, real, key, key→le, real-number, mag-below}
+use Rattle.float_laws.specs.Order.{larger, larger-number, key-larger, larger-mono, clamp, clamp-number, clamp-low, clamp-high, clamp-mono, le-refl-f, maximum, maximum-number}
+use Rattle.float_laws.specs.Round.{plus-zero, real-zero, squared-pos}
 use Rattle.float_laws.specs.Ops.{mul-comm-f}
-use Rattle.float_laws.specs.Mono.{rndU, rndM, center-up, add-key, add-number, mul-number, add-mono, mul-mono, mul-nonneg, mul-key-nonneg, key-nonneg, size-nonneg, sizes}
+use Rattle.float_laws.specs.Mono.{rndU, rndM, center-up, add-key, add-number, mul-number, add-mono, mul-mono, mul-nonneg, mul-key-nonneg, key-nonneg, size-nonneg, sizes, sub-key, sub-number}
 use Rattle.float_laws.specs.Bounds.{one, real-one, mag-one, one-nonneg, real-between, mul-real}
 use Rattle.float_laws.specs.Power.{power, mag-power, real-power, rnd-power}
 
@@ -53,7 +53,7 @@ module _ (f : Format) where
   upto-mul a b x y h u v =
       let L = 2 ^ low f in
       sized (a + b) h (mul f x y) (rndM f (mag f x) (mag f y)) (mul-number f x y (u .is-real) (v .is-real)) (mul-key-nonneg f x y (u .is-real) (v .is-real) (u .low) (v .low))
-      (rnd-power f (a + b) (mag f x * mag f y) (L * L) h (mul-pos (pow-pos (low f)) (pow-pos (low f))) (factors a b (mag f x) (mag f y) L (u .high) (v .high)))
+      (rnd-power f (a + b) (mag f x * mag f y) (L * L) h (squared-pos f) (factors a b (mag f x) (mag f y) L (u .high) (v .high)))
 
   pub rise-mul : (a b : ℕ) {x x' y y' : Float} → a + b ≤ emax f → Rise f a x x' → Rise f b y y' → Rise f (a + b) (mul f x y) (mul f x' y')
   rise-mul a b {x} {x'} {y} {y'} h r s =
@@ -87,7 +87,18 @@ module _ (f : Format) where
         up = add-mono f x x' y y' (r .from .is-real) (r .to .is-real) (s .from .is-real) (s .to .is-real) (r .up) (s .up);
       }
 
-  -- ---- what does not change, and the larger of two
+  -- the difference of two, the larger first, as a factor that does not change
+  pub upto-sub : (a : ℕ) (x y : Float) → a ≤ emax f → Upto f a x → Upto f a y → T (le y x) → Upto f a (sub f x y)
+  upto-sub a x y h u v l =
+      let K = overflow f in
+      let s = sizes f y x (v .is-real) (u .is-real) (v .low) l in
+      let n = mag f x - mag f y in
+      let top = mag-below f y (v .is-real) in
+      sized a h (sub f x y) (rndU f n) (sub-number f x y (u .is-real) (v .is-real))
+      (sub-key f x y (u .is-real) (v .is-real) ∙ center-up K (rndU f) (key f x + (K + K - key f y)) n (omega arith))
+      (rnd-power f a n (2 ^ low f) h (pow-pos (low f)) (mul-le-mul-right (2 ^ low f) (le-trans (omega arith) (u .high))))
+
+  -- ---- what does not change, and the maximum of two
   num : {k : ℕ} {x : Float} → Upto f k x → T (number f x)
   num {k} {x} u = real-number f x (u .is-real)
 
@@ -97,20 +108,23 @@ module _ (f : Format) where
   pub rise-weaken : {j k : ℕ} {x y : Float} → j ≤ k → Rise f j x y → Rise f k x y
   rise-weaken h r = record { from = upto-weaken h (r .from); to = upto-weaken h (r .to); up = r .up }
 
-  pub upto-larger : (k : ℕ) (x y : Float) → k ≤ emax f → Upto f k x → Upto f k y → Upto f k (larger x y)
-  upto-larger k x y h u v =
+  pub upto-maximum : (k : ℕ) (x y : Float) → k ≤ emax f → Upto f k x → Upto f k y → Upto f k (maximum x y)
+  upto-maximum k x y h u v =
       let p = num u in
       let q = num v in
-      sized k h (larger x y) (max (mag f x) (mag f y)) (larger-number f x y p q)
+      subst (Upto f k) (sym (maximum-number f x y p))
+      (sized k h (larger x y) (max (mag f x) (mag f y)) (larger-number f x y p q)
       (omega (arith, key-larger f x y p q, size-nonneg f x (u .is-real) (u .low), size-nonneg f y (v .is-real) (v .low)))
-      (omega (arith, u .high, v .high))
+      (omega (arith, u .high, v .high)))
 
-  pub rise-larger : (k : ℕ) {x x' y y' : Float} → k ≤ emax f → Rise f k x x' → Rise f k y y' → Rise f k (larger x y) (larger x' y')
-  rise-larger k {x} {x'} {y} {y'} h r s =
+  pub rise-maximum : (k : ℕ) {x x' y y' : Float} → k ≤ emax f → Rise f k x x' → Rise f k y y' → Rise f k (maximum x y) (maximum x' y')
+  rise-maximum k {x} {x'} {y} {y'} h r s =
+      let p = num (r .from) in
+      let p' = num (r .to) in
       record {
-        from = upto-larger k x y h (r .from) (s .from);
-        to = upto-larger k x' y' h (r .to) (s .to);
-        up = larger-mono f x x' y y' (num (r .from)) (num (r .to)) (num (s .from)) (num (s .to)) (r .up) (s .up);
+        from = upto-maximum k x y h (r .from) (s .from);
+        to = upto-maximum k x' y' h (r .to) (s .to);
+        up = subst₂ (λ (a b : Float). T (le a b)) (sym (maximum-number f x y p)) (sym (maximum-number f x' y' p')) (larger-mono f x x' y y' p p' (num (s .from)) (num (s .to)) (r .up) (s .up));
       }
 
   -- ---- a clamp to 0..1

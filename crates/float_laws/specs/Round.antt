@@ -3,7 +3,7 @@
 use mathlib.Core.Path.{_≡_, refl, sym, ap, _∙_, subst}
 use mathlib.Core.Bool.{Bool, true, false, not, cond}
 use Prim.Native.Nat.{ℕ, zero, suc, _+_, _-_, _*_, _/_, _^_, _≤_, _<_}
-use native.Mathlib.Nat.{zero-mul, mul-assoc, mul-right-comm, eq-of-mul-eq-mul-right, mul-one, zero-div}
+use native.Mathlib.Nat.{mul-pos, zero-mul, mul-assoc, mul-right-comm, eq-of-mul-eq-mul-right, mul-one, zero-div}
 use lib.Ieee.Digits.{back}
 use native.Mathlib.Omega.{arith}
 use lib.IntN.{ℤ, pos, negsuc}
@@ -145,6 +145,10 @@ rnd-real f x p = rnd-held f (mag f x) (mag f x) (2 ^ low f) (held-real f x p) (m
 -- a fraction that a finite value equals rounds to that value
 pub rnd-exact : (f : Format) (x : Float) (a c : ℕ) → T (real f x) → 0 < c → a * 2 ^ low f ≡ mag f x * c → rnd f a c ≡ mag f x
 rnd-exact f x a c p C h = rnd-same f a c (mag f x) (2 ^ low f) C (pow-pos (low f)) h ∙ rnd-real f x p
+
+-- how many units of the square make 1
+pub squared-pos : (f : Format) → 0 < 2 ^ low f * 2 ^ low f
+squared-pos f = mul-pos (pow-pos (low f)) (pow-pos (low f))
 
 -- ---- zero
 abbrev pub plus-zero : Float

@@ -20,21 +20,16 @@ pub sub-mul : (a b c : ℕ) → (a - b) * c ≡ a * c - b * c
 sub-mul a b c = mul-comm (a - b) c ∙ mul-sub c a b ∙ ap (λ (z : ℕ). z - c * b) (mul-comm c a) ∙ ap (λ (z : ℕ). a * c - z) (mul-comm c b)
 
 -- ---- what `le` says
+either : (a b : ℕ) (u v z : Bool) → (T u → a < b) → (T v → a ≡ b) → T (u || (v && z)) → a ≤ b
+either a b true v z f g t = le-of-lt (f tt)
+either a b false true z f g t = le-of-eq (g tt)
+either a b false false z f g t = absurd t
+
 pub le-or-eq : (a b : ℕ) (z : Bool) → T (ltb a b || (eqb a b && z)) → a ≤ b
-le-or-eq a b z = go (ltb a b) (eqb a b) (ltb→lt a b) (eqb→eq a b)
-  where
-    go : (u v : Bool) → (T u → a < b) → (T v → a ≡ b) → T (u || (v && z)) → a ≤ b
-    go true v f g t = le-of-lt (f tt)
-    go false true f g t = le-of-eq (g tt)
-    go false false f g t = absurd t
+le-or-eq a b z = either a b (ltb a b) (eqb a b) z (ltb→lt a b) (eqb→eq a b)
 
 ge-or-eq : (a b : ℕ) (z : Bool) → T (ltb b a || (eqb a b && z)) → b ≤ a
-ge-or-eq a b z = go (ltb b a) (eqb a b) (ltb→lt b a) (eqb→eq a b)
-  where
-    go : (u v : Bool) → (T u → b < a) → (T v → a ≡ b) → T (u || (v && z)) → b ≤ a
-    go true v f g t = le-of-lt (f tt)
-    go false true f g t = le-of-eq (sym (g tt))
-    go false false f g t = absurd t
+ge-or-eq a b z = either b a (ltb b a) (eqb a b) z (ltb→lt b a) (λ t. sym (eqb→eq a b t))
 
 both-zero : (a b : ℕ) → T (eqb a b && (false || eqb a 0)) → (a ≡ 0) × (b ≡ 0)
 both-zero a b t =

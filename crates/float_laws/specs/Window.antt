@@ -1,9 +1,9 @@
 -- The dual window over one residue class, as the list of the class's values: the operations in the order of the code, and the bound of Dual for them. Assumes nothing.
 use mathlib.Core.Path.{_≡_, refl, sym, ap, _∙_, subst}
-use mathlib.Core.Bool.{Bool, true, false, true≢false}
+use mathlib.Core.Bool.{Bool, true, false}
 use mathlib.Core.List.{List, [], _∷_, _++_}
 use Prim.Native.Nat.{ℕ, suc, _+_, _-_, _*_, _^_, _≤_, _<_}
-use native.Mathlib.Nat.{mul-comm, mul-assoc, mul-left-comm, mul-right-comm, mul-pos, add-mul, add-comm, zero-add, le-trans, le-of-eq, le-of-lt, lt-of-le-of-lt, mul-le-mul, mul-le-mul-right, le-of-mul-le-mul-right, pow-suc, div-one}
+use native.Mathlib.Nat.{mul-comm, mul-assoc, mul-left-comm, mul-right-comm, add-mul, add-comm, zero-add, le-trans, le-of-eq, le-of-lt, lt-of-le-of-lt, mul-le-mul, mul-le-mul-right, le-of-mul-le-mul-right, pow-suc, div-one}
 use native.Mathlib.Omega.{arith}
 use lib.IntN.{pos}
 use lib.Pow.{pow-pos, pow-mono}
@@ -15,10 +15,10 @@ use lib.Ieee.Scale.{overflow}
 use Rattle.lists.specs.Maps.{tabulate, length-tab}
 use Rattle.lists.specs.Folds.{fold, range}
 use Rattle.lists.specs.Totals.{total, All, total-append, all-append, all-take, all-drop, all-at, all-tab, total-tab, total-getD}
-use Rattle.float_laws.specs.Units.{mag, sign, real, key, keyed, real-of-size, mag-below, lt→key, le→key, real-number}
+use Rattle.float_laws.specs.Units.{mag, sign, real, key, keyed, real-of-size, mag-below, lt→key, le→key, real-number, keyed-le}
 use Rattle.float_laws.specs.Order.{maximum, maximum-number, le-left}
-use Rattle.float_laws.specs.Round.{plus-zero, rnd, sign-round, mag-round, round-number, mag-zero, real-zero}
-use Rattle.float_laws.specs.Ops.{mul-round, div-round, add-sum, sum-clear}
+use Rattle.float_laws.specs.Round.{plus-zero, rnd, sign-round, mag-round, round-number, mag-zero, real-zero, squared-pos}
+use Rattle.float_laws.specs.Ops.{mul-round, div-round, add-sum, sum-clear, unlike-clear}
 use Rattle.float_laws.specs.Mono.{rndU, rndM, real-neg}
 use Rattle.float_laws.specs.Error.{Within, Close, rnd-within, rnd-close, hi-32, lo-32}
 use Rattle.float_laws.specs.Bounds.{real-between}
@@ -113,9 +113,6 @@ module _ (f : Format) (P : 2 ^ (prec f - 1) ≡ 8388608) (big : 2 ^ 57 ≤ 2 ^ l
   L0 : 0 < 2 ^ low f
   L0 = pow-pos (low f)
 
-  LL0 : 0 < 2 ^ low f * 2 ^ low f
-  LL0 = mul-pos (pow-pos (low f)) (pow-pos (low f))
-
   abbrev q : ℕ → ℕ
   q m = rndM f m m
 
@@ -123,14 +120,14 @@ module _ (f : Format) (P : 2 ^ (prec f - 1) ≡ 8388608) (big : 2 ^ 57 ≤ 2 ^ l
   up d g = rndU f (d + g)
 
   q-le : (m : ℕ) → m ≤ 16 * 2 ^ low f → q m ≤ 256 * 2 ^ low f
-  q-le m h = rnd-power f 8 (m * m) (2 ^ low f * 2 ^ low f) (le-trans (lit≤ tt) wide) LL0 (square-le m (2 ^ low f) h)
+  q-le m h = rnd-power f 8 (m * m) (2 ^ low f * 2 ^ low f) (le-trans (lit≤ tt) wide) (squared-pos f) (square-le m (2 ^ low f) h)
 
   q-below : (m : ℕ) → m ≤ 16 * 2 ^ low f → q m < overflow f
   q-below m h = lt-of-le-of-lt (q-le m h) (power-below f 8 (le-trans (lit≤ tt) wide))
 
   q-sq : (m : ℕ) → m ≤ 16 * 2 ^ low f → Sq (2 ^ low f) q m
   q-sq m h =
-      let w = subst (λ (z : ℕ). Within z (m * m * 2 ^ low f) (2 ^ low f * 2 ^ low f) (q m)) P (rnd-within f (m * m) (2 ^ low f * 2 ^ low f) LL0 (q-below m h)) in
+      let w = subst (λ (z : ℕ). Within z (m * m * 2 ^ low f) (2 ^ low f * 2 ^ low f) (q m)) P (rnd-within f (m * m) (2 ^ low f * 2 ^ low f) (squared-pos f) (q-below m h)) in
       record { hi = strip-hi (q m) m (2 ^ low f) L0 (w .hi); lo = strip-lo (q m) m (2 ^ low f) L0 (w .lo) }
 
   near-up : (n : ℕ) → rndU f n < overflow f → Near 1 (rndU f n) n
@@ -175,23 +172,10 @@ floor-e L Q e h n = omega (arith, n .under)
 over : (K c e s : ℕ) → K + e < s → s ≤ K + c → (L : ℕ) → L ≤ 2 ^ 32 * e → 2 ^ 39 * c ≤ L → ⊥
 over K c e s h g L a b = omega arith
 
-keyed-le : (K : ℕ) (s : Bool) (m : ℕ) → keyed K s m ≤ K + m
-keyed-le K false m = omega arith
-keyed-le K true m = omega arith
-
 quot-le : (m e L : ℕ) → m ≤ 16 * L → L ≤ 2 ^ 32 * e → m * L ≤ 2 ^ 36 * L * e
 quot-le m e L h k =
     let a : m ≤ 2 ^ 36 * e = omega arith in
     le-trans (mul-le-mul-right L a) (le-of-eq (mul-right-comm (2 ^ 36) e L))
-
-unlike-clear : (s t : Bool) → t ≡ false → unlike s t ≡ s
-unlike-clear true false h = refl
-unlike-clear false false h = refl
-unlike-clear s true h = absurd (true≢false h)
-
-mags-append : (f : Format) (a b : List Float) → mags f (a ++ b) ≡ mags f a ++ mags f b
-mags-append f [] b = refl
-mags-append f (x ∷ a) b = ap (λ (z : List ℕ). mag f x ∷ z) (mags-append f a b)
 
 mags-length : (f : Format) (xs : List Float) → length (mags f xs) ≡ length xs
 mags-length f [] = refl
