@@ -80,10 +80,12 @@ mul-le-left f x y p q X Y h =
     (omega (arith, size-nonneg f x p X, mul-key-nonneg f x y p q X Y, rndM-le f x y p q Y h))
 
 pub mul-real : (f : Format) (x y : Float) → T (real f x) → T (real f y) → T (le plus-zero x) → T (le plus-zero y) → T (le y one) → T (real f (mul f x y))
-mul-real f x y p q X Y h = real-between f plus-zero (mul f x y) x (mul-number f x y p q) (real-zero f false) p (mul-nonneg f x y p q X Y) (mul-le-left f x y p q X Y h)
+mul-real f x y p q X Y h =
+    real-between f plus-zero (mul f x y) x (mul-number f x y p q) (real-zero f false) p (mul-nonneg f x y p q X Y) (mul-le-left f x y p q X Y h)
 
 -- so the product of two that are in 0..1 is in 0..1
-pub mul-levels : (f : Format) (x y : Float) → T (real f x) → T (real f y) → T (le plus-zero x) → T (le x one) → T (le plus-zero y) → T (le y one) → T (le plus-zero (mul f x y)) × T (le (mul f x y) one)
+pub mul-levels : (f : Format) (x y : Float) → T (real f x) → T (real f y) → T (le plus-zero x) → T (le x one) → T (le plus-zero y) → T (le y one)
+    → T (le plus-zero (mul f x y)) × T (le (mul f x y) one)
 mul-levels f x y p q X h Y k = (
   mul-nonneg f x y p q X Y,
   le-trans-f f (mul f x y) x one (mul-number f x y p q) (real-number f x p) (real-number f one (real-one f)) (mul-le-left f x y p q X Y k) h,
@@ -107,7 +109,9 @@ add-zero-f f x p =
   where
     go : (s : Bool) → center (overflow f) (rndU f) (keyed (overflow f) s (mag f x) + overflow f) ≡ keyed (overflow f) s (mag f x)
     go false = center-up (overflow f) (rndU f) (overflow f + mag f x + overflow f) (mag f x) (omega arith) ∙ ap (λ (z : ℕ). overflow f + z) (rnd-real f x p)
-    go true = center-down (overflow f) (rndU f) (overflow f - mag f x + overflow f) (mag f x) (rnd-zero f (2 ^ low f) (pow-pos (low f))) (omega (arith, mag-below f x p)) ∙ ap (λ (z : ℕ). overflow f - z) (rnd-real f x p)
+    go true =
+        center-down (overflow f) (rndU f) (overflow f - mag f x + overflow f) (mag f x) (rnd-zero f (2 ^ low f) (pow-pos (low f))) (omega (arith, mag-below f x p))
+        ∙ ap (λ (z : ℕ). overflow f - z) (rnd-real f x p)
 
 -- as data too, but for -0, whose sum with +0 is +0
 pub add-zero-clear : (f : Format) (x : Float) → T (real f x) → sign x ≡ false → add f x plus-zero ≡ x

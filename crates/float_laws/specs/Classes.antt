@@ -24,7 +24,8 @@ use Rattle.float_laws.specs.Window.{energy, dual, turn, length-turn, Ok,
 
 -- ---- the code's step
 abbrev pub energyAt : Format → List Float → ℕ → ℕ → ℕ → Float
-energyAt f w hop overlap i = fold (λ s offset. add f s (mul f (getD w ((i + offset * hop) % length w) nan) (getD w ((i + offset * hop) % length w) nan))) plus-zero (range 0 overlap)
+energyAt f w hop overlap i =
+    fold (λ s offset. add f s (mul f (getD w ((i + offset * hop) % length w) nan) (getD w ((i + offset * hop) % length w) nan))) plus-zero (range 0 overlap)
 
 abbrev pub dualBy : Format → Float → List Float → ℕ → ℕ → ℕ → Float
 dualBy f c w hop overlap i = div f (getD w i nan) (maximum (energyAt f w hop overlap i) c)
@@ -134,7 +135,8 @@ module _ (w : List Float) (hop overlap r : ℕ) (len : length w ≡ overlap * ho
         ∙ total-same (λ j. gain f (getD w (j * hop + r) nan) (own (j * hop + r))) (λ j. mag f (getD class j nan) * mag f (dual f c (turn j class) (getD class j nan))) 0 overlap (λ j a b. at j (rw zero-add at b))
         ∙ ap (λ (n : ℕ). total (λ j. mag f (getD class j nan) * mag f (dual f c (turn j class) (getD class j nan))) (range 0 n)) (sym length-class)
       where
-        at : (j : ℕ) → j < overlap → gain f (getD w (j * hop + r) nan) (own (j * hop + r)) ≡ mag f (getD class j nan) * mag f (dual f c (turn j class) (getD class j nan))
+        at : (j : ℕ) → j < overlap
+            → gain f (getD w (j * hop + r) nan) (own (j * hop + r)) ≡ mag f (getD class j nan) * mag f (dual f c (turn j class) (getD class j nan))
         at j J =
             gain-alike f (getD w (j * hop + r) nan) (own (j * hop + r)) (alike j J)
             ∙ ap (λ (x : Float). mag f x * mag f (own (j * hop + r))) (sym (class-at j J))

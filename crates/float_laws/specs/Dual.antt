@@ -20,7 +20,8 @@ abbrev pub Steps : (ℕ → ℕ → ℕ) → (ℕ → ℕ) → ℕ → List ℕ 
 Steps up g d [] = Unit
 Steps up g d (x ∷ xs) = Near 1 (up d (g x)) (d + g x) × Steps up g (up d (g x)) xs
 
-rolled-near : (up : ℕ → ℕ → ℕ) (g : ℕ → ℕ) (k d e : ℕ) (xs : List ℕ) → k + length xs ≤ B → Near k d e → Steps up g d xs → Near (k + length xs) (rolled up g d xs) (e + total g xs)
+rolled-near : (up : ℕ → ℕ → ℕ) (g : ℕ → ℕ) (k d e : ℕ) (xs : List ℕ) → k + length xs ≤ B → Near k d e → Steps up g d xs
+    → Near (k + length xs) (rolled up g d xs) (e + total g xs)
 unfolding total
 rolled-near up g k d e [] h n s = rw (add-zero, add-zero) n
 rolled-near up g k d e (x ∷ xs) h n s =
@@ -63,7 +64,8 @@ tiny L S n h k l =
     let b : n * L ≤ 16 * L = mul-le-mul-right L l in
     omega arith
 
-pub squares-near : (L : ℕ) (q : ℕ → ℕ) (xs : List ℕ) → 2 ^ 57 ≤ L → L * L ≤ 2 ^ 30 * total sq xs → length xs ≤ 16 → All (Sq L q) xs → Near 2 (total q xs * L) (total sq xs)
+pub squares-near : (L : ℕ) (q : ℕ → ℕ) (xs : List ℕ) → 2 ^ 57 ≤ L → L * L ≤ 2 ^ 30 * total sq xs → length xs ≤ 16 → All (Sq L q) xs
+    → Near 2 (total q xs * L) (total sq xs)
 squares-near L q xs h k l a =
     let S = total sq xs in
     let t = tiny L S (length xs) h k l in

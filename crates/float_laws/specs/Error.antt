@@ -99,7 +99,7 @@ finite-real f nan p = p
 finite-real f (inf s) p = p
 finite-real f (fin s m e) p = tt
 
-pub rnd-grid : (f : Format) (a c : ℕ) → rnd f a c < overflow f → rnd f a c ≡ grid f a c
+rnd-grid : (f : Format) (a c : ℕ) → rnd f a c < overflow f → rnd f a c ≡ grid f a c
 unfolding rnd
 rnd-grid f a c h =
     let r = round f false a c in
@@ -114,7 +114,8 @@ pub record Relative (P n c r : ℕ) : Type 0 where
   pub hi : P * (2 * (r * c)) ≤ P * (2 * n) + n
   pub lo : P * (2 * n) ≤ P * (2 * (r * c)) + n
 
-pub rnd-relative : (f : Format) (a c : ℕ) → 0 < c → rnd f a c < overflow f → 2 ^ (prec f - 1) * c ≤ a * 2 ^ low f → Relative (2 ^ (prec f - 1)) (a * 2 ^ low f) c (rnd f a c)
+pub rnd-relative : (f : Format) (a c : ℕ) → 0 < c → rnd f a c < overflow f → 2 ^ (prec f - 1) * c ≤ a * 2 ^ low f
+    → Relative (2 ^ (prec f - 1)) (a * 2 ^ low f) c (rnd f a c)
 rnd-relative f a c C h normal =
     let p = prec f in
     let n = a * 2 ^ low f in
@@ -152,7 +153,10 @@ strip P x y b L L0 h =
 
 whole-at-zero : (p n L : ℕ) → 0 < L → drop p (n * L) L ≡ 0 → kept p (n * L) L * 2 ^ drop p (n * L) L ≡ n
 whole-at-zero p n L C z =
-    ap (λ (k : ℕ). closest (n * L) (L * 2 ^ k) * 2 ^ k) z ∙ mul-one (closest (n * L) (L * 1)) ∙ ap (λ (u : ℕ). closest (n * L) u) (mul-one L) ∙ closest-whole n L C
+    ap (λ (k : ℕ). closest (n * L) (L * 2 ^ k) * 2 ^ k) z
+    ∙ mul-one (closest (n * L) (L * 1))
+    ∙ ap (λ (u : ℕ). closest (n * L) u) (mul-one L)
+    ∙ closest-whole n L C
 
 grid-close : (f : Format) (n : ℕ) → Close (2 ^ (prec f - 1)) n (grid f n (2 ^ low f))
 grid-close f n =
@@ -199,5 +203,6 @@ pub within-32 : (a c : ℕ) → 0 < c → rnd binary32 a c < overflow binary32
     → (16777216 * (rnd binary32 a c * c) ≤ 16777217 * (a * 2 ^ low binary32) + 8388608 * c) × (16777215 * (a * 2 ^ low binary32) ≤ 16777216 * (rnd binary32 a c * c) + 8388608 * c)
 within-32 a c C h = let w = rnd-within binary32 a c C h in (hi-32 (rnd binary32 a c * c) (a * 2 ^ low binary32) c (w .hi), lo-32 (rnd binary32 a c * c) (a * 2 ^ low binary32) c (w .lo))
 
-pub close-32 : (n : ℕ) → rnd binary32 n (2 ^ low binary32) < overflow binary32 → (16777216 * rnd binary32 n (2 ^ low binary32) ≤ 16777217 * n) × (16777215 * n ≤ 16777216 * rnd binary32 n (2 ^ low binary32))
+pub close-32 : (n : ℕ) → rnd binary32 n (2 ^ low binary32) < overflow binary32
+    → (16777216 * rnd binary32 n (2 ^ low binary32) ≤ 16777217 * n) × (16777215 * n ≤ 16777216 * rnd binary32 n (2 ^ low binary32))
 close-32 n h = let w = rnd-close binary32 n h in (omega (arith, w .hi), omega (arith, w .lo))

@@ -184,11 +184,13 @@ room binary64 = lit≤ tt
 
 module _ (f : Format) (n : ℕ) (h : n ≤ 2 ^ prec f) where
   in-range : n * 2 ^ low f < overflow f
-  in-range = lt-of-le-of-lt (mul-le-mul-right (2 ^ low f) h) (lt-of-le-of-lt (le-of-eq (mul-comm (2 ^ prec f) (2 ^ low f) ∙ sym (pow-add 2 (low f) (prec f)))) (pow-lt (omega (arith, room f))))
+  in-range =
+      lt-of-le-of-lt (mul-le-mul-right (2 ^ low f) h) (lt-of-le-of-lt (le-of-eq (mul-comm (2 ^ prec f) (2 ^ low f) ∙ sym (pow-add 2 (low f) (prec f)))) (pow-lt (omega (arith, room f))))
 
   pub mag-whole : mag f (ofInt f (pos n)) ≡ n * 2 ^ low f
   unfolding ofInt
-  mag-whole = mag-round f false n 1 ∙ rnd-held f (n * 2 ^ low f) n 1 (held-times f n (low f) (held-small f n h)) in-range (lit≤ tt) (sym (mul-one (n * 2 ^ low f)))
+  mag-whole =
+      mag-round f false n 1 ∙ rnd-held f (n * 2 ^ low f) n 1 (held-times f n (low f) (held-small f n h)) in-range (lit≤ tt) (sym (mul-one (n * 2 ^ low f)))
 
   pub sign-whole : sign (ofInt f (pos n)) ≡ false
   unfolding ofInt
@@ -272,7 +274,8 @@ sub-self f x p =
     none : (s : Bool) (m : ℕ) → sum f s m (not s) m (2 ^ low f) ≡ plus-zero
     none s m = unfold sum in go s (ltb m m) (ltb→lt m m) (omega arith)
       where
-        go : (s b : Bool) → (T b → m < m) → m - m ≡ 0 → cond (Bool·beq s (not s)) (round f s (m + m) (2 ^ low f)) (cond b (round f (not s) (m - m) (2 ^ low f)) (round f (s && b) (m - m) (2 ^ low f))) ≡ plus-zero
+        go : (s b : Bool) → (T b → m < m) → m - m ≡ 0
+            → cond (Bool·beq s (not s)) (round f s (m + m) (2 ^ low f)) (cond b (round f (not s) (m - m) (2 ^ low f)) (round f (s && b) (m - m) (2 ^ low f))) ≡ plus-zero
         go s true l e = absurd (lt-irrefl m (l tt))
         go true false l e = ap (λ (n : ℕ). round f false n (2 ^ low f)) e ∙ rounded
         go false false l e = ap (λ (n : ℕ). round f false n (2 ^ low f)) e ∙ rounded

@@ -55,12 +55,12 @@ add-inf-r f (inf false) false h = refl
 add-inf-r f (fin s m e) t h = refl
 
 -- ---- a number is the least one, the greatest one or finite
-pub data Kind (f : Format) (x : Float) : Type 0 where
+data Kind (f : Format) (x : Float) : Type 0 where
   bottom : x ≡ inf true → Kind f x
   top : x ≡ inf false → Kind f x
   finite : T (real f x) → Kind f x
 
-pub kind : (f : Format) (x : Float) → T (number f x) → Kind f x
+kind : (f : Format) (x : Float) → T (number f x) → Kind f x
 kind f nan p = absurd p
 kind f (inf true) p = bottom refl
 kind f (inf false) p = top refl
@@ -106,7 +106,8 @@ module _ (f : Format) (x x' y y' : Float) (p : T (number f x)) (p' : T (number f
       go (finite a) (finite b) (finite c) (top e) = high-end (sum-r f false x' y' e r')
       go (finite a) (finite b) (finite c) (finite d) = add-mono f x x' y y' a c b d h k
 
-pub sub-mono-inf : (f : Format) (x x' y y' : Float) → T (number f x) → T (number f x') → T (number f y) → T (number f y') → T (number f (sub f x y)) → T (number f (sub f x' y'))
+pub sub-mono-inf : (f : Format) (x x' y y' : Float) → T (number f x) → T (number f x') → T (number f y) → T (number f y') → T (number f (sub f x y))
+    → T (number f (sub f x' y'))
     → T (le x x') → T (le y' y) → T (le (sub f x y) (sub f x' y'))
 unfolding sub
 sub-mono-inf f x x' y y' p p' q q' r r' h k = add-mono-inf f x x' (neg y) (neg y') p p' (number-neg f y q) (number-neg f y' q') r r' h (le-neg f y' y q' q k)
@@ -131,14 +132,16 @@ mul-top-l f (fin false n d) h r = go (eqb n 0) r
     go : (b : Bool) → T (number f (cond b nan (inf false))) → cond b nan (inf false) ≡ inf false
     go true t = absurd t
     go false t = refl
-mul-top-l f (fin true n d) h r = go (eqb n 0) r (eq→eqb (no-size n (up d) (down d) (eqb→eq (0 * 1 * down d) (n * up d * 1) (and-l (eqb (0 * 1 * down d) (n * up d * 1)) (eqb (0 * 1 * down d) 0) h)) (up-pos d)))
+mul-top-l f (fin true n d) h r =
+    go (eqb n 0) r (eq→eqb (no-size n (up d) (down d) (eqb→eq (0 * 1 * down d) (n * up d * 1) (and-l (eqb (0 * 1 * down d) (n * up d * 1)) (eqb (0 * 1 * down d) 0) h)) (up-pos d)))
   where
     go : (b : Bool) → T (number f (cond b nan (inf true))) → T b → cond b nan (inf true) ≡ inf false
     go true t u = absurd t
     go false t u = absurd u
 
 module _ (f : Format) (x x' y y' : Float) (p : T (number f x)) (p' : T (number f x')) (q : T (number f y)) (q' : T (number f y')) where
-  pub mul-mono-inf : T (le plus-zero x) → T (le plus-zero y) → T (number f (mul f x y)) → T (number f (mul f x' y')) → T (le x x') → T (le y y') → T (le (mul f x y) (mul f x' y'))
+  pub mul-mono-inf : T (le plus-zero x) → T (le plus-zero y) → T (number f (mul f x y)) → T (number f (mul f x' y')) → T (le x x') → T (le y y')
+      → T (le (mul f x y) (mul f x' y'))
   mul-mono-inf X Y r r' h k = go (kind f x p) (kind f y q) (kind f x' p') (kind f y' q')
     where
       zero-real : T (number f plus-zero)
@@ -157,7 +160,8 @@ module _ (f : Format) (x x' y y' : Float) (p : T (number f x)) (p' : T (number f
       by-left e = high-end (ap (λ (w : Float). mul f w y') e ∙ mul-top-l f y' Y' (subst (λ (w : Float). T (number f (mul f w y'))) e r'))
 
       by-right : y' ≡ inf false → T (le (mul f x y) (mul f x' y'))
-      by-right e = high-end (mul-comm-f f x' y' ∙ ap (λ (w : Float). mul f w x') e ∙ mul-top-l f x' X' (subst (λ (w : Float). T (number f w)) (mul-comm-f f x' y' ∙ ap (λ (w : Float). mul f w x') e) r'))
+      by-right e =
+          high-end (mul-comm-f f x' y' ∙ ap (λ (w : Float). mul f w x') e ∙ mul-top-l f x' X' (subst (λ (w : Float). T (number f w)) (mul-comm-f f x' y' ∙ ap (λ (w : Float). mul f w x') e) r'))
 
       go : Kind f x → Kind f y → Kind f x' → Kind f y' → T (le (mul f x y) (mul f x' y'))
       go (bottom e) b c d = absurd (no-bottom f x X e)
@@ -234,14 +238,16 @@ module _ (f : Format) (z : Float) (r : T (real f z)) (Z : T (lt plus-zero z)) wh
   mul-by = image-mono f (λ x. mul f x z) mul-far (λ x p. mul-number f x z p r) (λ x y p q h. mul-mono-l f x y z p q r not-below h)
 
   pub div-by-number : (x : Float) → T (number f x) → T (number f (div f x z))
-  div-by-number = image-number f (λ x. div f x z) (λ s. div-inf-by f s z r (above .0)) (λ x p. div-number f x z p r (above .1)) (λ x y p q h. div-mono f x y z p q r Z h)
+  div-by-number =
+      image-number f (λ x. div f x z) (λ s. div-inf-by f s z r (above .0)) (λ x p. div-number f x z p r (above .1)) (λ x y p q h. div-mono f x y z p q r Z h)
 
   pub div-by : (x y : Float) → T (number f x) → T (number f y) → T (le x y) → T (le (div f x z) (div f y z))
   div-by = image-mono f (λ x. div f x z) (λ s. div-inf-by f s z r (above .0)) (λ x p. div-number f x z p r (above .1)) (λ x y p q h. div-mono f x y z p q r Z h)
 
 -- below zero the order turns, since the negative of the image is one that keeps it
 turned : (f : Format) (h g : Float → Float) → ((x : Float) → g x ≡ neg (h x)) → ((x : Float) → T (number f x) → T (number f (g x)))
-    → ((x y : Float) → T (number f x) → T (number f y) → T (le x y) → T (le (g x) (g y))) → (x y : Float) → T (number f x) → T (number f y) → T (le x y) → T (le (h y) (h x))
+    → ((x y : Float) → T (number f x) → T (number f y) → T (le x y) → T (le (g x) (g y))) → (x y : Float) → T (number f x) → T (number f y) → T (le x y)
+    → T (le (h y) (h x))
 turned f h g e n m x y p q l =
     subst₂ (λ (a b : Float). T (le a b)) (ap neg (e y) ∙ neg-neg (h y)) (ap neg (e x) ∙ neg-neg (h x)) (le-neg f (g x) (g y) (n x p) (n y q) (m x y p q l))
 
@@ -253,7 +259,9 @@ module _ (f : Format) (z : Float) (r : T (real f z)) (Z : T (lt z plus-zero)) (x
       key→lt f plus-zero (neg z) z₀ (number-neg f z n) (omega (arith, key-neg f z n, key-zero f, lt→key f z plus-zero n z₀ Z))
 
   pub mul-by-turns : T (le x y) → T (le (mul f y z) (mul f x z))
-  mul-by-turns = turned f (λ x. mul f x z) (λ x. mul f x (neg z)) (λ x. mul-neg f x z) (mul-by-number f (neg z) (real-neg f z r) away) (mul-by f (neg z) (real-neg f z r) away) x y p q
+  mul-by-turns =
+      turned f (λ x. mul f x z) (λ x. mul f x (neg z)) (λ x. mul-neg f x z) (mul-by-number f (neg z) (real-neg f z r) away) (mul-by f (neg z) (real-neg f z r) away) x y p q
 
   pub div-by-turns : T (le x y) → T (le (div f y z) (div f x z))
-  div-by-turns = turned f (λ x. div f x z) (λ x. div f x (neg z)) (λ x. div-neg f x z) (div-by-number f (neg z) (real-neg f z r) away) (div-by f (neg z) (real-neg f z r) away) x y p q
+  div-by-turns =
+      turned f (λ x. div f x z) (λ x. div f x (neg z)) (λ x. div-neg f x z) (div-by-number f (neg z) (real-neg f z r) away) (div-by f (neg z) (real-neg f z r) away) x y p q

@@ -16,7 +16,8 @@ use Rattle.float_laws.specs.Round.{plus-zero, key-zero, rnd, rnd-le, rnd
 use Rattle.float_laws.specs.Ops.{mul-round, div-round, add-sum, mul-neg, unlike-clear}
 
 -- ---- a function of sizes that keeps their order and takes 0 to 0, on signed sizes
-keyed-map : (K : ℕ) (g : ℕ → ℕ) → ((m n : ℕ) → m ≤ n → g m ≤ g n) → g 0 ≡ 0 → (s : Bool) (m : ℕ) (t : Bool) (n : ℕ) → m ≤ K → n ≤ K → keyed K s m ≤ keyed K t n → keyed K s (g m) ≤ keyed K t (g n)
+keyed-map : (K : ℕ) (g : ℕ → ℕ) → ((m n : ℕ) → m ≤ n → g m ≤ g n) → g 0 ≡ 0 → (s : Bool) (m : ℕ) (t : Bool) (n : ℕ) → m ≤ K → n ≤ K → keyed K s m ≤ keyed K t n
+    → keyed K s (g m) ≤ keyed K t (g n)
 keyed-map K g G z false m false n M N h = omega (arith, G m n (omega arith))
 keyed-map K g G z false m true n M N h =
     let a : m ≡ 0 = omega arith in
@@ -50,7 +51,8 @@ center-down K g t n z e = go (ltb t (K + K)) (nltb→le t (K + K))
 pub center-mono : (K : ℕ) (g : ℕ → ℕ) → ((m n : ℕ) → m ≤ n → g m ≤ g n) → (t u : ℕ) → t ≤ u → center K g t ≤ center K g u
 center-mono K g G t u h = go (ltb t (K + K)) (ltb u (K + K)) (nltb→le t (K + K)) (ltb→lt u (K + K))
   where
-    go : (b c : Bool) → (T (not b) → K + K ≤ t) → (T c → u < K + K) → cond b (K - g (K + K - t)) (K + g (t - (K + K))) ≤ cond c (K - g (K + K - u)) (K + g (u - (K + K)))
+    go : (b c : Bool) → (T (not b) → K + K ≤ t) → (T c → u < K + K)
+        → cond b (K - g (K + K - t)) (K + g (t - (K + K))) ≤ cond c (K - g (K + K - u)) (K + g (u - (K + K)))
     go true true x y = omega (arith, G (K + K - u) (K + K - t) (omega arith))
     go true false x y = omega arith
     go false true x y = absurd (omega (arith, x tt, y tt))
@@ -70,21 +72,32 @@ rndU-zero f = rnd-zero f (2 ^ low f) (pow-pos (low f))
 key-sum : (f : Format) (s : Bool) (a : ℕ) (t : Bool) (b : ℕ) → a ≤ overflow f → b ≤ overflow f
     → key f (sum f s a t b (2 ^ low f)) ≡ center (overflow f) (rndU f) (keyed (overflow f) s a + keyed (overflow f) t b)
 unfolding sum
-key-sum f false a false b A B = key-round f false (a + b) (2 ^ low f) ∙ sym (center-up (overflow f) (rndU f) (overflow f + a + (overflow f + b)) (a + b) (omega arith))
-key-sum f true a true b A B = key-round f true (a + b) (2 ^ low f) ∙ sym (center-down (overflow f) (rndU f) (overflow f - a + (overflow f - b)) (a + b) (rndU-zero f) (omega arith))
+key-sum f false a false b A B =
+    key-round f false (a + b) (2 ^ low f) ∙ sym (center-up (overflow f) (rndU f) (overflow f + a + (overflow f + b)) (a + b) (omega arith))
+key-sum f true a true b A B =
+    key-round f true (a + b) (2 ^ low f) ∙ sym (center-down (overflow f) (rndU f) (overflow f - a + (overflow f - b)) (a + b) (rndU-zero f) (omega arith))
 key-sum f false a true b A B = go (ltb a b) (ltb→lt a b) (nltb→le a b)
   where
-    go : (x : Bool) → (T x → a < b) → (T (not x) → b ≤ a) → key f (cond x (round f true (b - a) (2 ^ low f)) (round f false (a - b) (2 ^ low f))) ≡ center (overflow f) (rndU f) (overflow f + a + (overflow f - b))
-    go true h k = key-round f true (b - a) (2 ^ low f) ∙ sym (center-down (overflow f) (rndU f) (overflow f + a + (overflow f - b)) (b - a) (rndU-zero f) (omega (arith, h tt)))
-    go false h k = key-round f false (a - b) (2 ^ low f) ∙ sym (center-up (overflow f) (rndU f) (overflow f + a + (overflow f - b)) (a - b) (omega (arith, k tt)))
+    go : (x : Bool) → (T x → a < b) → (T (not x) → b ≤ a)
+        → key f (cond x (round f true (b - a) (2 ^ low f)) (round f false (a - b) (2 ^ low f))) ≡ center (overflow f) (rndU f) (overflow f + a + (overflow f - b))
+    go true h k =
+        key-round f true (b - a) (2 ^ low f)
+        ∙ sym (center-down (overflow f) (rndU f) (overflow f + a + (overflow f - b)) (b - a) (rndU-zero f) (omega (arith, h tt)))
+    go false h k =
+        key-round f false (a - b) (2 ^ low f) ∙ sym (center-up (overflow f) (rndU f) (overflow f + a + (overflow f - b)) (a - b) (omega (arith, k tt)))
 key-sum f true a false b A B = go (ltb a b) (ltb b a) (ltb→lt a b) (nltb→le a b) (nltb→le b a)
   where
-    go : (x y : Bool) → (T x → a < b) → (T (not x) → b ≤ a) → (T (not y) → a ≤ b) → key f (cond x (round f false (b - a) (2 ^ low f)) (round f y (a - b) (2 ^ low f))) ≡ center (overflow f) (rndU f) (overflow f - a + (overflow f + b))
-    go true y h k l = key-round f false (b - a) (2 ^ low f) ∙ sym (center-up (overflow f) (rndU f) (overflow f - a + (overflow f + b)) (b - a) (omega (arith, h tt)))
-    go false true h k l = key-round f true (a - b) (2 ^ low f) ∙ sym (center-down (overflow f) (rndU f) (overflow f - a + (overflow f + b)) (a - b) (rndU-zero f) (omega (arith, k tt)))
-    go false false h k l = key-round f false (a - b) (2 ^ low f) ∙ sym (center-up (overflow f) (rndU f) (overflow f - a + (overflow f + b)) (a - b) (omega (arith, k tt, l tt)))
+    go : (x y : Bool) → (T x → a < b) → (T (not x) → b ≤ a) → (T (not y) → a ≤ b)
+        → key f (cond x (round f false (b - a) (2 ^ low f)) (round f y (a - b) (2 ^ low f))) ≡ center (overflow f) (rndU f) (overflow f - a + (overflow f + b))
+    go true y h k l =
+        key-round f false (b - a) (2 ^ low f) ∙ sym (center-up (overflow f) (rndU f) (overflow f - a + (overflow f + b)) (b - a) (omega (arith, h tt)))
+    go false true h k l =
+        key-round f true (a - b) (2 ^ low f)
+        ∙ sym (center-down (overflow f) (rndU f) (overflow f - a + (overflow f + b)) (a - b) (rndU-zero f) (omega (arith, k tt)))
+    go false false h k l =
+        key-round f false (a - b) (2 ^ low f) ∙ sym (center-up (overflow f) (rndU f) (overflow f - a + (overflow f + b)) (a - b) (omega (arith, k tt, l tt)))
 
-pub real-le : (f : Format) (x : Float) → T (real f x) → mag f x ≤ overflow f
+real-le : (f : Format) (x : Float) → T (real f x) → mag f x ≤ overflow f
 real-le f x p = le-of-lt (mag-below f x p)
 
 sum-number : (f : Format) (s : Bool) (a : ℕ) (t : Bool) (b c : ℕ) → T (number f (sum f s a t b c))
@@ -152,8 +165,12 @@ sub-is f x y = refl
 pub sub-number : (f : Format) (x y : Float) → T (real f x) → T (real f y) → T (number f (sub f x y))
 sub-number f x y p q = rw sub-is (add-number f x (neg y) p (real-neg f y q))
 
-pub sub-key : (f : Format) (x y : Float) → T (real f x) → T (real f y) → key f (sub f x y) ≡ center (overflow f) (rndU f) (key f x + (overflow f + overflow f - key f y))
-sub-key f x y p q = ap (key f) (sub-is f x y) ∙ add-key f x (neg y) p (real-neg f y q) ∙ ap (λ (z : ℕ). center (overflow f) (rndU f) (key f x + z)) (key-neg f y (real-number f y q))
+pub sub-key : (f : Format) (x y : Float) → T (real f x) → T (real f y)
+    → key f (sub f x y) ≡ center (overflow f) (rndU f) (key f x + (overflow f + overflow f - key f y))
+sub-key f x y p q =
+    ap (key f) (sub-is f x y)
+    ∙ add-key f x (neg y) p (real-neg f y q)
+    ∙ ap (λ (z : ℕ). center (overflow f) (rndU f) (key f x + z)) (key-neg f y (real-number f y q))
 
 module _ (f : Format) (x x' y y' : Float) (p : T (real f x)) (p' : T (real f x')) (q : T (real f y)) (q' : T (real f y')) where
   pub sub-mono : T (le x x') → T (le y' y) → T (le (sub f x y) (sub f x' y'))
@@ -205,12 +222,13 @@ abbrev pub rndM : Format → ℕ → ℕ → ℕ
 rndM f m n = rnd f (m * n) (2 ^ low f * 2 ^ low f)
 
 pub rndM-mono : (f : Format) (m m' n n' : ℕ) → m ≤ m' → n ≤ n' → rndM f m n ≤ rndM f m' n'
-rndM-mono f m m' n n' h k = rnd-mono f (m * n) (2 ^ low f * 2 ^ low f) (m' * n') (2 ^ low f * 2 ^ low f) (squared-pos f) (squared-pos f) (mul-le-mul-right (2 ^ low f * 2 ^ low f) (mul-le-mul h k))
+rndM-mono f m m' n n' h k =
+    rnd-mono f (m * n) (2 ^ low f * 2 ^ low f) (m' * n') (2 ^ low f * 2 ^ low f) (squared-pos f) (squared-pos f) (mul-le-mul-right (2 ^ low f * 2 ^ low f) (mul-le-mul h k))
 
-pub rndM-zero : (f : Format) (n : ℕ) → rndM f 0 n ≡ 0
+rndM-zero : (f : Format) (n : ℕ) → rndM f 0 n ≡ 0
 rndM-zero f n = ap (λ (z : ℕ). rnd f z (2 ^ low f * 2 ^ low f)) (zero-mul n) ∙ rnd-zero f (2 ^ low f * 2 ^ low f) (squared-pos f)
 
-pub rndM-zero-r : (f : Format) (m : ℕ) → rndM f m 0 ≡ 0
+rndM-zero-r : (f : Format) (m : ℕ) → rndM f m 0 ≡ 0
 rndM-zero-r f m = ap (λ (z : ℕ). rnd f z (2 ^ low f * 2 ^ low f)) (mul-zero m) ∙ rnd-zero f (2 ^ low f * 2 ^ low f) (squared-pos f)
 
 pub mul-number : (f : Format) (x y : Float) → T (real f x) → T (real f y) → T (number f (mul f x y))
@@ -222,7 +240,8 @@ keyed-at-zero K false true n h = omega arith
 keyed-at-zero K true false n h = omega arith
 keyed-at-zero K true true n h = refl
 
-pub mul-key : (f : Format) (x z : Float) → T (real f x) → T (real f z) → overflow f ≤ key f z → key f (mul f x z) ≡ keyed (overflow f) (sign x) (rndM f (mag f x) (mag f z))
+pub mul-key : (f : Format) (x z : Float) → T (real f x) → T (real f z) → overflow f ≤ key f z
+    → key f (mul f x z) ≡ keyed (overflow f) (sign x) (rndM f (mag f x) (mag f z))
 mul-key f x z p q h =
     let K = overflow f in
     ap (key f) (mul-round f x z p q)
@@ -242,7 +261,8 @@ module _ (f : Format) (x y z : Float) (p : T (real f x)) (q : T (real f y)) (r :
       (le→key f x y (real-number f x p) (real-number f y q) h)))
 
 neg-nonneg : (f : Format) (z : Float) → T (number f z) → T (le z plus-zero) → T (le plus-zero (neg z))
-neg-nonneg f z p h = key-nonneg f (neg z) (number-neg f z p) (omega (arith, key-neg f z p, key-zero f, le→key f z plus-zero p (real-number f plus-zero (real-zero f false)) h))
+neg-nonneg f z p h =
+    key-nonneg f (neg z) (number-neg f z p) (omega (arith, key-neg f z p, key-zero f, le→key f z plus-zero p (real-number f plus-zero (real-zero f false)) h))
 
 -- with what is not positive the order turns
 pub mul-turns-l : (f : Format) (x y z : Float) → T (real f x) → T (real f y) → T (real f z) → T (le z plus-zero) → T (le x y) → T (le (mul f y z) (mul f x z))
@@ -250,7 +270,8 @@ mul-turns-l f x y z p q r Z h =
     le-neg-back f (mul f y z) (mul f x z) (mul-number f y z q r) (mul-number f x z p r)
     (subst₂ (λ (a b : Float). T (le a b)) (mul-neg f x z) (mul-neg f y z) (mul-mono-l f x y (neg z) p q (real-neg f z r) (neg-nonneg f z (real-number f z r) Z) h))
 
-sizes-of-keys : (K : ℕ) (s : Bool) (m : ℕ) (t : Bool) (n : ℕ) → m ≤ K → n ≤ K → K ≤ keyed K s m → keyed K s m ≤ keyed K t n → (m ≤ n) × (keyed K s m ≡ K + m) × (keyed K t n ≡ K + n)
+sizes-of-keys : (K : ℕ) (s : Bool) (m : ℕ) (t : Bool) (n : ℕ) → m ≤ K → n ≤ K → K ≤ keyed K s m → keyed K s m ≤ keyed K t n
+    → (m ≤ n) × (keyed K s m ≡ K + m) × (keyed K t n ≡ K + n)
 sizes-of-keys K false m false n M N h k = omega arith
 sizes-of-keys K false m true n M N h k = omega arith
 sizes-of-keys K true m false n M N h k = omega arith
@@ -259,7 +280,8 @@ sizes-of-keys K true m true n M N h k = omega arith
 -- of x that is not negative, and y that is at least x
 module _ (f : Format) (x y : Float) (p : T (real f x)) (q : T (real f y)) where
   pub sizes : T (le plus-zero x) → T (le x y) → (mag f x ≤ mag f y) × (key f x ≡ overflow f + mag f x) × (key f y ≡ overflow f + mag f y)
-  sizes X h = sizes-of-keys (overflow f) (sign x) (mag f x) (sign y) (mag f y) (real-le f x p) (real-le f y q) (nonneg-key f x (real-number f x p) X) (le→key f x y (real-number f x p) (real-number f y q) h)
+  sizes X h =
+      sizes-of-keys (overflow f) (sign x) (mag f x) (sign y) (mag f y) (real-le f x p) (real-le f y q) (nonneg-key f x (real-number f x p) X) (le→key f x y (real-number f x p) (real-number f y q) h)
 
 pub size-nonneg : (f : Format) (x : Float) → T (real f x) → T (le plus-zero x) → key f x ≡ overflow f + mag f x
 size-nonneg f x p X = sizes f x x p p X (key→le f x x (real-number f x p) (real-number f x p) (le-refl (key f x))) .1
@@ -269,7 +291,8 @@ keyed-zero-or K false m r h l z = refl
 keyed-zero-or K true m r h l z = let e : m ≡ 0 = omega arith in omega (arith, z e)
 
 -- the key of a product of two that are not negative
-pub mul-key-nonneg : (f : Format) (x y : Float) → T (real f x) → T (real f y) → T (le plus-zero x) → T (le plus-zero y) → key f (mul f x y) ≡ overflow f + rndM f (mag f x) (mag f y)
+pub mul-key-nonneg : (f : Format) (x y : Float) → T (real f x) → T (real f y) → T (le plus-zero x) → T (le plus-zero y)
+    → key f (mul f x y) ≡ overflow f + rndM f (mag f x) (mag f y)
 mul-key-nonneg f x y p q X Y =
     mul-key f x y p q (nonneg-key f y (real-number f y q) Y)
     ∙ keyed-zero-or (overflow f) (sign x) (mag f x) (rndM f (mag f x) (mag f y)) (size-nonneg f x p X) (real-le f x p) (λ e. ap (λ (z : ℕ). rndM f z (mag f y)) e ∙ rndM-zero f (mag f y))
@@ -293,12 +316,14 @@ above-cases K false m h = (refl, omega arith)
 above-cases K true m h = absurd (omega arith)
 
 pub above-zero : (f : Format) (x : Float) → T (number f x) → T (lt plus-zero x) → (sign x ≡ false) × (0 < mag f x)
-above-zero f x p h = above-cases (overflow f) (sign x) (mag f x) (omega (arith, key-zero f, lt→key f plus-zero x (real-number f plus-zero (real-zero f false)) p h))
+above-zero f x p h =
+    above-cases (overflow f) (sign x) (mag f x) (omega (arith, key-zero f, lt→key f plus-zero x (real-number f plus-zero (real-zero f false)) p h))
 
 pub div-number : (f : Format) (x y : Float) → T (real f x) → T (real f y) → 0 < mag f y → T (number f (div f x y))
 div-number f x y p q N = rw div-round (round-number f (unlike (sign x) (sign y)) (mag f x) (mag f y))
 
-pub div-key : (f : Format) (x y : Float) → T (real f x) → T (real f y) → T (lt plus-zero y) → key f (div f x y) ≡ keyed (overflow f) (sign x) (rnd f (mag f x) (mag f y))
+pub div-key : (f : Format) (x y : Float) → T (real f x) → T (real f y) → T (lt plus-zero y)
+    → key f (div f x y) ≡ keyed (overflow f) (sign x) (rnd f (mag f x) (mag f y))
 div-key f x y p q Y =
     let a = above-zero f y (real-number f y q) Y in
     ap (key f) (div-round f x y p q (a .1))

@@ -28,7 +28,8 @@ mul-fin f s m e t n d h k =
     ∙ ap (λ (z : ℕ). x * down e * z) (sym (mag-exact f t n d k))
     ∙ mul-mul-mul-comm x (down e) y (down d))
 
-pub mul-round : (f : Format) (x y : Float) → T (real f x) → T (real f y) → mul f x y ≡ round f (unlike (sign x) (sign y)) (mag f x * mag f y) (2 ^ low f * 2 ^ low f)
+pub mul-round : (f : Format) (x y : Float) → T (real f x) → T (real f y)
+    → mul f x y ≡ round f (unlike (sign x) (sign y)) (mag f x * mag f y) (2 ^ low f * 2 ^ low f)
 mul-round f nan y p q = absurd p
 mul-round f (inf s) y p q = absurd p
 mul-round f (fin s m e) nan p q = absurd q
@@ -112,7 +113,8 @@ ltb-same a b c a' b' c' C C' p q =
 sub-scaled : (a b c a' b' c' : ℕ) → a * c' ≡ a' * c → b * c' ≡ b' * c → (a - b) * c' ≡ (a' - b') * c
 sub-scaled a b c a' b' c' p q = sub-mul a b c' ∙ ap (λ (z : ℕ). z - b * c') p ∙ ap (λ (z : ℕ). a' * c - z) q ∙ sym (sub-mul a' b' c)
 
-sum-same : (f : Format) (s : Bool) (a : ℕ) (t : Bool) (b c a' b' c' : ℕ) → 0 < c → 0 < c' → a * c' ≡ a' * c → b * c' ≡ b' * c → sum f s a t b c ≡ sum f s a' t b' c'
+sum-same : (f : Format) (s : Bool) (a : ℕ) (t : Bool) (b c a' b' c' : ℕ) → 0 < c → 0 < c' → a * c' ≡ a' * c → b * c' ≡ b' * c
+    → sum f s a t b c ≡ sum f s a' t b' c'
 unfolding sum
 sum-same f s a t b c a' b' c' C C' p q =
     let A : (u : Bool) → round f u (a + b) c ≡ round f u (a' + b') c' = λ u. round-same f u (a + b) c (a' + b') c' C C' (add-mul a b c' ∙ ap (λ (z : ℕ). z + b * c') p ∙ ap (λ (z : ℕ). a' * c + z) q ∙ sym (add-mul a' b' c)) in

@@ -169,7 +169,8 @@ module _ (f : Format) (x x' y y' : Float) (p : T (number f x)) (p' : T (number f
       (omega (arith, key-smaller f x y p q, key-smaller f x' y' p' q', le→key f x x' p p' h, le→key f y y' q q' k))
 
 pub larger-comm : (f : Format) (x y : Float) → T (number f x) → T (number f y) → T (eq (larger x y) (larger y x))
-larger-comm f x y p q = key→eq f (larger x y) (larger y x) (larger-number f x y p q) (larger-number f y x q p) (omega (arith, key-larger f x y p q, key-larger f y x q p))
+larger-comm f x y p q =
+    key→eq f (larger x y) (larger y x) (larger-number f x y p q) (larger-number f y x q p) (omega (arith, key-larger f x y p q, key-larger f y x q p))
 
 -- ---- document 01: a clamp gives the low end below it, the high end above it, else the number itself
 abbrev pub clamp : Float → Float → Float → Float
@@ -186,7 +187,8 @@ module _ (f : Format) (lo hi : Float) (p : T (number f lo)) (q : T (number f hi)
         go false false = r
 
     pub key-clamp : key f (clamp lo hi x) ≡ max (key f lo) (min (key f hi) (key f x))
-    key-clamp = go (lt x lo) (lt hi x) (lt→key f x lo r p) (λ (n : T (not (lt x lo))). le→key f lo x p r (not-lt-f f x lo r p n)) (lt→key f hi x q r) (λ (n : T (not (lt hi x))). le→key f x hi r q (not-lt-f f hi x q r n))
+    key-clamp =
+        go (lt x lo) (lt hi x) (lt→key f x lo r p) (λ (n : T (not (lt x lo))). le→key f lo x p r (not-lt-f f x lo r p n)) (lt→key f hi x q r) (λ (n : T (not (lt hi x))). le→key f x hi r q (not-lt-f f hi x q r n))
       where
         order : key f lo ≤ key f hi
         order = le→key f lo hi p q ends
@@ -204,11 +206,14 @@ module _ (f : Format) (lo hi : Float) (p : T (number f lo)) (q : T (number f hi)
     clamp-high = key→le f (clamp lo hi x) hi clamp-number q (omega (arith, key-clamp, le→key f lo hi p q ends))
 
   pub clamp-mono : (x y : Float) → T (number f x) → T (number f y) → T (le x y) → T (le (clamp lo hi x) (clamp lo hi y))
-  clamp-mono x y r s h = key→le f (clamp lo hi x) (clamp lo hi y) (clamp-number x r) (clamp-number y s) (omega (arith, key-clamp x r, key-clamp y s, le→key f x y r s h))
+  clamp-mono x y r s h =
+      key→le f (clamp lo hi x) (clamp lo hi y) (clamp-number x r) (clamp-number y s) (omega (arith, key-clamp x r, key-clamp y s, le→key f x y r s h))
 
   -- within the ends it is the number itself, to the bit
   pub clamp-within : (x : Float) → T (number f x) → T (le lo x) → T (le x hi) → clamp lo hi x ≡ x
-  clamp-within x r h k = ap (λ (b : Bool). cond b lo (cond (lt hi x) hi x)) (is-false (lt x lo) (le→not-lt-f f lo x p r h)) ∙ ap (λ (b : Bool). cond b hi x) (is-false (lt hi x) (le→not-lt-f f x hi r q k))
+  clamp-within x r h k =
+      ap (λ (b : Bool). cond b lo (cond (lt hi x) hi x)) (is-false (lt x lo) (le→not-lt-f f lo x p r h))
+      ∙ ap (λ (b : Bool). cond b hi x) (is-false (lt hi x) (le→not-lt-f f x hi r q k))
 
 pub clamp-nan : (lo hi : Float) → clamp lo hi nan ≡ nan
 unfolding lt

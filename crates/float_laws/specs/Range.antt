@@ -72,7 +72,8 @@ module _ (f : Format) (a b t : Float) (p : T (real f a)) (q : T (real f b)) (r :
   result-number = add-number f a (mul f (sub f b a) t) p step-real
 
   -- a sum of keys that is 2 K + m at least, or at most, for a value of the size m
-  at-least : (c : Float) → T (real f c) → overflow f + overflow f + mag f c ≤ key f a + key f (mul f (sub f b a) t) → overflow f + mag f c ≤ key f (toward f a b t)
+  at-least : (c : Float) → T (real f c) → overflow f + overflow f + mag f c ≤ key f a + key f (mul f (sub f b a) t)
+      → overflow f + mag f c ≤ key f (toward f a b t)
   at-least c k l =
       let K = overflow f in
       let u = key f a + key f (mul f (sub f b a) t) in

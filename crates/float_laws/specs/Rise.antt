@@ -124,7 +124,8 @@ module _ (f : Format) where
       record {
         from = upto-maximum k x y h (r .from) (s .from);
         to = upto-maximum k x' y' h (r .to) (s .to);
-        up = subst₂ (λ (a b : Float). T (le a b)) (sym (maximum-number f x y p)) (sym (maximum-number f x' y' p')) (larger-mono f x x' y y' p p' (num (s .from)) (num (s .to)) (r .up) (s .up));
+        up =
+            subst₂ (λ (a b : Float). T (le a b)) (sym (maximum-number f x y p)) (sym (maximum-number f x' y' p')) (larger-mono f x x' y y' p p' (num (s .from)) (num (s .to)) (r .up) (s .up));
       }
 
   -- ---- a clamp to 0..1
@@ -142,7 +143,8 @@ module _ (f : Format) where
       record {
         from = upto-clamp x (num (r .from));
         to = upto-clamp y (num (r .to));
-        up = clamp-mono f plus-zero one (real-number f plus-zero (real-zero f false)) (real-number f one (real-one f)) one-nonneg x y (num (r .from)) (num (r .to)) (r .up);
+        up =
+            clamp-mono f plus-zero one (real-number f plus-zero (real-zero f false)) (real-number f one (real-one f)) one-nonneg x y (num (r .from)) (num (r .to)) (r .up);
       }
 
 -- ---- with no bound but that both are finite: a product with what is at most 1, on either side
@@ -177,7 +179,8 @@ module _ (f : Format) where
       record {
         from = upto-clamp f x (real-number f x (r .from-real));
         to = upto-clamp f y (real-number f y (r .to-real));
-        up = clamp-mono f plus-zero one (real-number f plus-zero (real-zero f false)) (real-number f one (real-one f)) one-nonneg x y (real-number f x (r .from-real)) (real-number f y (r .to-real)) (r .up);
+        up =
+            clamp-mono f plus-zero one (real-number f plus-zero (real-zero f false)) (real-number f one (real-one f)) one-nonneg x y (real-number f x (r .from-real)) (real-number f y (r .to-real)) (r .up);
       }
 
   pub scale-up : {x x' y y' : Float} → Rise f 0 y y' → Up f x x' → Up f (mul f y x) (mul f y' x')

@@ -164,7 +164,8 @@ real-zero f s = tt
 
 pub rnd-zero : (f : Format) (c : ℕ) → 0 < c → rnd f 0 c ≡ 0
 rnd-zero f c C =
-    rnd-exact f plus-zero 0 c (real-zero f false) C (zero-mul (2 ^ low f) ∙ sym (zero-mul c) ∙ ap (λ (z : ℕ). z * c) (sym (mag-zero f false (pos 0)))) ∙ mag-zero f false (pos 0)
+    rnd-exact f plus-zero 0 c (real-zero f false) C (zero-mul (2 ^ low f) ∙ sym (zero-mul c) ∙ ap (λ (z : ℕ). z * c) (sym (mag-zero f false (pos 0))))
+    ∙ mag-zero f false (pos 0)
 
 pub key-zero : (f : Format) → key f plus-zero ≡ overflow f
 key-zero f = omega (arith, mag-zero f false (pos 0))

@@ -40,10 +40,10 @@ abbrev pub turn : ℕ → List Float → List Float
 turn j xs = drop j xs ++ take j xs
 
 -- ---- a finite value with a clear sign
-pub record Plain (f : Format) (x : Float) (n : ℕ) : Type 0 where
-  pub is-real : T (real f x)
-  pub clear : sign x ≡ false
-  pub size : mag f x ≡ n
+record Plain (f : Format) (x : Float) (n : ℕ) : Type 0 where
+  is-real : T (real f x)
+  clear : sign x ≡ false
+  size : mag f x ≡ n
 
 plain-round : (f : Format) (a c : ℕ) → rnd f a c < overflow f → Plain f (round f false a c) (rnd f a c)
 plain-round f a c h =
@@ -73,7 +73,7 @@ add-plain f x y m n p q h =
     ∙ ap (λ (z : ℕ). round f false (m + z) (2 ^ low f)) (q .size)))
     (plain-round f (m + n) (2 ^ low f) h)
 
-abbrev pub mags : Format → List Float → List ℕ
+abbrev mags : Format → List Float → List ℕ
 mags f [] = []
 mags f (x ∷ xs) = mag f x ∷ mags f xs
 
@@ -90,13 +90,15 @@ square-le m L h =
     let g : 256 * (L * L) * L ≡ 256 * L * (L * L) = simp (mul-assoc, mul-comm, mul-left-comm) in
     le-trans (mul-le-mul-right L (le-trans a (le-of-eq e))) (le-of-eq g)
 
-strip-hi : (q m L : ℕ) → 0 < L → 8388608 * (2 * (q * (L * L))) ≤ 8388608 * (2 * (m * m * L)) + (m * m * L + 8388608 * (L * L)) → B * (q * L) ≤ 16777217 * (m * m) + 8388608 * L
+strip-hi : (q m L : ℕ) → 0 < L → 8388608 * (2 * (q * (L * L))) ≤ 8388608 * (2 * (m * m * L)) + (m * m * L + 8388608 * (L * L))
+    → B * (q * L) ≤ 16777217 * (m * m) + 8388608 * L
 strip-hi q m L L0 h =
     let a : B * (q * L) * L ≡ B * (q * (L * L)) = mul-assoc B (q * L) L ∙ ap (λ (z : ℕ). B * z) (mul-assoc q L L) in
     let b : (16777217 * (m * m) + 8388608 * L) * L ≡ 16777217 * (m * m * L) + 8388608 * (L * L) = add-mul (16777217 * (m * m)) (8388608 * L) L ∙ ap (λ (z : ℕ). z + 8388608 * L * L) (mul-assoc 16777217 (m * m) L) ∙ ap (λ (z : ℕ). 16777217 * (m * m * L) + z) (mul-assoc 8388608 L L) in
     le-of-mul-le-mul-right (omega arith) L0
 
-strip-lo : (q m L : ℕ) → 0 < L → 8388608 * (2 * (m * m * L)) ≤ 8388608 * (2 * (q * (L * L))) + (m * m * L + 8388608 * (L * L)) → 16777215 * (m * m) ≤ B * (q * L) + 8388608 * L
+strip-lo : (q m L : ℕ) → 0 < L → 8388608 * (2 * (m * m * L)) ≤ 8388608 * (2 * (q * (L * L))) + (m * m * L + 8388608 * (L * L))
+    → 16777215 * (m * m) ≤ B * (q * L) + 8388608 * L
 strip-lo q m L L0 h =
     let a : 16777215 * (m * m) * L ≡ 16777215 * (m * m * L) = mul-assoc 16777215 (m * m) L in
     let b : (B * (q * L) + 8388608 * L) * L ≡ B * (q * (L * L)) + 8388608 * (L * L) = add-mul (B * (q * L)) (8388608 * L) L ∙ ap (λ (z : ℕ). z + 8388608 * L * L) (mul-assoc B (q * L) L ∙ ap (λ (z : ℕ). B * z) (mul-assoc q L L)) ∙ ap (λ (z : ℕ). B * (q * (L * L)) + z) (mul-assoc 8388608 L L) in
@@ -149,7 +151,8 @@ module _ (f : Format) (P : 2 ^ (prec f - 1) ≡ 8388608) (big : 2 ^ 57 ≤ 2 ^ l
       let s : suc j ≤ 64 = omega arith in
       (near-up (d + q (mag f x)) (up-below j d (q (mag f x)) h s a g), steps (suc j) (up d (q (mag f x))) xs (omega arith) (omega arith) (up-le j d (q (mag f x)) h s a g) (b .1))
 
-  energy-plain : (j : ℕ) (d : Float) (n : ℕ) (xs : List Float) → 8 ≤ j → j + length xs ≤ 64 → Plain f d n → n ≤ 2 ^ j * 2 ^ low f → All (Ok f) xs → Plain f (energy f d xs) (rolled up q n (mags f xs))
+  energy-plain : (j : ℕ) (d : Float) (n : ℕ) (xs : List Float) → 8 ≤ j → j + length xs ≤ 64 → Plain f d n → n ≤ 2 ^ j * 2 ^ low f → All (Ok f) xs
+      → Plain f (energy f d xs) (rolled up q n (mags f xs))
   unfolding fold
   energy-plain j d n [] h k p a b = p
   energy-plain j d n (x ∷ xs) h k p a b =
@@ -254,7 +257,11 @@ module _ (f : Format) (P : 2 ^ (prec f - 1) ≡ 8388608) (big : 2 ^ 57 ≤ 2 ^ l
 
 -- ---- the list read from another place: the same length, the same values, the same sums
 pub length-turn : (j : ℕ) (xs : List Float) → length (turn j xs) ≡ length xs
-length-turn j xs = length-append (drop j xs) (take j xs) ∙ add-comm (length (drop j xs)) (length (take j xs)) ∙ sym (length-append (take j xs) (drop j xs)) ∙ ap length (take-append-drop j xs)
+length-turn j xs =
+    length-append (drop j xs) (take j xs)
+    ∙ add-comm (length (drop j xs)) (length (take j xs))
+    ∙ sym (length-append (take j xs) (drop j xs))
+    ∙ ap length (take-append-drop j xs)
 
 all-turn : (P : Float → Type 0) (j : ℕ) (xs : List Float) → All P xs → All P (turn j xs)
 all-turn P j xs h = all-append P (drop j xs) (take j xs) (all-drop P j xs h) (all-take P j xs h)

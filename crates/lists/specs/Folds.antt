@@ -106,7 +106,8 @@ module _ {A : Type 0} where
   abbrev pub firstBad : (ℕ → A → Bool) → List A → ℕ
   firstBad ok xs = firstBadFrom ok 0 xs
 
-  pub bad-step : (ok : ℕ → A → Bool) (i : ℕ) {l : List A} {x : A} {rest : List A} → l ≡ x ∷ rest → ok i x ≡ true → firstBadFrom ok i l ≡ firstBadFrom ok (i + 1) rest
+  pub bad-step : (ok : ℕ → A → Bool) (i : ℕ) {l : List A} {x : A} {rest : List A} → l ≡ x ∷ rest → ok i x ≡ true
+      → firstBadFrom ok i l ≡ firstBadFrom ok (i + 1) rest
   unfolding firstBadFrom
   bad-step ok i {l} {x} {rest} e h = ap (firstBadFrom ok i) e ∙ rw h (rw (add-one i))
 
@@ -124,7 +125,8 @@ module _ {A : Type 0} where
   bad-bounds ok i [] = (le-refl i, omega arith)
   bad-bounds ok i (x ∷ xs) = go (ok i x) (bad-bounds ok (suc i) xs)
     where
-      go : (b : Bool) → (suc i ≤ firstBadFrom ok (suc i) xs) × (firstBadFrom ok (suc i) xs ≤ suc i + length xs) → (i ≤ cond b (firstBadFrom ok (suc i) xs) i) × (cond b (firstBadFrom ok (suc i) xs) i ≤ i + suc (length xs))
+      go : (b : Bool) → (suc i ≤ firstBadFrom ok (suc i) xs) × (firstBadFrom ok (suc i) xs ≤ suc i + length xs)
+          → (i ≤ cond b (firstBadFrom ok (suc i) xs) i) × (cond b (firstBadFrom ok (suc i) xs) i ≤ i + suc (length xs))
       go true w = (omega arith, omega arith)
       go false w = (le-refl i, omega arith)
 
@@ -141,14 +143,16 @@ module _ {A : Type 0} where
       go false h = absurd (omega arith)
   before d ok i (x ∷ xs) (suc k) h l = go (ok i x) (λ g. before d ok (suc i) xs k g (le-of-suc-le-suc l)) h
     where
-      go : (b : Bool) → (suc i + k < firstBadFrom ok (suc i) xs → T (ok (suc i + k) (getD xs k d))) → i + suc k < cond b (firstBadFrom ok (suc i) xs) i → T (ok (i + suc k) (getD xs k d))
+      go : (b : Bool) → (suc i + k < firstBadFrom ok (suc i) xs → T (ok (suc i + k) (getD xs k d))) → i + suc k < cond b (firstBadFrom ok (suc i) xs) i
+          → T (ok (i + suc k) (getD xs k d))
       go true r h = subst (λ (m : ℕ). T (ok m (getD xs k d))) (suc-add i k ∙ sym (add-suc i k)) (r (omega (arith, suc-add i k, add-suc i k)))
       go false r h = absurd (omega arith)
 
   pub bad-before : (d : A) (ok : ℕ → A → Bool) (xs : List A) (k : ℕ) → k < firstBad ok xs → T (ok k (getD xs k d))
   bad-before d ok xs k h = let l = bad-le ok xs in rw zero-add at (before d ok 0 xs k (rw zero-add h) (omega arith))
 
-  at : (d : A) (ok : ℕ → A → Bool) (i : ℕ) (xs : List A) → firstBadFrom ok i xs < i + length xs → ok (firstBadFrom ok i xs) (getD xs (firstBadFrom ok i xs - i) d) ≡ false
+  at : (d : A) (ok : ℕ → A → Bool) (i : ℕ) (xs : List A) → firstBadFrom ok i xs < i + length xs
+      → ok (firstBadFrom ok i xs) (getD xs (firstBadFrom ok i xs - i) d) ≡ false
   unfolding firstBadFrom
   at d ok i [] h = absurd (omega arith)
   at d ok i (x ∷ xs) h = go (ok i x) refl (at d ok (suc i) xs) h

@@ -69,7 +69,8 @@ module _ {A : Type 0} where
 
   -- a list is the tabulated list of its own entries
   pub tabulate-self : (d : A) (xs : List A) → xs ≡ tabulate (length xs) (λ k. getD xs k d)
-  tabulate-self d xs = ext-getD d xs (tabulate (length xs) (λ k. getD xs k d)) (sym (length-tab (λ k. getD xs k d) 0 (length xs))) (λ k h. sym (getD-tabulate (λ k. getD xs k d) (length xs) k d h))
+  tabulate-self d xs =
+      ext-getD d xs (tabulate (length xs) (λ k. getD xs k d)) (sym (length-tab (λ k. getD xs k d) 0 (length xs))) (λ k h. sym (getD-tabulate (λ k. getD xs k d) (length xs) k d h))
 
   pub mapFrom-tab : {B : Type 0} (f : ℕ → A) (j : ℕ) (xs : List B) → mapFrom (λ k x. f k) j xs ≡ tabFrom f j (length xs)
   unfolding mapFrom tabFrom
@@ -99,7 +100,8 @@ module _ {A : Type 0} where
   pub length-mapRange : (g : ℕ → A → A) (lo hi : ℕ) (xs : List A) → length (mapRange g lo hi xs) ≡ length xs
   length-mapRange g lo hi xs = length-mapFrom (between lo hi g) 0 xs
 
-  pub getD-mapRange : (g : ℕ → A → A) (lo hi : ℕ) (xs : List A) (k : ℕ) (d : A) → k < length xs → getD (mapRange g lo hi xs) k d ≡ between lo hi g k (getD xs k d)
+  pub getD-mapRange : (g : ℕ → A → A) (lo hi : ℕ) (xs : List A) (k : ℕ) (d : A) → k < length xs
+      → getD (mapRange g lo hi xs) k d ≡ between lo hi g k (getD xs k d)
   getD-mapRange g lo hi xs k d h = getD-mapAt (between lo hi g) xs k d d h
 
   empty : (g : ℕ → A → A) (lo j : ℕ) (xs : List A) → mapFrom (between lo lo g) j xs ≡ xs

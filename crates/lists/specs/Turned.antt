@@ -36,7 +36,8 @@ module _ {A : Type 0} where
       record {
         len = length-set xs i v ∙ l;
         low = omega arith;
-        is = ext-getD d (set xs i v) (mapRange g lo (i + 1) xs₀) (length-set xs i v ∙ l ∙ sym (length-mapRange g lo (i + 1) xs₀)) (λ k p. at k (simp length-set at p));
+        is =
+            ext-getD d (set xs i v) (mapRange g lo (i + 1) xs₀) (length-set xs i v ∙ l ∙ sym (length-mapRange g lo (i + 1) xs₀)) (λ k p. at k (simp length-set at p));
       }
     where
       at : (k : ℕ) → k < length xs → getD (set xs i v) k d ≡ getD (mapRange g lo (i + 1) xs₀) k d
@@ -45,7 +46,8 @@ module _ {A : Type 0} where
           b : (hi : ℕ) → getD (mapRange g lo hi xs₀) k d ≡ between lo hi g k (getD xs₀ k d)
           b hi = getD-mapRange g lo hi xs₀ k d (omega (arith, t .len))
 
-          other : (k ≡ i → ⊥) → between lo i g k (getD xs₀ k d) ≡ between lo (i + 1) g k (getD xs₀ k d) → getD (set xs i v) k d ≡ getD (mapRange g lo (i + 1) xs₀) k d
+          other : (k ≡ i → ⊥) → between lo i g k (getD xs₀ k d) ≡ between lo (i + 1) g k (getD xs₀ k d)
+              → getD (set xs i v) k d ≡ getD (mapRange g lo (i + 1) xs₀) k d
           other ne eq = getD-set-other xs i k v d ne ∙ ap (λ l. getD l k d) (t .is) ∙ b i ∙ eq ∙ sym (b (i + 1))
 
           go : Dec (k < i) → Dec (i < k) → getD (set xs i v) k d ≡ getD (mapRange g lo (i + 1) xs₀) k d
@@ -67,7 +69,8 @@ module _ {A : Type 0} where
   -- the entries lo ≤ k < hi are done, where the loop begins at lo and stops at hi, or at once
   pub turned-to : (hi : ℕ) {g : ℕ → A → A} {lo : ℕ} {xs₀ xs : List A} {i : ℕ} → Turned g lo xs₀ xs i → (i ≤ hi) ⊎ (i ≡ lo) → hi ≤ i → xs ≡ mapRange g lo hi xs₀
   turned-to hi {g} {lo} {xs₀} {xs} {i} t w h =
-      t .is ∙ ⊎-elim (λ p. let z : i ≡ hi = omega arith in rw z refl) (λ p. mapFrom-same (between lo i g) (between lo hi g) 0 xs₀ (λ k x a b. same k x p (decLt k lo))) w
+      t .is
+      ∙ ⊎-elim (λ p. let z : i ≡ hi = omega arith in rw z refl) (λ p. mapFrom-same (between lo i g) (between lo hi g) 0 xs₀ (λ k x a b. same k x p (decLt k lo))) w
     where
       same : (k : ℕ) (x : A) → i ≡ lo → Dec (k < lo) → between lo i g k x ≡ between lo hi g k x
       same k x p (yes q) = simp (lt-leb lo k q)
