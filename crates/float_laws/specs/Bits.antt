@@ -23,7 +23,8 @@ scaled f (suc x) t = (hid f + t) * 2 ^ x
 
 mag-odd : (f : Format) (d : ℕ) (s : Bool) (q k : ℕ) → T (fits f (odd d s q k (low f))) → mag f (odd d s q k (low f)) ≡ q * 2 ^ k
 mag-odd f d s q k h =
-    eq-of-mul-eq-mul-right (2 ^ low f) (pow-pos (low f)) (mag f (odd d s q k (low f))) (q * 2 ^ k) (mag-of-value f (odd d s q k (low f)) s (q * 2 ^ k) (2 ^ low f) h (odd-sign d s q k (low f)))
+    eq-of-mul-eq-mul-right (2 ^ low f) (pow-pos (low f)) (mag f (odd d s q k (low f))) (q * 2 ^ k)
+    (mag-of-value f (odd d s q k (low f)) s (q * 2 ^ k) (2 ^ low f) h (odd-sign d s q k (low f)))
 
 top-exponent : (e p x : ℕ) → suc x ≡ 2 * e + 1 → 2 ≤ p → e + p - 2 + suc e ≡ p - 1 + x
 top-exponent e p x h k = omega arith
@@ -81,7 +82,8 @@ module _ (f : Format) (b : ℕ) (h : b ≤ ones f * hid f) where
   fields : ofBits f b ≡ ofFields f false (b / hid f) (b % hid f)
   unfolding ofBits
   fields =
-      ap (λ (s : Bool). ofFields f s (b % top f / hid f) (b % hid f)) (is-false (leb (top f) b) (not-T (leb (top f) b) (λ (t : T (leb (top f) b)). not-le-of-lt under-top (leb→le (top f) b t))))
+      ap (λ (s : Bool). ofFields f s (b % top f / hid f) (b % hid f))
+      (is-false (leb (top f) b) (not-T (leb (top f) b) (λ (t : T (leb (top f) b)). not-le-of-lt under-top (leb→le (top f) b t))))
       ∙ ap (λ (z : ℕ). ofFields f false (z / hid f) (b % hid f)) (mod-eq-of-lt under-top)
 
   no-nan : T (not (isNan (ofBits f b)))

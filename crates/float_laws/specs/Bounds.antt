@@ -110,7 +110,8 @@ add-zero-f f x p =
     go : (s : Bool) → center (overflow f) (rndU f) (keyed (overflow f) s (mag f x) + overflow f) ≡ keyed (overflow f) s (mag f x)
     go false = center-up (overflow f) (rndU f) (overflow f + mag f x + overflow f) (mag f x) (omega arith) ∙ ap (λ (z : ℕ). overflow f + z) (rnd-real f x p)
     go true =
-        center-down (overflow f) (rndU f) (overflow f - mag f x + overflow f) (mag f x) (rnd-zero f (2 ^ low f) (pow-pos (low f))) (omega (arith, mag-below f x p))
+        center-down (overflow f) (rndU f) (overflow f - mag f x + overflow f) (mag f x) (rnd-zero f (2 ^ low f) (pow-pos (low f)))
+        (omega (arith, mag-below f x p))
         ∙ ap (λ (z : ℕ). overflow f - z) (rnd-real f x p)
 
 -- as data too, but for -0, whose sum with +0 is +0

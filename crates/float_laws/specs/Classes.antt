@@ -91,7 +91,8 @@ module _ (w : List Float) (hop overlap r : ℕ) (len : length w ≡ overlap * ho
           let m : (j + k) * hop + r ≡ 1 * length w + (n * hop + r) = omega (arith, ap (λ (z : ℕ). z * hop) e, add-mul overlap n hop, one-mul (length w)) in
           let at : k ≡ length (drop j class) + n = omega (arith, count) in
           ap (λ (i : ℕ). getD w i nan) (ap (λ (i : ℕ). i % length w) (shift ∙ m) ∙ digits-mod 1 (index-lt n (omega arith)))
-          ∙ sym (ap (λ (i : ℕ). getD (turn j class) i nan) at ∙ getD-append-add (drop j class) (take j class) n nan ∙ getD-take j class n nan (omega arith) ∙ class-at n (omega arith))
+          ∙ sym
+          (ap (λ (i : ℕ). getD (turn j class) i nan) at ∙ getD-append-add (drop j class) (take j class) n nan ∙ getD-take j class n nan (omega arith) ∙ class-at n (omega arith))
 
   seen : (j : ℕ) → j < overlap → tabulate overlap (λ k. getD w ((j * hop + r + k * hop) % length w) nan) ≡ turn j class
   seen j J =
@@ -107,7 +108,8 @@ module _ (w : List Float) (hop overlap r : ℕ) (len : length w ≡ overlap * ho
       (fold-tab (λ s x. add f s (mul f x x)) (λ k. getD w ((j * hop + r + k * hop) % length w) nan) plus-zero 0 overlap ∙ ap (energy f plus-zero) (seen j J))
 
   -- ---- the bound
-  module _ (f : Format) (P : 2 ^ (prec f - 1) ≡ 8388608) (big : 2 ^ 57 ≤ 2 ^ low f) (wide : 64 ≤ emax f) (c : Float) (cr : T (real f c)) (cs : 2 ^ 39 * mag f c ≤ 2 ^ low f) (few : overlap ≤ 16)
+  module _ (f : Format) (P : 2 ^ (prec f - 1) ≡ 8388608) (big : 2 ^ 57 ≤ 2 ^ low f) (wide : 64 ≤ emax f) (c : Float) (cr : T (real f c))
+      (cs : 2 ^ 39 * mag f c ≤ 2 ^ low f) (few : overlap ≤ 16)
       (ok : (i : ℕ) → i < length w → Ok f (getD w i nan)) (enough : 2 ^ low f * 2 ^ low f ≤ 2 ^ 30 * residues hop r (length w) (λ i. mag f (getD w i nan) * mag f (getD w i nan))) where
     rows : (g : ℕ → ℕ) → residues hop r (length w) g ≡ total (λ j. g (j * hop + r)) (range 0 overlap)
     rows g = ap (λ (n : ℕ). residues hop r n g) len ∙ residues-rows hop r g low-r overlap
@@ -132,7 +134,8 @@ module _ (w : List Float) (hop overlap r : ℕ) (len : length w ≡ overlap * ho
     gains : residues hop r (length w) (λ i. gain f (getD w i nan) (own i)) ≡ total (λ j. mag f (getD class j nan) * mag f (dual f c (turn j class) (getD class j nan))) (range 0 (length class))
     gains =
         rows (λ i. gain f (getD w i nan) (own i))
-        ∙ total-same (λ j. gain f (getD w (j * hop + r) nan) (own (j * hop + r))) (λ j. mag f (getD class j nan) * mag f (dual f c (turn j class) (getD class j nan))) 0 overlap (λ j a b. at j (rw zero-add at b))
+        ∙ total-same (λ j. gain f (getD w (j * hop + r) nan) (own (j * hop + r)))
+        (λ j. mag f (getD class j nan) * mag f (dual f c (turn j class) (getD class j nan))) 0 overlap (λ j a b. at j (rw zero-add at b))
         ∙ ap (λ (n : ℕ). total (λ j. mag f (getD class j nan) * mag f (dual f c (turn j class) (getD class j nan))) (range 0 n)) (sym length-class)
       where
         at : (j : ℕ) → j < overlap
@@ -145,7 +148,8 @@ module _ (w : List Float) (hop overlap r : ℕ) (len : length w ≡ overlap * ho
     losses : residues hop r (length w) (λ i. loss f (getD w i nan) (own i)) ≡ 0
     losses =
         rows (λ i. loss f (getD w i nan) (own i))
-        ∙ total-none (λ j. loss f (getD w (j * hop + r) nan) (own (j * hop + r))) 0 overlap (λ j a b. loss-alike f (getD w (j * hop + r) nan) (own (j * hop + r)) (alike j (rw zero-add at b)))
+        ∙ total-none (λ j. loss f (getD w (j * hop + r) nan) (own (j * hop + r))) 0 overlap
+        (λ j a b. loss-alike f (getD w (j * hop + r) nan) (own (j * hop + r)) (alike j (rw zero-add at b)))
 
     finites : (i : ℕ) → i < length w → i % hop ≡ r → T (real f (getD w i nan)) × T (real f (own i))
     finites i l e =
@@ -168,13 +172,18 @@ module _ (w : List Float) (hop overlap r : ℕ) (len : length w ≡ overlap * ho
 -- the law sees the values at the indices below n alone
 sums-same : (f : Format) (n hop r : ℕ) (x y z : ℕ → Float) → ((i : ℕ) → i < n → y i ≡ z i) → SumsToOne f n hop r x y → SumsToOne f n hop r x z
 sums-same f n hop r x y z e b =
-    let same : (h : Float → Float → ℕ) → residues hop r n (λ i. h (x i) (y i)) ≡ residues hop r n (λ i. h (x i) (z i)) =
-    λ h. total-same (λ i. cond (eqb (i % hop) r) (h (x i) (y i)) 0) (λ i. cond (eqb (i % hop) r) (h (x i) (z i)) 0) 0 n (λ i p q. ap (λ (v : Float). cond (eqb (i % hop) r) (h (x i) v) 0) (e i (rw zero-add at q))) in
     record {
       finite = λ i l m. (b .finite i l m .0, subst (λ (v : Float). T (real f v)) (e i l) (b .finite i l m .1));
       most = omega (arith, b .most, same (gain f), same (loss f));
       least = omega (arith, b .least, same (gain f), same (loss f));
     }
+  where
+    at : (h : Float → Float → ℕ) (i : ℕ) → i < n → cond (eqb (i % hop) r) (h (x i) (y i)) 0 ≡ cond (eqb (i % hop) r) (h (x i) (z i)) 0
+    at h i l = ap (λ (v : Float). cond (eqb (i % hop) r) (h (x i) v) 0) (e i l)
+
+    same : (h : Float → Float → ℕ) → residues hop r n (λ i. h (x i) (y i)) ≡ residues hop r n (λ i. h (x i) (z i))
+    same h =
+        total-same (λ i. cond (eqb (i % hop) r) (h (x i) (y i)) 0) (λ i. cond (eqb (i % hop) r) (h (x i) (z i)) 0) 0 n (λ i p q. at h i (rw zero-add at q))
 
 -- ---- f32, with the code's least divisor, 1.0e-12
 abbrev pub least-divisor : Float
@@ -198,6 +207,7 @@ pub dual-window-bound : (w s : List Float) (hop overlap r : ℕ) → length w �
     → s ≡ tabulate (length w) (dualAt w hop overlap)
     → SumsToOne binary32 (length w) hop r (λ i. getD w i nan) (λ i. getD s i nan)
 dual-window-bound w s hop overlap r len few low-r limits enough e =
-    sums-same binary32 (length w) hop r (λ i. getD w i nan) (dualAt w hop overlap) (λ i. getD s i nan) (λ i h. sym (ap (λ (l : List Float). getD l i nan) e ∙ getD-tabulate (dualAt w hop overlap) (length w) i nan h))
+    sums-same binary32 (length w) hop r (λ i. getD w i nan) (dualAt w hop overlap) (λ i. getD s i nan)
+    (λ i h. sym (ap (λ (l : List Float). getD l i nan) e ∙ getD-tabulate (dualAt w hop overlap) (length w) i nan h))
     (dual-sums-to-one w hop overlap r len low-r binary32 refl (lit≤ tt) (lit≤ tt) least-divisor divisor-real divisor-small few
     (λ i h. let m = limits i h in ok-of-range binary32 (getD w i nan) (lit≤ tt) (m .0) (m .1) (m .2)) enough)

@@ -132,7 +132,8 @@ module _ (L Q : ℕ) where
       omega (arith, cross-le xs (h .1), suc-mul (length xs) (32 * (Q * L)))
 
   -- so the products' sum is 1, up to 20 parts in 2 ^ 24
-  module _ (xs : List Item) (good : All (Good L Q) xs) (few : length xs ≤ 16) (big : 2 ^ 57 ≤ L) (enough : L * L ≤ 2 ^ 30 * total square xs) (squares : Near 2 (Q * L) (total square xs)) where
+  module _ (xs : List Item) (good : All (Good L Q) xs) (few : length xs ≤ 16) (big : 2 ^ 57 ≤ L) (enough : L * L ≤ 2 ^ 30 * total square xs)
+      (squares : Near 2 (Q * L) (total square xs)) where
     cross-small : 8388608 * total cross xs ≤ total square xs * L
     cross-small =
         let S = total square xs in

@@ -114,7 +114,8 @@ module _ (f : Format) (x y : Float) (p : T (real f x)) (q : T (real f y)) where
       → key f (add f x y) + overflow f ≡ key f x + key f y
   add-exact h b =
       ap (λ (z : ℕ). z + overflow f) (add-key f x y p q)
-      ∙ center-exact (overflow f) (rndU f) (key f x + key f y) (rndU-zero f) (whole-units (apart (key f x + key f y) (overflow f + overflow f)) h b) (le-of-lt b)
+      ∙ center-exact (overflow f) (rndU f) (key f x + key f y) (rndU-zero f) (whole-units (apart (key f x + key f y) (overflow f + overflow f)) h b)
+      (le-of-lt b)
 
   pub sub-exact : Held f (apart (key f x) (key f y)) → apart (key f x) (key f y) < overflow f → key f (sub f x y) + key f y ≡ key f x + overflow f
   sub-exact h b =
@@ -185,7 +186,8 @@ room binary64 = lit≤ tt
 module _ (f : Format) (n : ℕ) (h : n ≤ 2 ^ prec f) where
   in-range : n * 2 ^ low f < overflow f
   in-range =
-      lt-of-le-of-lt (mul-le-mul-right (2 ^ low f) h) (lt-of-le-of-lt (le-of-eq (mul-comm (2 ^ prec f) (2 ^ low f) ∙ sym (pow-add 2 (low f) (prec f)))) (pow-lt (omega (arith, room f))))
+      lt-of-le-of-lt (mul-le-mul-right (2 ^ low f) h)
+      (lt-of-le-of-lt (le-of-eq (mul-comm (2 ^ prec f) (2 ^ low f) ∙ sym (pow-add 2 (low f) (prec f)))) (pow-lt (omega (arith, room f))))
 
   pub mag-whole : mag f (ofInt f (pos n)) ≡ n * 2 ^ low f
   unfolding ofInt
@@ -268,7 +270,8 @@ sub-self f x p =
   where
     rounded : round f false 0 (2 ^ low f) ≡ plus-zero
     rounded =
-        unique f (round f false 0 (2 ^ low f)) plus-zero (round-number f false 0 (2 ^ low f)) (real-number f plus-zero (real-zero f false)) (sign-round f false 0 (2 ^ low f))
+        unique f (round f false 0 (2 ^ low f)) plus-zero (round-number f false 0 (2 ^ low f)) (real-number f plus-zero (real-zero f false))
+        (sign-round f false 0 (2 ^ low f))
         (mag-round f false 0 (2 ^ low f) ∙ rnd-zero f (2 ^ low f) (pow-pos (low f)) ∙ sym (mag-zero f false (pos 0)))
 
     none : (s : Bool) (m : ℕ) → sum f s m (not s) m (2 ^ low f) ≡ plus-zero

@@ -133,7 +133,8 @@ mul-top-l f (fin false n d) h r = go (eqb n 0) r
     go true t = absurd t
     go false t = refl
 mul-top-l f (fin true n d) h r =
-    go (eqb n 0) r (eq→eqb (no-size n (up d) (down d) (eqb→eq (0 * 1 * down d) (n * up d * 1) (and-l (eqb (0 * 1 * down d) (n * up d * 1)) (eqb (0 * 1 * down d) 0) h)) (up-pos d)))
+    go (eqb n 0) r
+    (eq→eqb (no-size n (up d) (down d) (eqb→eq (0 * 1 * down d) (n * up d * 1) (and-l (eqb (0 * 1 * down d) (n * up d * 1)) (eqb (0 * 1 * down d) 0) h)) (up-pos d)))
   where
     go : (b : Bool) → T (number f (cond b nan (inf true))) → T b → cond b nan (inf true) ≡ inf false
     go true t u = absurd t
@@ -161,7 +162,8 @@ module _ (f : Format) (x x' y y' : Float) (p : T (number f x)) (p' : T (number f
 
       by-right : y' ≡ inf false → T (le (mul f x y) (mul f x' y'))
       by-right e =
-          high-end (mul-comm-f f x' y' ∙ ap (λ (w : Float). mul f w x') e ∙ mul-top-l f x' X' (subst (λ (w : Float). T (number f w)) (mul-comm-f f x' y' ∙ ap (λ (w : Float). mul f w x') e) r'))
+          high-end
+          (mul-comm-f f x' y' ∙ ap (λ (w : Float). mul f w x') e ∙ mul-top-l f x' X' (subst (λ (w : Float). T (number f w)) (mul-comm-f f x' y' ∙ ap (λ (w : Float). mul f w x') e) r'))
 
       go : Kind f x → Kind f y → Kind f x' → Kind f y' → T (le (mul f x y) (mul f x' y'))
       go (bottom e) b c d = absurd (no-bottom f x X e)

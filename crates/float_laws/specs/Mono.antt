@@ -156,7 +156,8 @@ module _ (f : Format) (x y : Float) (p : T (number f x)) (q : T (number f y)) wh
 
   pub le-neg-back : T (le (neg y) (neg x)) → T (le x y)
   le-neg-back h =
-      key→le f x y p q (omega (arith, key-neg f x p, key-neg f y q, le→key f (neg y) (neg x) (number-neg f y q) (number-neg f x p) h, key-high f x p, key-high f y q))
+      key→le f x y p q
+      (omega (arith, key-neg f x p, key-neg f y q, le→key f (neg y) (neg x) (number-neg f y q) (number-neg f x p) h, key-high f x p, key-high f y q))
 
 sub-is : (f : Format) (x y : Float) → sub f x y ≡ add f x (neg y)
 unfolding sub
@@ -223,7 +224,8 @@ rndM f m n = rnd f (m * n) (2 ^ low f * 2 ^ low f)
 
 pub rndM-mono : (f : Format) (m m' n n' : ℕ) → m ≤ m' → n ≤ n' → rndM f m n ≤ rndM f m' n'
 rndM-mono f m m' n n' h k =
-    rnd-mono f (m * n) (2 ^ low f * 2 ^ low f) (m' * n') (2 ^ low f * 2 ^ low f) (squared-pos f) (squared-pos f) (mul-le-mul-right (2 ^ low f * 2 ^ low f) (mul-le-mul h k))
+    rnd-mono f (m * n) (2 ^ low f * 2 ^ low f) (m' * n') (2 ^ low f * 2 ^ low f) (squared-pos f) (squared-pos f)
+    (mul-le-mul-right (2 ^ low f * 2 ^ low f) (mul-le-mul h k))
 
 rndM-zero : (f : Format) (n : ℕ) → rndM f 0 n ≡ 0
 rndM-zero f n = ap (λ (z : ℕ). rnd f z (2 ^ low f * 2 ^ low f)) (zero-mul n) ∙ rnd-zero f (2 ^ low f * 2 ^ low f) (squared-pos f)
@@ -281,7 +283,8 @@ sizes-of-keys K true m true n M N h k = omega arith
 module _ (f : Format) (x y : Float) (p : T (real f x)) (q : T (real f y)) where
   pub sizes : T (le plus-zero x) → T (le x y) → (mag f x ≤ mag f y) × (key f x ≡ overflow f + mag f x) × (key f y ≡ overflow f + mag f y)
   sizes X h =
-      sizes-of-keys (overflow f) (sign x) (mag f x) (sign y) (mag f y) (real-le f x p) (real-le f y q) (nonneg-key f x (real-number f x p) X) (le→key f x y (real-number f x p) (real-number f y q) h)
+      sizes-of-keys (overflow f) (sign x) (mag f x) (sign y) (mag f y) (real-le f x p) (real-le f y q) (nonneg-key f x (real-number f x p) X)
+      (le→key f x y (real-number f x p) (real-number f y q) h)
 
 pub size-nonneg : (f : Format) (x : Float) → T (real f x) → T (le plus-zero x) → key f x ≡ overflow f + mag f x
 size-nonneg f x p X = sizes f x x p p X (key→le f x x (real-number f x p) (real-number f x p) (le-refl (key f x))) .1
@@ -295,7 +298,8 @@ pub mul-key-nonneg : (f : Format) (x y : Float) → T (real f x) → T (real f y
     → key f (mul f x y) ≡ overflow f + rndM f (mag f x) (mag f y)
 mul-key-nonneg f x y p q X Y =
     mul-key f x y p q (nonneg-key f y (real-number f y q) Y)
-    ∙ keyed-zero-or (overflow f) (sign x) (mag f x) (rndM f (mag f x) (mag f y)) (size-nonneg f x p X) (real-le f x p) (λ e. ap (λ (z : ℕ). rndM f z (mag f y)) e ∙ rndM-zero f (mag f y))
+    ∙ keyed-zero-or (overflow f) (sign x) (mag f x) (rndM f (mag f x) (mag f y)) (size-nonneg f x p X) (real-le f x p)
+    (λ e. ap (λ (z : ℕ). rndM f z (mag f y)) e ∙ rndM-zero f (mag f y))
 
 pub mul-nonneg : (f : Format) (x y : Float) → T (real f x) → T (real f y) → T (le plus-zero x) → T (le plus-zero y) → T (le plus-zero (mul f x y))
 mul-nonneg f x y p q X Y = key-nonneg f (mul f x y) (mul-number f x y p q) (omega (arith, mul-key-nonneg f x y p q X Y))

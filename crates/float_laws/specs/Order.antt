@@ -188,7 +188,8 @@ module _ (f : Format) (lo hi : Float) (p : T (number f lo)) (q : T (number f hi)
 
     pub key-clamp : key f (clamp lo hi x) ≡ max (key f lo) (min (key f hi) (key f x))
     key-clamp =
-        go (lt x lo) (lt hi x) (lt→key f x lo r p) (λ (n : T (not (lt x lo))). le→key f lo x p r (not-lt-f f x lo r p n)) (lt→key f hi x q r) (λ (n : T (not (lt hi x))). le→key f x hi r q (not-lt-f f hi x q r n))
+        go (lt x lo) (lt hi x) (lt→key f x lo r p) (λ (n : T (not (lt x lo))). le→key f lo x p r (not-lt-f f x lo r p n)) (lt→key f hi x q r)
+        (λ (n : T (not (lt hi x))). le→key f x hi r q (not-lt-f f hi x q r n))
       where
         order : key f lo ≤ key f hi
         order = le→key f lo hi p q ends

@@ -24,7 +24,8 @@ shrinks : (K : ℕ) (s : Bool) (m r : ℕ) → m ≤ K → r ≤ m → keyed K s
 shrinks K false m r M h k = omega arith
 shrinks K true m r M h k = omega arith
 
-module _ (f : Format) (a b t : Float) (p : T (real f a)) (q : T (real f b)) (r : T (real f t)) (b0 : T (le plus-zero b)) (h : T (le b a)) (t0 : T (le plus-zero t)) (t1 : T (le t one)) where
+module _ (f : Format) (a b t : Float) (p : T (real f a)) (q : T (real f b)) (r : T (real f t)) (b0 : T (le plus-zero b)) (h : T (le b a))
+    (t0 : T (le plus-zero t)) (t1 : T (le t one)) where
   sizes-ba : (mag f b ≤ mag f a) × (key f b ≡ overflow f + mag f b) × (key f a ≡ overflow f + mag f a)
   sizes-ba = sizes f b a q p b0 h
 
@@ -66,7 +67,8 @@ module _ (f : Format) (a b t : Float) (p : T (real f a)) (q : T (real f b)) (r :
       let s = mul f d t in
       let z = real-zero f false in
       let n = mul-number f d t drop-real r in
-      real-between f d s plus-zero n drop-real z (key→le f d s (real-number f d drop-real) n (step-key .0)) (key→le f s plus-zero n (real-number f plus-zero z) (omega (arith, step-key .1, key-zero f)))
+      real-between f d s plus-zero n drop-real z (key→le f d s (real-number f d drop-real) n (step-key .0))
+      (key→le f s plus-zero n (real-number f plus-zero z) (omega (arith, step-key .1, key-zero f)))
 
   result-number : T (number f (toward f a b t))
   result-number = add-number f a (mul f (sub f b a) t) p step-real
@@ -77,7 +79,8 @@ module _ (f : Format) (a b t : Float) (p : T (real f a)) (q : T (real f b)) (r :
   at-least c k l =
       let K = overflow f in
       let u = key f a + key f (mul f (sub f b a) t) in
-      omega (arith, add-key f a (mul f (sub f b a) t) p step-real, center-up K (rndU f) (K + K + mag f c) (mag f c) refl, center-mono K (rndU f) (rndU-mono f) (K + K + mag f c) u l, rnd-real f c k)
+      omega
+      (arith, add-key f a (mul f (sub f b a) t) p step-real, center-up K (rndU f) (K + K + mag f c) (mag f c) refl, center-mono K (rndU f) (rndU-mono f) (K + K + mag f c) u l, rnd-real f c k)
 
   pub toward-lower-nonneg : T (le plus-zero (toward f a b t))
   toward-lower-nonneg =
@@ -157,7 +160,8 @@ module _ (f : Format) (P : 2 ^ (prec f - 1) ≡ 8388608) (C : ℕ) (eC : 1677721
       let K = overflow f in
       let t = mul f (sub f one l) a in
       add-key f l t p rise-real
-      ∙ center-up K (rndU f) (key f l + key f t) (mag f l + mag f t) (keys-sum K (key f l) (key f t) (mag f l) (mag f t) (size-nonneg f l p l0) (size-nonneg f t rise-real rise-0))
+      ∙ center-up K (rndU f) (key f l + key f t) (mag f l + mag f t)
+      (keys-sum K (key f l) (key f t) (mag f l) (mag f t) (size-nonneg f l p l0) (size-nonneg f t rise-real rise-0))
 
   rise-number : T (number f (toward f l one a))
   rise-number = add-number f l (mul f (sub f one l) a) p rise-real
@@ -165,7 +169,8 @@ module _ (f : Format) (P : 2 ^ (prec f - 1) ≡ 8388608) (C : ℕ) (eC : 1677721
   rise-low : T (le l (toward f l one a))
   rise-low =
       let n = mag f l + mag f (mul f (sub f one l) a) in
-      key→le f l (toward f l one a) (real-number f l p) rise-number (omega (arith, rise-key, size-nonneg f l p l0, rndU-mono f (mag f l) n (omega arith), rnd-real f l p))
+      key→le f l (toward f l one a) (real-number f l p) rise-number
+      (omega (arith, rise-key, size-nonneg f l p l0, rndU-mono f (mag f l) n (omega arith), rnd-real f l p))
 
   rise-high : T (le (toward f l one a) one)
   rise-high =
@@ -178,10 +183,12 @@ module _ (f : Format) (P : 2 ^ (prec f - 1) ≡ 8388608) (C : ℕ) (eC : 1677721
       let close = subst (λ (z : ℕ). Close z n (rndU f n)) P (rnd-close f n (subst (λ (z : ℕ). z < overflow f) kd (mag-below f d gap-real))) in
       let one-is = mag-one f in
       let top : mag f l + mag f t ≤ C = under-tie (mag f l) (rndU f n) (mag f t) (mag f one) C (s .0) (close .hi) (eC ∙ ap (λ (z : ℕ). 16777217 * z) (sym one-is)) (le-trans less (le-of-eq kd)) in
-      key→le f (toward f l one a) one rise-number (real-number f one (real-one f)) (omega (arith, rise-key, s .2, rndU-mono f (mag f l + mag f t) C top, rC, one-is))
+      key→le f (toward f l one a) one rise-number (real-number f one (real-one f))
+      (omega (arith, rise-key, s .2, rndU-mono f (mag f l + mag f t) C top, rC, one-is))
 
 -- for f32
-module _ (l a : Float) (p : T (real binary32 l)) (q : T (real binary32 a)) (l0 : T (le plus-zero l)) (l1 : T (le l one)) (a0 : T (le plus-zero a)) (a1 : T (le a one)) where
+module _ (l a : Float) (p : T (real binary32 l)) (q : T (real binary32 a)) (l0 : T (le plus-zero l)) (l1 : T (le l one)) (a0 : T (le plus-zero a))
+    (a1 : T (le a one)) where
   pub toward-one-least : T (le l (toward binary32 l one a))
   toward-one-least = rise-low binary32 refl (2 ^ 149 + 2 ^ 125) refl tie l a p q l0 l1 a0 a1
 

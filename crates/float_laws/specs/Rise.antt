@@ -52,7 +52,8 @@ module _ (f : Format) where
   pub upto-mul : (a b : ℕ) (x y : Float) → a + b ≤ emax f → Upto f a x → Upto f b y → Upto f (a + b) (mul f x y)
   upto-mul a b x y h u v =
       let L = 2 ^ low f in
-      sized (a + b) h (mul f x y) (rndM f (mag f x) (mag f y)) (mul-number f x y (u .is-real) (v .is-real)) (mul-key-nonneg f x y (u .is-real) (v .is-real) (u .low) (v .low))
+      sized (a + b) h (mul f x y) (rndM f (mag f x) (mag f y)) (mul-number f x y (u .is-real) (v .is-real))
+      (mul-key-nonneg f x y (u .is-real) (v .is-real) (u .low) (v .low))
       (rnd-power f (a + b) (mag f x * mag f y) (L * L) h (squared-pos f) (factors a b (mag f x) (mag f y) L (u .high) (v .high)))
 
   pub rise-mul : (a b : ℕ) {x x' y y' : Float} → a + b ≤ emax f → Rise f a x x' → Rise f b y y' → Rise f (a + b) (mul f x y) (mul f x' y')
@@ -125,7 +126,8 @@ module _ (f : Format) where
         from = upto-maximum k x y h (r .from) (s .from);
         to = upto-maximum k x' y' h (r .to) (s .to);
         up =
-            subst₂ (λ (a b : Float). T (le a b)) (sym (maximum-number f x y p)) (sym (maximum-number f x' y' p')) (larger-mono f x x' y y' p p' (num (s .from)) (num (s .to)) (r .up) (s .up));
+            subst₂ (λ (a b : Float). T (le a b)) (sym (maximum-number f x y p)) (sym (maximum-number f x' y' p'))
+            (larger-mono f x x' y y' p p' (num (s .from)) (num (s .to)) (r .up) (s .up));
       }
 
   -- ---- a clamp to 0..1
@@ -144,7 +146,8 @@ module _ (f : Format) where
         from = upto-clamp x (num (r .from));
         to = upto-clamp y (num (r .to));
         up =
-            clamp-mono f plus-zero one (real-number f plus-zero (real-zero f false)) (real-number f one (real-one f)) one-nonneg x y (num (r .from)) (num (r .to)) (r .up);
+            clamp-mono f plus-zero one (real-number f plus-zero (real-zero f false)) (real-number f one (real-one f)) one-nonneg x y (num (r .from))
+            (num (r .to)) (r .up);
       }
 
 -- ---- with no bound but that both are finite: a product with what is at most 1, on either side
@@ -180,7 +183,8 @@ module _ (f : Format) where
         from = upto-clamp f x (real-number f x (r .from-real));
         to = upto-clamp f y (real-number f y (r .to-real));
         up =
-            clamp-mono f plus-zero one (real-number f plus-zero (real-zero f false)) (real-number f one (real-one f)) one-nonneg x y (real-number f x (r .from-real)) (real-number f y (r .to-real)) (r .up);
+            clamp-mono f plus-zero one (real-number f plus-zero (real-zero f false)) (real-number f one (real-one f)) one-nonneg x y
+            (real-number f x (r .from-real)) (real-number f y (r .to-real)) (r .up);
       }
 
   pub scale-up : {x x' y y' : Float} → Rise f 0 y y' → Up f x x' → Up f (mul f y x) (mul f y' x')

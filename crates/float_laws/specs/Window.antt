@@ -3,7 +3,7 @@ use mathlib.Core.Path.{_≡_, refl, sym, ap, _∙_, subst}
 use mathlib.Core.Bool.{Bool, true, false}
 use mathlib.Core.List.{List, [], _∷_, _++_}
 use Prim.Native.Nat.{ℕ, suc, _+_, _-_, _*_, _^_, _≤_, _<_}
-use native.Mathlib.Nat.{mul-comm, mul-assoc, mul-left-comm, mul-right-comm, add-mul, add-comm, zero-add, le-trans, le-of-eq, le-of-lt, lt-of-le-of-lt, mul-le-mul, mul-le-mul-right, le-of-mul-le-mul-right, pow-suc, div-one}
+use native.Mathlib.Nat.{mul-comm, mul-assoc, mul-left-comm, mul-right-comm, add-comm, zero-add, le-trans, le-of-eq, le-of-lt, lt-of-le-of-lt, mul-le-mul, mul-le-mul-right, le-of-mul-le-mul-right, pow-suc, div-one}
 use native.Mathlib.Omega.{arith}
 use lib.IntN.{pos}
 use lib.Pow.{pow-pos, pow-mono}
@@ -23,7 +23,7 @@ use Rattle.float_laws.specs.Mono.{rndU, rndM, real-neg}
 use Rattle.float_laws.specs.Error.{Within, Close, rnd-within, rnd-close, hi-32, lo-32}
 use Rattle.float_laws.specs.Bounds.{real-between}
 use Rattle.float_laws.specs.Power.{rnd-power, power-below, real-power}
-use Rattle.float_laws.specs.Near.{B, Near, near-of}
+use Rattle.float_laws.specs.Near.{B, Near, near-of, untimes}
 use Rattle.float_laws.specs.Dual.{rolled, Steps, sum-near, Sq, sq, squares-near, Item, Good, prod, square, dual-near}
 
 -- ---- the code's steps
@@ -90,19 +90,18 @@ square-le m L h =
     let g : 256 * (L * L) * L ≡ 256 * L * (L * L) = simp (mul-assoc, mul-comm, mul-left-comm) in
     le-trans (mul-le-mul-right L (le-trans a (le-of-eq e))) (le-of-eq g)
 
-strip-hi : (q m L : ℕ) → 0 < L → 8388608 * (2 * (q * (L * L))) ≤ 8388608 * (2 * (m * m * L)) + (m * m * L + 8388608 * (L * L))
-    → B * (q * L) ≤ 16777217 * (m * m) + 8388608 * L
-strip-hi q m L L0 h =
-    let a : B * (q * L) * L ≡ B * (q * (L * L)) = mul-assoc B (q * L) L ∙ ap (λ (z : ℕ). B * z) (mul-assoc q L L) in
-    let b : (16777217 * (m * m) + 8388608 * L) * L ≡ 16777217 * (m * m * L) + 8388608 * (L * L) = add-mul (16777217 * (m * m)) (8388608 * L) L ∙ ap (λ (z : ℕ). z + 8388608 * L * L) (mul-assoc 16777217 (m * m) L) ∙ ap (λ (z : ℕ). 16777217 * (m * m * L) + z) (mul-assoc 8388608 L L) in
-    le-of-mul-le-mul-right (omega arith) L0
+module _ (q m L : ℕ) (L0 : 0 < L) where
+  left : L * (q * L) ≡ q * (L * L)
+  left = mul-left-comm L q L
 
-strip-lo : (q m L : ℕ) → 0 < L → 8388608 * (2 * (m * m * L)) ≤ 8388608 * (2 * (q * (L * L))) + (m * m * L + 8388608 * (L * L))
-    → 16777215 * (m * m) ≤ B * (q * L) + 8388608 * L
-strip-lo q m L L0 h =
-    let a : 16777215 * (m * m) * L ≡ 16777215 * (m * m * L) = mul-assoc 16777215 (m * m) L in
-    let b : (B * (q * L) + 8388608 * L) * L ≡ B * (q * (L * L)) + 8388608 * (L * L) = add-mul (B * (q * L)) (8388608 * L) L ∙ ap (λ (z : ℕ). z + 8388608 * L * L) (mul-assoc B (q * L) L ∙ ap (λ (z : ℕ). B * z) (mul-assoc q L L)) ∙ ap (λ (z : ℕ). B * (q * (L * L)) + z) (mul-assoc 8388608 L L) in
-    le-of-mul-le-mul-right (omega arith) L0
+  right : L * (m * m) ≡ m * m * L
+  right = mul-comm L (m * m)
+
+  strip-hi : 8388608 * (2 * (q * (L * L))) ≤ 8388608 * (2 * (m * m * L)) + (m * m * L + 8388608 * (L * L)) → B * (q * L) ≤ 16777217 * (m * m) + 8388608 * L
+  strip-hi h = untimes L B 16777217 8388608 (q * L) (m * m) L L0 (omega (arith, left, right))
+
+  strip-lo : 8388608 * (2 * (m * m * L)) ≤ 8388608 * (2 * (q * (L * L))) + (m * m * L + 8388608 * (L * L)) → 16777215 * (m * m) ≤ B * (q * L) + 8388608 * L
+  strip-lo h = untimes L 16777215 B 8388608 (m * m) (q * L) L L0 (omega (arith, left, right))
 
 double : (j d q L : ℕ) → 8 ≤ j → d ≤ 2 ^ j * L → q ≤ 256 * L → d + q ≤ 2 ^ suc j * L
 double j d q L h a b =
@@ -185,7 +184,8 @@ mags-length f [] = refl
 mags-length f (x ∷ xs) = ap suc (mags-length f xs)
 
 -- ---- one quotient: ys are the values whose squares are summed, and Q is the sum of the rounded squares
-module _ (f : Format) (P : 2 ^ (prec f - 1) ≡ 8388608) (big : 2 ^ 57 ≤ 2 ^ low f) (wide : 64 ≤ emax f) (c : Float) (cr : T (real f c)) (cs : 2 ^ 39 * mag f c ≤ 2 ^ low f) (Q : ℕ) (fl : 2 ^ low f ≤ 2 ^ 31 * Q) where
+module _ (f : Format) (P : 2 ^ (prec f - 1) ≡ 8388608) (big : 2 ^ 57 ≤ 2 ^ low f) (wide : 64 ≤ emax f) (c : Float) (cr : T (real f c))
+    (cs : 2 ^ 39 * mag f c ≤ 2 ^ low f) (Q : ℕ) (fl : 2 ^ low f ≤ 2 ^ 31 * Q) where
   module _ (ys : List Float) (ok : All (Ok f) ys) (few : length ys ≤ 16) (same : total (λ m. rndM f m m) (mags f ys) ≡ Q) where
     e : ℕ
     e = rolled (λ d g. rndU f (d + g)) (λ m. rndM f m m) 0 (mags f ys)
@@ -217,7 +217,8 @@ module _ (f : Format) (P : 2 ^ (prec f - 1) ≡ 8388608) (big : 2 ^ 57 ≤ 2 ^ l
         ∙ cond-no (lt E c) c E
         (not-T (lt E c)
         (λ (h : T (lt E c)).
-        over (overflow f) (mag f c) e (key f c) (subst (λ (z : ℕ). z < key f c) key-e (lt→key f E c (real-number f E (plain-e .is-real)) (real-number f c cr) h))
+        over (overflow f) (mag f c) e (key f c)
+        (subst (λ (z : ℕ). z < key f c) key-e (lt→key f E c (real-number f E (plain-e .is-real)) (real-number f c cr) h))
         (keyed-le (overflow f) (sign c) (mag f c)) (2 ^ low f) floor-is cs))
 
     e-pos : 0 < e
@@ -282,7 +283,8 @@ total-turn f g j xs =
     ∙ sym (total-mags f g xs)
 
 -- ---- all quotients: the value at place j, and its dual, the sum being taken from j on
-module _ (f : Format) (P : 2 ^ (prec f - 1) ≡ 8388608) (big : 2 ^ 57 ≤ 2 ^ low f) (wide : 64 ≤ emax f) (c : Float) (cr : T (real f c)) (cs : 2 ^ 39 * mag f c ≤ 2 ^ low f) (xs : List Float)
+module _ (f : Format) (P : 2 ^ (prec f - 1) ≡ 8388608) (big : 2 ^ 57 ≤ 2 ^ low f) (wide : 64 ≤ emax f) (c : Float) (cr : T (real f c))
+    (cs : 2 ^ 39 * mag f c ≤ 2 ^ low f) (xs : List Float)
     (ok : All (Ok f) xs) (few : length xs ≤ 16) (enough : 2 ^ low f * 2 ^ low f ≤ 2 ^ 30 * total (λ x. mag f x * mag f x) xs) where
   abbrev value : ℕ → Float
   value j = getD xs j nan

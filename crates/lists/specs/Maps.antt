@@ -70,7 +70,8 @@ module _ {A : Type 0} where
   -- a list is the tabulated list of its own entries
   pub tabulate-self : (d : A) (xs : List A) → xs ≡ tabulate (length xs) (λ k. getD xs k d)
   tabulate-self d xs =
-      ext-getD d xs (tabulate (length xs) (λ k. getD xs k d)) (sym (length-tab (λ k. getD xs k d) 0 (length xs))) (λ k h. sym (getD-tabulate (λ k. getD xs k d) (length xs) k d h))
+      ext-getD d xs (tabulate (length xs) (λ k. getD xs k d)) (sym (length-tab (λ k. getD xs k d) 0 (length xs)))
+      (λ k h. sym (getD-tabulate (λ k. getD xs k d) (length xs) k d h))
 
   pub mapFrom-tab : {B : Type 0} (f : ℕ → A) (j : ℕ) (xs : List B) → mapFrom (λ k x. f k) j xs ≡ tabFrom f j (length xs)
   unfolding mapFrom tabFrom

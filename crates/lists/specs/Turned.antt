@@ -37,7 +37,8 @@ module _ {A : Type 0} where
         len = length-set xs i v ∙ l;
         low = omega arith;
         is =
-            ext-getD d (set xs i v) (mapRange g lo (i + 1) xs₀) (length-set xs i v ∙ l ∙ sym (length-mapRange g lo (i + 1) xs₀)) (λ k p. at k (simp length-set at p));
+            ext-getD d (set xs i v) (mapRange g lo (i + 1) xs₀) (length-set xs i v ∙ l ∙ sym (length-mapRange g lo (i + 1) xs₀))
+            (λ k p. at k (simp length-set at p));
       }
     where
       at : (k : ℕ) → k < length xs → getD (set xs i v) k d ≡ getD (mapRange g lo (i + 1) xs₀) k d
@@ -55,7 +56,8 @@ module _ {A : Type 0} where
           go (no p1) (yes p2) = other (λ z. omega arith) (simp (le-ltb k i (omega arith), le-ltb k (i + 1) (omega arith)))
           go (no p1) (no p2) =
               let z : k ≡ i = omega arith in
-              rw z (getD-set-same xs i v d (omega (arith, t .len)) ∙ e ∙ sym (between-in g lo (i + 1) i (getD xs₀ i d) (t .low) (omega arith)) ∙ sym (getD-mapRange g lo (i + 1) xs₀ i d h))
+              rw z
+              (getD-set-same xs i v d (omega (arith, t .len)) ∙ e ∙ sym (between-in g lo (i + 1) i (getD xs₀ i d) (t .low) (omega arith)) ∙ sym (getD-mapRange g lo (i + 1) xs₀ i d h))
 
   -- every entry is done
   pub turned-all : {g : ℕ → A → A} {xs₀ xs : List A} {i : ℕ} → Turned g 0 xs₀ xs i → length xs₀ ≤ i → xs ≡ mapAt g xs₀
