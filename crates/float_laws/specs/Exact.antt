@@ -4,7 +4,7 @@ use mathlib.Core.Path.{_≡_, refl, sym, ap, _∙_, subst}
 use mathlib.Core.Logic.{inl, inr}
 use mathlib.Core.Bool.{Bool, true, false, not, _&&_, cond, true≢false, Bool·beq}
 use Prim.Native.Nat.{ℕ, suc, _+_, _-_, _*_, _^_, _≤_, _<_}
-use native.Mathlib.Nat.{one-mul, mul-one, mul-comm, mul-assoc, mul-right-comm, mul-mul-mul-comm, mul-pos, add-mul, mul-le-mul-right, mul-le-mul-left, mul-lt-mul-of-pos-right, le-of-mul-le-mul-right, eq-of-mul-eq-mul-right, le-trans, le-of-eq, le-of-lt, lt-irrefl, lt-of-le-of-lt, lt-of-lt-of-le, not-le-of-lt, eq-or-lt-of-le}
+use native.Mathlib.Nat.{le-of-suc-le-suc, one-mul, mul-one, mul-comm, mul-assoc, mul-right-comm, mul-mul-mul-comm, mul-pos, add-mul, mul-le-mul-right, mul-le-mul-left, mul-lt-mul-of-pos-right, le-of-mul-le-mul-right, eq-of-mul-eq-mul-right, le-trans, le-of-eq, le-of-lt, lt-irrefl, lt-of-le-of-lt, lt-of-lt-of-le, not-le-of-lt, eq-or-lt-of-le}
 use native.Mathlib.Decide.{decLe}
 use native.Mathlib.Omega.{arith}
 use lib.IntN.{ℤ, pos, negsuc}
@@ -20,6 +20,7 @@ use Rattle.float_laws.specs.Round.{plus-zero, Held, rnd-held, held-real,
 use Rattle.float_laws.specs.Signs.{sub-mul}
 use Rattle.float_laws.specs.Ops.{mul-round, div-round, add-sum, sum-clear}
 use Rattle.float_laws.specs.Mono.{center, center-up, center-down, rndU, rndU-zero, add-key, sub-key, key-high, real-neg, size-nonneg}
+use Rattle.float_laws.specs.Power.{power, mag-power, real-power}
 
 -- ---- which numbers of units the format holds
 pub held-small : (f : Format) (n : ℕ) → n ≤ 2 ^ prec f → Held f n
@@ -258,6 +259,14 @@ module _ (f : Format) (m n : ℕ) (g : m ≤ 2 ^ prec f) (h : n ≤ 2 ^ prec f) 
       ∙ ap (λ (s : Bool). round f (unlike false s) (mag f x * mag f y) (L * L)) (sign-whole f n h)
       ∙ round-same f false (mag f x * mag f y) (L * L) (m * n) 1 (squared-pos f) (lit≤ tt)
       (mul-one (mag f x * mag f y) ∙ ap (λ (z : ℕ). z * mag f y) (mag-whole f m g) ∙ ap (λ (z : ℕ). m * L * z) (mag-whole f n h) ∙ mul-mul-mul-comm m L n L)
+
+-- a power of two among them is the value that `mul-two` and `div-two` speak of
+pub whole-power : (f : Format) (k : ℕ) → k ≤ prec f → ofInt f (pos (2 ^ k)) ≡ power k
+whole-power f k h =
+    let r = real-power f k (le-of-suc-le-suc (lt-of-le-of-lt h (room f))) in
+    unique f (ofInt f (pos (2 ^ k))) (power k) (real-number f (ofInt f (pos (2 ^ k))) (real-whole f (2 ^ k) (pow-mono h))) (real-number f (power k) r)
+    (sign-whole f (2 ^ k) (pow-mono h))
+    (mag-whole f (2 ^ k) (pow-mono h) ∙ sym (mag-power f k))
 
 -- ---- a value less itself is +0
 pub sub-self : (f : Format) (x : Float) → T (real f x) → sub f x x ≡ plus-zero

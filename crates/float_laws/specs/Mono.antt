@@ -13,7 +13,7 @@ use lib.Ieee.Fits.{neg-fits}
 use lib.Ieee.Scale.{overflow}
 use Rattle.float_laws.specs.Units.{mag, sign, number, real, key, keyed, mag-below, mag-le, le→key, key→le, lt→key, key→lt, key→eq, real-number, overflow-pos, keyed-le}
 use Rattle.float_laws.specs.Round.{plus-zero, key-zero, rnd, rnd-le, rnd-mono, rnd-zero, key-round, round-number, real-zero, squared-pos}
-use Rattle.float_laws.specs.Ops.{mul-round, div-round, add-sum, mul-neg, unlike-clear}
+use Rattle.float_laws.specs.Ops.{mul-round, div-round, add-sum, mul-neg, unlike-clear, neg-div}
 
 -- ---- a function of sizes that keeps their order and takes 0 to 0, on signed sizes
 keyed-map : (K : ℕ) (g : ℕ → ℕ) → ((m n : ℕ) → m ≤ n → g m ≤ g n) → g 0 ≡ 0 → (s : Bool) (m : ℕ) (t : Bool) (n : ℕ) → m ≤ K → n ≤ K → keyed K s m ≤ keyed K t n
@@ -356,3 +356,16 @@ module _ (f : Format) (x y y' : Float) (p : T (real f x)) (q : T (real f y)) (q'
       let v = div-key f x y' p q' Y' ∙ keyed-zero-or K (sign x) (mag f x) (rnd f (mag f x) (mag f y')) (size-nonneg f x p X) (real-le f x p) (λ e. ap (λ (z : ℕ). rnd f z (mag f y')) e ∙ rnd-zero f (mag f y') N') in
       key→le f (div f x y') (div f x y) (div-number f x y' p q' N') (div-number f x y p q N)
       (omega (arith, u, v, rnd-mono f (mag f x) (mag f y') (mag f x) (mag f y) N' N (mul-le-mul-left (mag f x) (a .0))))
+
+-- and of what is not positive it rises with the divisor
+pub div-rises : (f : Format) (x y y' : Float) → T (real f x) → T (real f y) → T (real f y') → T (le x plus-zero) → T (lt plus-zero y) → T (le y y')
+    → T (le (div f x y) (div f x y'))
+div-rises f x y y' p q q' X Y h =
+    let o = real-number f plus-zero (real-zero f false) in
+    let n = real-number f y q in
+    let n' = real-number f y' q' in
+    let N = above-zero f y n Y .1 in
+    let Y' : T (lt plus-zero y') = key→lt f plus-zero y' o n' (omega (arith, lt→key f plus-zero y o n Y, le→key f y y' n n' h)) in
+    let N' = above-zero f y' n' Y' .1 in
+    le-neg-back f (div f x y) (div f x y') (div-number f x y p q N) (div-number f x y' p q' N')
+    (subst₂ (λ (a b : Float). T (le a b)) (neg-div f x y' p q' N') (neg-div f x y p q N) (div-anti f (neg x) y y' (real-neg f x p) q q' (neg-nonneg f x (real-number f x p) X) Y h))

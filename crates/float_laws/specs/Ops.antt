@@ -7,11 +7,11 @@ use lib.IntN.{ℤ, pos}
 use lib.Pow.{pow-pos}
 use lib.Dec.{T, ltb, eqb, ltb→lt, lt→ltb, eqb→eq}
 use lib.Ieee.{Float, nan, inf, fin, Format, up, down, low, fits, round, neg, unlike, sum, add, mul, div}
-use lib.Ieee.Fits.{down-pos}
+use lib.Ieee.Fits.{down-pos, neg-fits}
 use lib.Ieee.Positive.{first-pos}
 use lib.Ieee.Scale.{round-same}
 use Rattle.float_laws.specs.Units.{mag, sign, real, mag-exact, scaled-lt}
-use Rattle.float_laws.specs.Round.{mag-zero, sign-round, round-neg, squared-pos}
+use Rattle.float_laws.specs.Round.{mag-zero, sign-round, round-neg, squared-pos, mag-neg}
 use Rattle.float_laws.specs.Signs.{sub-mul}
 
 -- ---- the product
@@ -205,3 +205,23 @@ div-neg f (fin s m e) (fin t n d) = go (eqb n 0)
         ≡ neg (cond b (cond (eqb m 0) nan (inf (unlike s t))) (round f (unlike s t) (m * up e * down d) (n * up d * down e)))
     go true = cond-neg (eqb m 0) (unlike s (not t)) (unlike s t) (unlike-not s t)
     go false = round-not f s t (m * up e * down d) (n * up d * down e)
+
+-- of the dividend
+pub neg-div : (f : Format) (x y : Float) → T (real f x) → T (real f y) → 0 < mag f y → div f (neg x) y ≡ neg (div f x y)
+neg-div f x y p q N = go x p
+  where
+    turn : (s : Bool) (m : ℕ) → round f (unlike (not s) (sign y)) m (mag f y) ≡ neg (round f (unlike s (sign y)) m (mag f y))
+    turn s m =
+        ap (λ (b : Bool). round f b m (mag f y)) (unlike-comm (not s) (sign y))
+        ∙ round-not f (sign y) s m (mag f y)
+        ∙ ap (λ (b : Bool). neg (round f b m (mag f y))) (unlike-comm (sign y) s)
+
+    go : (x : Float) → T (real f x) → div f (neg x) y ≡ neg (div f x y)
+    go nan p = absurd p
+    go (inf s) p = absurd p
+    go (fin s m e) p =
+        unfold neg in
+        div-round f (fin (not s) m e) y (neg-fits f (fin s m e) p) q N
+        ∙ turn s (mag f (fin (not s) m e))
+        ∙ ap (λ (n : ℕ). neg (round f (unlike s (sign y)) n (mag f y))) (mag-neg f (fin s m e))
+        ∙ ap neg (sym (div-round f (fin s m e) y p q N))

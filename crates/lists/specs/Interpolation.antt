@@ -13,7 +13,7 @@ use lib.Bits.{bitAnd, and-mask, mask-lt}
 unfoldable pub interp : ℕ → (ℕ → ℕ) → ℕ → ℕ
 interp w p F = p (F / 2 ^ w) + (p (F / 2 ^ w + 1) - p (F / 2 ^ w)) * (F % 2 ^ w) / 2 ^ w
 
--- ---- interpolation between them
+-- ---- a step's part of its rise, and sums that stay in the step
 pub part-le : (D r w : ℕ) → r ≤ 2 ^ w → D * r / 2 ^ w ≤ D
 part-le D r w h = le-trans (shr-mono w (mul-le-mul-left D h)) (le-of-eq (mul-div-cancel D (pow-pos w)))
 
