@@ -20,12 +20,11 @@ use Rattle.float_laws.specs.Units.{mag, sign, real}
 use Rattle.float_laws.specs.Order.{maximum}
 use Rattle.float_laws.specs.Round.{plus-zero}
 use Rattle.float_laws.specs.Near.{Near, near-20}
-use Rattle.float_laws.specs.Window.{energy, dual, turn, length-turn, Ok, ok-of-range, sixteen, window-near, window-sign, window-real}
+use Rattle.float_laws.specs.Window.{squared, energy, dual, turn, length-turn, AtMost16, at-most-16, sixteen, window-near, window-sign, window-real}
 
--- ---- the code's step
+-- ---- the code's step: the sum of squares that index i divides by, and its dual
 abbrev pub energyAt : Format → List Float → ℕ → ℕ → ℕ → Float
-energyAt f w hop overlap i =
-    fold (λ s offset. add f s (mul f (getD w ((i + offset * hop) % length w) nan) (getD w ((i + offset * hop) % length w) nan))) plus-zero (range 0 overlap)
+energyAt f w hop overlap i = fold (λ s offset. add f s (squared f (getD w ((i + offset * hop) % length w) nan))) plus-zero (range 0 overlap)
 
 abbrev pub dualBy : Format → Float → List Float → ℕ → ℕ → ℕ → Float
 dualBy f c w hop overlap i = div f (getD w i nan) (maximum (energyAt f w hop overlap i) c)
@@ -110,12 +109,12 @@ module _ (w : List Float) (hop overlap r : ℕ) (len : length w ≡ overlap * ho
   -- ---- the bound
   module _ (f : Format) (P : 2 ^ (prec f - 1) ≡ 8388608) (big : 2 ^ 57 ≤ 2 ^ low f) (wide : 64 ≤ emax f) (c : Float) (cr : T (real f c))
       (cs : 2 ^ 39 * mag f c ≤ 2 ^ low f) (few : overlap ≤ 16)
-      (ok : (i : ℕ) → i < length w → Ok f (getD w i nan)) (enough : 2 ^ low f * 2 ^ low f ≤ 2 ^ 30 * residues hop r (length w) (λ i. mag f (getD w i nan) * mag f (getD w i nan))) where
+      (ok : (i : ℕ) → i < length w → AtMost16 f (getD w i nan)) (enough : 2 ^ low f * 2 ^ low f ≤ 2 ^ 30 * residues hop r (length w) (λ i. mag f (getD w i nan) * mag f (getD w i nan))) where
     rows : (g : ℕ → ℕ) → residues hop r (length w) g ≡ total (λ j. g (j * hop + r)) (range 0 overlap)
     rows g = ap (λ (n : ℕ). residues hop r n g) len ∙ residues-rows hop r g low-r overlap
 
-    oks : All (Ok f) class
-    oks = all-tab (Ok f) (λ j. getD w (j * hop + r) nan) 0 overlap (λ j a b. ok (j * hop + r) (index-lt j (rw zero-add at b)))
+    oks : All (AtMost16 f) class
+    oks = all-tab (AtMost16 f) (λ j. getD w (j * hop + r) nan) 0 overlap (λ j a b. ok (j * hop + r) (index-lt j (rw zero-add at b)))
 
     fews : length class ≤ 16
     fews = le-trans (le-of-eq length-class) few
@@ -210,4 +209,4 @@ dual-window-bound w s hop overlap r len few low-r limits enough e =
     sums-same binary32 (length w) hop r (λ i. getD w i nan) (dualAt w hop overlap) (λ i. getD s i nan)
     (λ i h. sym (ap (λ (l : List Float). getD l i nan) e ∙ getD-tabulate (dualAt w hop overlap) (length w) i nan h))
     (dual-sums-to-one w hop overlap r len low-r binary32 refl (lit≤ tt) (lit≤ tt) least-divisor divisor-real divisor-small few
-    (λ i h. let m = limits i h in ok-of-range binary32 (getD w i nan) (lit≤ tt) (m .0) (m .1) (m .2)) enough)
+    (λ i h. let m = limits i h in at-most-16 binary32 (getD w i nan) (lit≤ tt) (m .0) (m .1) (m .2)) enough)

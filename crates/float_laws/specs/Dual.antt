@@ -23,7 +23,7 @@ Steps up g d (x ∷ xs) = Near 1 (up d (g x)) (d + g x) × Steps up g (up d (g x
 rolled-near : (up : ℕ → ℕ → ℕ) (g : ℕ → ℕ) (k d e : ℕ) (xs : List ℕ) → k + length xs ≤ B → Near k d e → Steps up g d xs
     → Near (k + length xs) (rolled up g d xs) (e + total g xs)
 unfolding total
-rolled-near up g k d e [] h n s = rw (add-zero, add-zero) n
+rolled-near up g k d e [] h n s = rw (add-zero k, add-zero e) n
 rolled-near up g k d e (x ∷ xs) h n s =
     let a : 1 + k ≤ B = omega arith in
     let b : 1 + k + length xs ≤ B = omega arith in

@@ -27,9 +27,12 @@ use Rattle.float_laws.specs.Near.{B, Near, near-of, untimes}
 use Rattle.float_laws.specs.Dual.{rolled, Steps, sum-near, Sq, sq, squares-near, Item, Good, prod, square, dual-near}
 
 -- ---- the code's steps
+abbrev pub squared : Format → Float → Float
+squared f x = mul f x x
+
 -- the squares of a list's values, summed from the left onto d
 abbrev pub energy : Format → Float → List Float → Float
-energy f d ys = fold (λ s x. add f s (mul f x x)) d ys
+energy f d ys = fold (λ s x. add f s (squared f x)) d ys
 
 -- the value x over that sum, or over c where the sum is below c
 abbrev pub dual : Format → Float → List Float → Float → Float
@@ -78,7 +81,7 @@ mags f [] = []
 mags f (x ∷ xs) = mag f x ∷ mags f xs
 
 -- a value whose size is at most 16
-pub record Ok (f : Format) (x : Float) : Type 0 where
+pub record AtMost16 (f : Format) (x : Float) : Type 0 where
   pub is-real : T (real f x)
   pub small : mag f x ≤ 16 * 2 ^ low f
 
@@ -86,8 +89,8 @@ pub record Ok (f : Format) (x : Float) : Type 0 where
 square-le : (m L : ℕ) → m ≤ 16 * L → m * m * L ≤ 256 * L * (L * L)
 square-le m L h =
     let a : m * m ≤ 16 * L * (16 * L) = mul-le-mul h h in
-    let e : 16 * L * (16 * L) ≡ 256 * (L * L) = simp (mul-assoc, mul-comm, mul-left-comm) (omega arith) in
-    let g : 256 * (L * L) * L ≡ 256 * L * (L * L) = simp (mul-assoc, mul-comm, mul-left-comm) in
+    let e : 16 * L * (16 * L) ≡ 256 * (L * L) = simp (mul-assoc, mul-left-comm) (omega arith) in
+    let g : 256 * (L * L) * L ≡ 256 * L * (L * L) = simp mul-assoc in
     le-trans (mul-le-mul-right L (le-trans a (le-of-eq e))) (le-of-eq g)
 
 module _ (q m L : ℕ) (L0 : 0 < L) where
@@ -143,14 +146,14 @@ module _ (f : Format) (P : 2 ^ (prec f - 1) ≡ 8388608) (big : 2 ^ 57 ≤ 2 ^ l
   up-below j d g h k a b = lt-of-le-of-lt (up-le j d g h k a b) (power-below f (suc j) (le-trans k wide))
 
   -- the sum's roundings, and the sum
-  steps : (j d : ℕ) (xs : List Float) → 8 ≤ j → j + length xs ≤ 64 → d ≤ 2 ^ j * 2 ^ low f → All (Ok f) xs → Steps up q d (mags f xs)
+  steps : (j d : ℕ) (xs : List Float) → 8 ≤ j → j + length xs ≤ 64 → d ≤ 2 ^ j * 2 ^ low f → All (AtMost16 f) xs → Steps up q d (mags f xs)
   steps j d [] h k a b = tt
   steps j d (x ∷ xs) h k a b =
       let g = q-le (mag f x) (b .0 .small) in
       let s : suc j ≤ 64 = omega arith in
       (near-up (d + q (mag f x)) (up-below j d (q (mag f x)) h s a g), steps (suc j) (up d (q (mag f x))) xs (omega arith) (omega arith) (up-le j d (q (mag f x)) h s a g) (b .1))
 
-  energy-plain : (j : ℕ) (d : Float) (n : ℕ) (xs : List Float) → 8 ≤ j → j + length xs ≤ 64 → Plain f d n → n ≤ 2 ^ j * 2 ^ low f → All (Ok f) xs
+  energy-plain : (j : ℕ) (d : Float) (n : ℕ) (xs : List Float) → 8 ≤ j → j + length xs ≤ 64 → Plain f d n → n ≤ 2 ^ j * 2 ^ low f → All (AtMost16 f) xs
       → Plain f (energy f d xs) (rolled up q n (mags f xs))
   unfolding fold
   energy-plain j d n [] h k p a b = p
@@ -186,7 +189,7 @@ mags-length f (x ∷ xs) = ap suc (mags-length f xs)
 -- ---- one quotient: ys are the values whose squares are summed, and Q is the sum of the rounded squares
 module _ (f : Format) (P : 2 ^ (prec f - 1) ≡ 8388608) (big : 2 ^ 57 ≤ 2 ^ low f) (wide : 64 ≤ emax f) (c : Float) (cr : T (real f c))
     (cs : 2 ^ 39 * mag f c ≤ 2 ^ low f) (Q : ℕ) (fl : 2 ^ low f ≤ 2 ^ 31 * Q) where
-  module _ (ys : List Float) (ok : All (Ok f) ys) (few : length ys ≤ 16) (same : total (λ m. rndM f m m) (mags f ys) ≡ Q) where
+  module _ (ys : List Float) (ok : All (AtMost16 f) ys) (few : length ys ≤ 16) (same : total (λ m. rndM f m m) (mags f ys) ≡ Q) where
     e : ℕ
     e = rolled (λ d g. rndU f (d + g)) (λ m. rndM f m m) 0 (mags f ys)
 
@@ -227,7 +230,7 @@ module _ (f : Format) (P : 2 ^ (prec f - 1) ≡ 8388608) (big : 2 ^ 57 ≤ 2 ^ l
         positive-e : (L e : ℕ) → L ≤ 2 ^ 32 * e → 0 < L → 0 < e
         positive-e L e h p = omega arith
 
-    module _ (x : Float) (okx : Ok f x) where
+    module _ (x : Float) (okx : AtMost16 f x) where
       dual-round : dual f c ys x ≡ round f (sign x) (mag f x) e
       dual-round =
           let E = energy f plus-zero ys in
@@ -285,7 +288,7 @@ total-turn f g j xs =
 -- ---- all quotients: the value at place j, and its dual, the sum being taken from j on
 module _ (f : Format) (P : 2 ^ (prec f - 1) ≡ 8388608) (big : 2 ^ 57 ≤ 2 ^ low f) (wide : 64 ≤ emax f) (c : Float) (cr : T (real f c))
     (cs : 2 ^ 39 * mag f c ≤ 2 ^ low f) (xs : List Float)
-    (ok : All (Ok f) xs) (few : length xs ≤ 16) (enough : 2 ^ low f * 2 ^ low f ≤ 2 ^ 30 * total (λ x. mag f x * mag f x) xs) where
+    (ok : All (AtMost16 f) xs) (few : length xs ≤ 16) (enough : 2 ^ low f * 2 ^ low f ≤ 2 ^ 30 * total (λ x. mag f x * mag f x) xs) where
   abbrev value : ℕ → Float
   value j = getD xs j nan
 
@@ -295,7 +298,7 @@ module _ (f : Format) (P : 2 ^ (prec f - 1) ≡ 8388608) (big : 2 ^ 57 ≤ 2 ^ l
   abbrev Q : ℕ
   Q = total (λ m. rndM f m m) (mags f xs)
 
-  all-sq : (ys : List Float) → All (Ok f) ys → All (Sq (2 ^ low f) (λ m. rndM f m m)) (mags f ys)
+  all-sq : (ys : List Float) → All (AtMost16 f) ys → All (Sq (2 ^ low f) (λ m. rndM f m m)) (mags f ys)
   all-sq [] h = tt
   all-sq (x ∷ ys) h = (q-sq f P big wide (mag f x) (h .0 .small), all-sq ys (h .1))
 
@@ -309,11 +312,11 @@ module _ (f : Format) (P : 2 ^ (prec f - 1) ≡ 8388608) (big : 2 ^ 57 ≤ 2 ^ l
   floor-Q = floor (2 ^ low f) Q (total sq (mags f xs)) near-Q enough-mags (pow-pos (low f))
 
   module _ (j : ℕ) (h : j < length xs) where
-    okx : Ok f (value j)
-    okx = all-at (Ok f) xs j nan ok h
+    okx : AtMost16 f (value j)
+    okx = all-at (AtMost16 f) xs j nan ok h
 
-    oks : All (Ok f) (turn j xs)
-    oks = all-turn (Ok f) j xs ok
+    oks : All (AtMost16 f) (turn j xs)
+    oks = all-turn (AtMost16 f) j xs ok
 
     fews : length (turn j xs) ≤ 16
     fews = le-trans (le-of-eq (length-turn j xs)) few
@@ -357,9 +360,9 @@ size-within : (K : ℕ) (s : Bool) (m b : ℕ) → m ≤ K → b < K → K - b �
 size-within K false m b M B h k = omega arith
 size-within K true m b M B h k = omega arith
 
-pub ok-of-range : (f : Format) (x : Float) → 4 ≤ emax f → T (fits f x) → T (le (sixteen true) x) → T (le x (sixteen false)) → Ok f x
+pub at-most-16 : (f : Format) (x : Float) → 4 ≤ emax f → T (fits f x) → T (le (sixteen true) x) → T (le x (sixteen false)) → AtMost16 f x
 unfolding fits neg
-ok-of-range f x w p h k =
+at-most-16 f x w p h k =
     let hi = sixteen-real false in
     let lo = sixteen-real true in
     let n = le-left f x (sixteen false) p k in
