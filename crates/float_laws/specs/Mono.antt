@@ -97,7 +97,7 @@ key-sum f true a false b A B = go (ltb a b) (ltb b a) (ltb→lt a b) (nltb→le 
     go false false h k l =
         key-round f false (a - b) (2 ^ low f) ∙ sym (center-up (overflow f) (rndU f) (overflow f - a + (overflow f + b)) (a - b) (omega (arith, k tt, l tt)))
 
-real-le : (f : Format) (x : Float) → T (real f x) → mag f x ≤ overflow f
+pub real-le : (f : Format) (x : Float) → T (real f x) → mag f x ≤ overflow f
 real-le f x p = le-of-lt (mag-below f x p)
 
 sum-number : (f : Format) (s : Bool) (a : ℕ) (t : Bool) (b c : ℕ) → T (number f (sum f s a t b c))
