@@ -1,19 +1,23 @@
 -- The order laws with the infinities: as in Mono, for all numbers whose results are numbers, so where no infinity meets its opposite in a sum or a zero in a product.
--- A product with, and a quotient by, a finite constant above zero keeps the order of all numbers; below zero it turns it. Assumes nothing.
+-- A product with, and a quotient by, a finite constant above zero keeps the order of any two values, infinities too; below zero it turns it. Assumes nothing.
 use mathlib.Core.Path.{_≡_, refl, sym, ap, _∙_, subst, subst₂}
 use mathlib.Core.Logic.{inl, inr}
-use mathlib.Core.Bool.{Bool, true, false, cond}
-use Prim.Native.Nat.{ℕ, _*_, _<_}
-use native.Mathlib.Nat.{zero-mul, mul-pos, eq-zero-or-pos}
+use mathlib.Core.Bool.{Bool, true, false, not, cond, true≢false}
+use Prim.Native.Nat.{ℕ, _*_, _≤_, _<_}
+use native.Mathlib.Nat.{zero-mul, mul-comm, mul-mul-mul-comm, mul-pos, mul-le-mul-right, eq-zero-or-pos, le-trans, le-of-eq, lt-irrefl, lt-of-lt-of-le}
 use native.Mathlib.Omega.{arith}
-use lib.Dec.{T, eqb, eqb→eq}
-use lib.Ieee.{Float, nan, inf, fin, Format, up, down, lt, le, neg, unlike, add, sub, mul, div}
-use lib.Ieee.Fits.{up-pos, and-l, eq→eqb}
-use Rattle.float_laws.specs.Units.{mag, sign, number, real, mag-inf, key→le, key→lt, lt→key, real-number}
-use Rattle.float_laws.specs.Order.{le-trans-f, lt→le-f}
-use Rattle.float_laws.specs.Round.{plus-zero, key-zero, mag-zero, real-zero}
-use Rattle.float_laws.specs.Ops.{mul-comm-f, neg-neg, mul-neg, div-neg, unlike-clear}
-use Rattle.float_laws.specs.Mono.{key-high, key-neg, number-neg, real-neg, le-neg, add-mono, mul-mono, mul-mono-l, mul-number, div-number, div-mono, above-zero}
+use lib.Dec.{T, ltb, eqb, ltb→lt, lt→ltb, eqb→eq}
+use lib.IntN.{ℤ}
+use lib.Ieee.{Float, nan, inf, fin, Format, up, down, isNan, lt, le, round, neg, unlike, add, sub, mul, div}
+use lib.Ieee.Fits.{up-pos, down-pos, and-l, eq→eqb}
+use lib.Ieee.Positive.{num, den, positive}
+use lib.Ieee.Scale.{overflow}
+use Rattle.float_laws.specs.Units.{mag, number, real, keyed, mag-inf, key→le, real-number}
+use Rattle.float_laws.specs.Order.{le-trans-f}
+use Rattle.float_laws.specs.Round.{plus-zero, mag-zero, real-zero, rnd, rnd-mono, rnd-zero, key-round, round-number}
+use Rattle.float_laws.specs.Signs.{Ord, ord-of-le}
+use Rattle.float_laws.specs.Ops.{mul-comm-f, unlike-clear, neg-neg, mul-neg, div-neg}
+use Rattle.float_laws.specs.Mono.{key-high, number-neg, le-neg, add-mono, mul-mono, above-zero}
 
 pub le-top : (f : Format) (x : Float) → T (number f x) → T (le x (inf false))
 le-top f x p = key→le f x (inf false) p tt (rw (mag-inf f false) (key-high f x p))
@@ -176,94 +180,142 @@ module _ (f : Format) (x x' y y' : Float) (p : T (number f x)) (p' : T (number f
       go (finite a) (finite b) (finite c) (top e) = by-right e
       go (finite a) (finite b) (finite c) (finite d) = mul-mono f x x' y y' a c b d X Y h k
 
--- ---- the product with, and the quotient by, a constant that is finite and not zero: all numbers stay numbers
--- what keeps the infinities, and the order of the finite numbers, keeps the order of all
-module _ (f : Format) (h : Float → Float) (far : (s : Bool) → h (inf s) ≡ inf s) (finite-number : (x : Float) → T (real f x) → T (number f (h x)))
-    (near : (x y : Float) → T (real f x) → T (real f y) → T (le x y) → T (le (h x) (h y))) where
-  image-number : (x : Float) → T (number f x) → T (number f (h x))
-  image-number x p = go (kind f x p)
-    where
-      at-end : (s : Bool) → x ≡ inf s → T (number f (h x))
-      at-end s e = subst (λ (w : Float). T (number f w)) (sym (ap h e ∙ far s)) tt
+-- ---- the product with, and the quotient by, a constant that is finite and not zero: of any two values in order, whether or not they fit the format
+no-size-of : (a d : ℕ) → 0 < d → a * d ≡ 0 → a ≡ 0
+no-size-of a d D h = elim (eq-zero-or-pos a) [ inl z ↦ z | inr p ↦ absurd (omega (arith, mul-pos p D)) ]
 
-      go : Kind f x → T (number f (h x))
-      go (bottom e) = at-end true e
-      go (top e) = at-end false e
-      go (finite a) = finite-number x a
-
-  image-mono : (x y : Float) → T (number f x) → T (number f y) → T (le x y) → T (le (h x) (h y))
-  image-mono x y p q l = go (kind f x p) (kind f y q)
-    where
-      low-end : x ≡ inf true → T (le (h x) (h y))
-      low-end e = starts f (h x) (h y) (image-number x p) (image-number y q) (ap h e ∙ far true)
-
-      high-end : y ≡ inf false → T (le (h x) (h y))
-      high-end e = ends f (h x) (h y) (image-number x p) (image-number y q) (ap h e ∙ far false)
-
-      go : Kind f x → Kind f y → T (le (h x) (h y))
-      go (bottom e) b = low-end e
-      go (top e) b = high-end (rises f x y p q e l)
-      go (finite a) (bottom e) = low-end (falls f x y p q e l)
-      go (finite a) (top e) = high-end e
-      go (finite a) (finite b) = near x y a b l
-
-mul-inf-by : (f : Format) (s : Bool) (z : Float) → T (real f z) → sign z ≡ false → 0 < mag f z → mul f (inf s) z ≡ inf s
-unfolding mul
-mul-inf-by f s nan r c N = absurd r
-mul-inf-by f s (inf t) r c N = absurd r
-mul-inf-by f s (fin t n d) r c N = go (eqb n 0) (eqb→eq n 0)
+-- ±a / c ≤ ±b / d gives the rounded values in that order
+pub round-ord : (f : Format) (s : Bool) (a c : ℕ) (t : Bool) (b d : ℕ) → 0 < c → 0 < d → Ord s (a * d) t (b * c) → T (le (round f s a c) (round f t b d))
+round-ord f s a c t b d C D h =
+    key→le f (round f s a c) (round f t b d) (round-number f s a c) (round-number f t b d) (rw (key-round f s a c, key-round f t b d) (keys s t h))
   where
-    go : (b : Bool) → (T b → n ≡ 0) → cond b nan (inf (unlike s t)) ≡ inf s
-    go true e = absurd (omega (arith, ap (λ (w : ℕ). mag f (fin t w d)) (e tt), mag-zero f t d))
-    go false e = ap inf (unlike-clear s t c)
+    nothing : (n k m : ℕ) → 0 < k → 0 < m → n * m ≡ 0 → rnd f n k ≡ 0
+    nothing n k m K M e = ap (λ (z : ℕ). rnd f z k) (no-size-of n m M e) ∙ rnd-zero f k K
 
-div-inf-by : (f : Format) (s : Bool) (z : Float) → T (real f z) → sign z ≡ false → div f (inf s) z ≡ inf s
+    keys : (s t : Bool) → Ord s (a * d) t (b * c) → keyed (overflow f) s (rnd f a c) ≤ keyed (overflow f) t (rnd f b d)
+    keys false false h = omega (arith, rnd-mono f a c b d C D h)
+    keys false true h = omega (arith, nothing a c d C D (h .0), nothing b d c D C (h .1))
+    keys true false h = omega arith
+    keys true true h = omega (arith, rnd-mono f b d a c D C h)
+
+ord-scale : (s : Bool) (x : ℕ) (t : Bool) (y k x' y' : ℕ) → x * k ≡ x' → y * k ≡ y' → Ord s x t y → Ord s x' t y'
+ord-scale false x false y k x' y' p q h = le-trans (le-of-eq (sym p)) (le-trans (mul-le-mul-right k h) (le-of-eq q))
+ord-scale false x true y k x' y' p q h = (sym p ∙ ap (λ (z : ℕ). z * k) (h .0) ∙ zero-mul k, sym q ∙ ap (λ (z : ℕ). z * k) (h .1) ∙ zero-mul k)
+ord-scale true x false y k x' y' p q h = tt
+ord-scale true x true y k x' y' p q h = le-trans (le-of-eq (sym q)) (le-trans (mul-le-mul-right k h) (le-of-eq p))
+
+-- g leaves the infinities, and of a finite value it is the rounding of its multiple by k / l
+record Multiple (f : Format) (g : Float → Float) (k l : ℕ) : Type 0 where
+  divisor : 0 < l
+  far : (s : Bool) → g (inf s) ≡ inf s
+  near : (s : Bool) (m : ℕ) (e : ℤ) → g (fin s m e) ≡ round f s (m * up e * k) (down e * l)
+
+module _ (f : Format) (g : Float → Float) (k l : ℕ) (G : Multiple f g k l) where
+  multiple-number : (x : Float) → T (not (isNan x)) → T (number f (g x))
+  unfolding isNan
+  multiple-number nan h = absurd h
+  multiple-number (inf s) h = rw (G .far s) tt
+  multiple-number (fin s m e) h = rw (G .near s m e) (round-number f s (m * up e * k) (down e * l))
+
+  multiple-mono : (x y : Float) → T (le x y) → T (le (g x) (g y))
+  unfolding le isNan
+  multiple-mono nan y h = absurd h
+  multiple-mono (inf true) nan h = absurd h
+  multiple-mono (inf true) (inf t) h = rw (G .far true) (le-bottom f (g (inf t)) (multiple-number (inf t) tt))
+  multiple-mono (inf true) (fin t n d) h = rw (G .far true) (le-bottom f (g (fin t n d)) (multiple-number (fin t n d) tt))
+  multiple-mono (inf false) nan h = absurd h
+  multiple-mono (inf false) (inf true) h = absurd h
+  multiple-mono (inf false) (inf false) h = rw (G .far false) tt
+  multiple-mono (inf false) (fin t n d) h = absurd h
+  multiple-mono (fin s m e) nan h = absurd h
+  multiple-mono (fin s m e) (inf true) h = absurd h
+  multiple-mono (fin s m e) (inf false) h = rw (G .far false) (le-top f (g (fin s m e)) (multiple-number (fin s m e) tt))
+  multiple-mono (fin s m e) (fin t n d) h =
+      rw (G .near s m e, G .near t n d)
+      (round-ord f s (m * up e * k) (down e * l) t (n * up d * k) (down d * l) (mul-pos (down-pos e) (G .divisor)) (mul-pos (down-pos d) (G .divisor))
+      (ord-scale s (m * up e * down d) t (n * up d * down e) (k * l) (m * up e * k * (down d * l)) (n * up d * k * (down e * l))
+      (mul-mul-mul-comm (m * up e) (down d) k l) (mul-mul-mul-comm (n * up d) (down e) k l) (ord-of-le s m e t n d h)))
+
+-- a product with, and a quotient by, a finite value above zero is such a multiple
+not-zero : (n : ℕ) → T (ltb 0 n) → T (eqb n 0) → ⊥
+not-zero n p e = lt-irrefl 0 (lt-of-lt-of-le (ltb→lt 0 n p) (le-of-eq (eqb→eq n 0 e)))
+
+as-factor : (f : Format) (z : Float) → T (positive z) → Multiple f (λ x. mul f x z) (num z) (den z)
+unfolding mul
+as-factor f nan p = absurd p
+as-factor f (inf t) p = absurd p
+as-factor f (fin true n d) p = absurd p
+as-factor f (fin false n d) p =
+    record {
+      divisor = down-pos d;
+      far = λ s. go s (eqb n 0) (not-zero n p);
+      near = λ s m e. ap (λ (b : Bool). round f b (m * up e * (n * up d)) (down e * down d)) (unlike-clear s false refl);
+    }
+  where
+    go : (s b : Bool) → (T b → ⊥) → cond b nan (inf (unlike s false)) ≡ inf s
+    go s true e = absurd (e tt)
+    go s false e = ap inf (unlike-clear s false refl)
+
+as-divisor : (f : Format) (z : Float) → T (positive z) → Multiple f (λ x. div f x z) (den z) (num z)
 unfolding div
-div-inf-by f s nan r c = absurd r
-div-inf-by f s (inf t) r c = absurd r
-div-inf-by f s (fin t n d) r c = ap inf (unlike-clear s t c)
+as-divisor f nan p = absurd p
+as-divisor f (inf t) p = absurd p
+as-divisor f (fin true n d) p = absurd p
+as-divisor f (fin false n d) p =
+    record { divisor = mul-pos (ltb→lt 0 n p) (up-pos d); far = λ s. ap inf (unlike-clear s false refl); near = λ s m e. go s m e (eqb n 0) (not-zero n p) }
+  where
+    go : (s : Bool) (m : ℕ) (e : ℤ) (b : Bool) → (T b → ⊥)
+        → cond b (cond (eqb m 0) nan (inf (unlike s false))) (round f (unlike s false) (m * up e * down d) (n * up d * down e)) ≡ round f s (m * up e * down d) (down e * (n * up d))
+    go s m e true h = absurd (h tt)
+    go s m e false h =
+        ap (λ (b : Bool). round f b (m * up e * down d) (n * up d * down e)) (unlike-clear s false refl)
+        ∙ ap (λ (z : ℕ). round f s (m * up e * down d) z) (mul-comm (n * up d) (down e))
 
-module _ (f : Format) (z : Float) (r : T (real f z)) (Z : T (lt plus-zero z)) where
-  above : (sign z ≡ false) × (0 < mag f z)
-  above = above-zero f z (real-number f z r) Z
+module _ (f : Format) (z : Float) (p : T (positive z)) where
+  pub mul-by-number : (x : Float) → T (not (isNan x)) → T (number f (mul f x z))
+  mul-by-number = multiple-number f (λ x. mul f x z) (num z) (den z) (as-factor f z p)
 
-  not-below : T (le plus-zero z)
-  not-below = lt→le-f f plus-zero z (real-number f plus-zero (real-zero f false)) (real-number f z r) Z
+  pub mul-by : (x y : Float) → T (le x y) → T (le (mul f x z) (mul f y z))
+  mul-by = multiple-mono f (λ x. mul f x z) (num z) (den z) (as-factor f z p)
 
-  mul-far : (s : Bool) → mul f (inf s) z ≡ inf s
-  mul-far s = mul-inf-by f s z r (above .0) (above .1)
+  pub div-by-number : (x : Float) → T (not (isNan x)) → T (number f (div f x z))
+  div-by-number = multiple-number f (λ x. div f x z) (den z) (num z) (as-divisor f z p)
 
-  pub mul-by-number : (x : Float) → T (number f x) → T (number f (mul f x z))
-  mul-by-number = image-number f (λ x. mul f x z) mul-far (λ x p. mul-number f x z p r) (λ x y p q h. mul-mono-l f x y z p q r not-below h)
+  pub div-by : (x y : Float) → T (le x y) → T (le (div f x z) (div f y z))
+  div-by = multiple-mono f (λ x. div f x z) (den z) (num z) (as-divisor f z p)
 
-  pub mul-by : (x y : Float) → T (number f x) → T (number f y) → T (le x y) → T (le (mul f x z) (mul f y z))
-  mul-by = image-mono f (λ x. mul f x z) mul-far (λ x p. mul-number f x z p r) (λ x y p q h. mul-mono-l f x y z p q r not-below h)
-
-  pub div-by-number : (x : Float) → T (number f x) → T (number f (div f x z))
-  div-by-number =
-      image-number f (λ x. div f x z) (λ s. div-inf-by f s z r (above .0)) (λ x p. div-number f x z p r (above .1)) (λ x y p q h. div-mono f x y z p q r Z h)
-
-  pub div-by : (x y : Float) → T (number f x) → T (number f y) → T (le x y) → T (le (div f x z) (div f y z))
-  div-by = image-mono f (λ x. div f x z) (λ s. div-inf-by f s z r (above .0)) (λ x p. div-number f x z p r (above .1)) (λ x y p q h. div-mono f x y z p q r Z h)
+-- such a constant is what compares above zero
+pub positive-above : (f : Format) (z : Float) → T (real f z) → T (lt plus-zero z) → T (positive z)
+positive-above f nan r h = absurd r
+positive-above f (inf s) r h = absurd r
+positive-above f (fin s n d) r h = go s n (above-zero f (fin s n d) r h)
+  where
+    go : (s : Bool) (n : ℕ) → (s ≡ false) × (0 < mag f (fin s n d)) → T (positive (fin s n d))
+    go true n h = true≢false (h .0)
+    go false n h =
+        elim (eq-zero-or-pos n) [ inl e ↦ absurd (omega (arith, h .1, ap (λ (w : ℕ). mag f (fin false w d)) e, mag-zero f false d)) | inr p ↦ lt→ltb 0 n p ]
 
 -- below zero the order turns, since the negative of the image is one that keeps it
-turned : (f : Format) (h g : Float → Float) → ((x : Float) → g x ≡ neg (h x)) → ((x : Float) → T (number f x) → T (number f (g x)))
-    → ((x y : Float) → T (number f x) → T (number f y) → T (le x y) → T (le (g x) (g y))) → (x y : Float) → T (number f x) → T (number f y) → T (le x y)
-    → T (le (h y) (h x))
-turned f h g e n m x y p q l =
-    subst₂ (λ (a b : Float). T (le a b)) (ap neg (e y) ∙ neg-neg (h y)) (ap neg (e x) ∙ neg-neg (h x)) (le-neg f (g x) (g y) (n x p) (n y q) (m x y p q l))
+not-nan : (x y : Float) → T (le x y) → T (not (isNan x)) × T (not (isNan y))
+unfolding le isNan
+not-nan nan y h = absurd h
+not-nan (inf s) nan h = absurd h
+not-nan (inf s) (inf t) h = (tt, tt)
+not-nan (inf s) (fin t n d) h = (tt, tt)
+not-nan (fin s m e) nan h = absurd h
+not-nan (fin s m e) (inf t) h = (tt, tt)
+not-nan (fin s m e) (fin t n d) h = (tt, tt)
 
-module _ (f : Format) (z : Float) (r : T (real f z)) (Z : T (lt z plus-zero)) (x y : Float) (p : T (number f x)) (q : T (number f y)) where
-  away : T (lt plus-zero (neg z))
-  away =
-      let z₀ = real-number f plus-zero (real-zero f false) in
-      let n = real-number f z r in
-      key→lt f plus-zero (neg z) z₀ (number-neg f z n) (omega (arith, key-neg f z n, key-zero f, lt→key f z plus-zero n z₀ Z))
+turned : (f : Format) (h g : Float → Float) → ((x : Float) → g x ≡ neg (h x)) → ((x : Float) → T (not (isNan x)) → T (number f (g x)))
+    → ((x y : Float) → T (le x y) → T (le (g x) (g y))) → (x y : Float) → T (le x y) → T (le (h y) (h x))
+turned f h g e n m x y l =
+    let w = not-nan x y l in
+    subst₂ (λ (a b : Float). T (le a b)) (ap neg (e y) ∙ neg-neg (h y)) (ap neg (e x) ∙ neg-neg (h x))
+    (le-neg f (g x) (g y) (n x (w .0)) (n y (w .1)) (m x y l))
 
-  pub mul-by-turns : T (le x y) → T (le (mul f y z) (mul f x z))
-  mul-by-turns =
-      turned f (λ x. mul f x z) (λ x. mul f x (neg z)) (λ x. mul-neg f x z) (mul-by-number f (neg z) (real-neg f z r) away) (mul-by f (neg z) (real-neg f z r) away) x y p q
+module _ (f : Format) (z : Float) (p : T (positive (neg z))) where
+  pub mul-by-turns : (x y : Float) → T (le x y) → T (le (mul f y z) (mul f x z))
+  mul-by-turns = turned f (λ x. mul f x z) (λ x. mul f x (neg z)) (λ x. mul-neg f x z) (mul-by-number f (neg z) p) (mul-by f (neg z) p)
 
-  pub div-by-turns : T (le x y) → T (le (div f y z) (div f x z))
-  div-by-turns =
-      turned f (λ x. div f x z) (λ x. div f x (neg z)) (λ x. div-neg f x z) (div-by-number f (neg z) (real-neg f z r) away) (div-by f (neg z) (real-neg f z r) away) x y p q
+  pub div-by-turns : (x y : Float) → T (le x y) → T (le (div f y z) (div f x z))
+  div-by-turns = turned f (λ x. div f x z) (λ x. div f x (neg z)) (λ x. div-neg f x z) (div-by-number f (neg z) p) (div-by f (neg z) p)
