@@ -13,12 +13,11 @@ use lib.Ieee.Fits.{down-pos, round-fits}
 use lib.Ieee.Scale.{overflow}
 use lib.Ieee.Back.{round-whole}
 use Rattle.float_laws.specs.Units.{mag, key, number, real, key→le, key→lt, real-number, mag-exact, mag-below}
-use Rattle.float_laws.specs.Round.{rnd, key-round, mag-round, mag-of-value, round-number, rnd-real, real-zero}
+use Rattle.float_laws.specs.Round.{plus-zero, rnd, key-round, mag-round, mag-of-value, round-number, rnd-real, real-zero}
 use Rattle.float_laws.specs.Mono.{center-up, rndU, rndU-mono, sub-key, sub-number, size-nonneg, key-nonneg, nonneg-key}
 use Rattle.float_laws.specs.Bounds.{one, real-one, mag-one, real-between, round-nonneg}
 use Rattle.float32.specs.Counts.{countOf, floorCount}
 use Rattle.float32.proofs.Whole.{floor-at-most, floor-next}
-use Rattle.float32.proofs.PlusZero.{plus-zero}
 
 -- ---- from the fraction a / b to g units of 1 / L
 module _ (n a b g L : ℕ) (B : 0 < b) (e : g * b ≡ a * L) where

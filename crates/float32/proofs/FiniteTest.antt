@@ -8,10 +8,9 @@ use lib.Ieee.{Float, nan, inf, fin, Format, binary32, ofBits, ofFields, odd, sub
 use lib.Ieee.Bits.{is-true}
 use lib.Ieee.Scale.{overflow}
 use Rattle.float_laws.specs.Units.{real, key, keyed, sign, mag, key→eq, real-number}
-use Rattle.float_laws.specs.Round.{real-zero}
+use Rattle.float_laws.specs.Round.{plus-zero, key-zero, real-zero}
 use Rattle.float_laws.specs.Mono.{rndU, rndU-zero, center-up, real-le, sub-key, sub-number}
 use Rattle.float32.specs.Order.{finite}
-use Rattle.float32.proofs.PlusZero.{plus-zero, key-plus-zero}
 
 cancelled : (K : ℕ) (s : Bool) (m : ℕ) → m ≤ K → keyed K s m + (K + K - keyed K s m) ≡ K + K + 0
 cancelled K true m h = omega arith
@@ -21,7 +20,7 @@ pub zero-difference : (f : Format) (x : Float) → T (real f x) → T (eq (sub f
 zero-difference f x p =
     let K = overflow f in
     let k : key f (sub f x x) ≡ K + rndU f 0 = sub-key f x x p p ∙ center-up K (rndU f) (key f x + (K + K - key f x)) 0 (cancelled K (sign x) (mag f x) (real-le f x p)) in
-    key→eq f (sub f x x) plus-zero (sub-number f x x p p) (real-number f plus-zero (real-zero f false)) (omega (arith, k, rndU-zero f, key-plus-zero f))
+    key→eq f (sub f x x) plus-zero (sub-number f x x p p) (real-number f plus-zero (real-zero f false)) (omega (arith, k, rndU-zero f, key-zero f))
 
 pub difference-test : (x : Float) → T (fits binary32 x) → eq (sub binary32 x x) (ofBits binary32 0) ≡ finite x
 unfolding sub eq finite ofBits ofFields odd

@@ -5,7 +5,6 @@ pub mod Made
 pub mod Sums
 pub mod Floor
 pub mod Shifts
-pub mod PlusZero
 pub mod Magnitude
 pub mod FiniteTest
 pub mod Limits

@@ -5,10 +5,10 @@ use Prim.Native.Nat.{zero, suc}
 use native.Mathlib.Omega.{arith}
 use lib.Dec.{T}
 use lib.Ieee.{Float, nan, inf, fin, Format, fits, neg, le}
+use Rattle.float_laws.specs.Round.{plus-zero}
 use Rattle.float_laws.specs.Units.{number, real, sign, mag}
 use Rattle.float_laws.specs.Mono.{key-nonneg}
 use Rattle.float32.specs.Order.{magnitude}
-use Rattle.float32.proofs.PlusZero.{plus-zero}
 
 pub magnitude-clear : (x : Float) → sign (magnitude x) ≡ false
 unfolding magnitude

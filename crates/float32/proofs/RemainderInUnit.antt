@@ -12,14 +12,13 @@ use lib.Ieee.{Float, nan, inf, fin, Format, binary32, low, up, down, rem, round,
 use lib.Ieee.Scale.{overflow}
 use lib.Ieee.Fits.{down-pos, and-i}
 use Rattle.float_laws.specs.Units.{real, number, real-number, mag, key, keyed, key→le}
-use Rattle.float_laws.specs.Round.{rnd, rnd-mono, rnd-exact, key-round, round-number, real-zero}
+use Rattle.float_laws.specs.Round.{plus-zero, rnd, rnd-mono, rnd-exact, key-round, round-number, real-zero}
 use Rattle.float_laws.specs.Order.{le-refl-f, lt→le-f, not-lt-f}
 use Rattle.float_laws.specs.Mono.{add-mono}
 use Rattle.float_laws.specs.Bounds.{one, real-one, mag-one, real-between}
 use Rattle.float32.specs.Order.{within}
 use Rattle.float32.specs.Remainder as remainder
 use Rattle.float32.specs.Remainder.{remEuclidOne}
-use Rattle.float32.proofs.PlusZero.{plus-zero}
 
 abbrev minus-one : Float
 minus-one = fin true 1 (pos 0)

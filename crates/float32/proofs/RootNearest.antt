@@ -16,8 +16,8 @@ use lib.Ieee.Exact.{units-val, HasValue}
 use lib.Ieee.Fits.{two, reach, nearest-le, kept-lt, odd-fits, cond-fits, inf-fits}
 use lib.Ieee.Scale.{overflow}
 use Rattle.float_laws.specs.Units.{mag, sign, number, real, real-number, mag-exact, mag-below, down-le, digits-below, exponent-le, unique}
-use Rattle.float_laws.specs.Round.{mag-of-value, mag-zero}
-use Rattle.float_laws.specs.Mono.{o, above-zero}
+use Rattle.float_laws.specs.Round.{plus-zero, mag-of-value, mag-zero}
+use Rattle.float_laws.specs.Mono.{above-zero}
 use Rattle.float_laws.specs.Error.{Cmp, cmp}
 use Rattle.float32.specs.Root.{wholeRoot, nearestRoot, squareRoot}
 use Rattle.float32.proofs.WholeRoot.{root-lt, square-of-next, square-of-twice, square-of-odd, four-is-square, whole-root-is}
@@ -247,7 +247,7 @@ module _ (f : Format) (N : ℕ) (small : N < overflow f * 2 ^ low f) where
   root-mag = eq-of-mul-eq-mul-right (2 ^ low f) (pow-pos (low f)) (mag f (nearestRoot f N)) (kept f N * 2 ^ dropped f N) (mag-of-value f (nearestRoot f N) false (kept f N * 2 ^ dropped f N) (2 ^ low f) root-fits root-value)
 
 -- ---- the square root of a positive value
-module _ (f : Format) (x : Float) (h : T (real f x)) (positive : T (lt o x)) where
+module _ (f : Format) (x : Float) (h : T (real f x)) (positive : T (lt plus-zero x)) where
   pub root-at : squareRoot f x ≡ nearestRoot f (mag f x * 2 ^ low f)
   unfolding squareRoot
   root-at = let a = above-zero f x (real-number f x h) positive in go x h (a .0) (a .1)

@@ -14,19 +14,19 @@ use lib.Ieee.{Float, nan, inf, fin, Format, binary32, down, low, lt, le, fits}
 use lib.Ieee.Fits.{up-pos}
 use lib.Ieee.Scale.{overflow}
 use Rattle.float_laws.specs.Units.{mag, sign, key, keyed, number, real, real-number, mag-inf, mag-exact, mag-below, overflow-pos, lt→key, key→lt, le→key, key→le}
-use Rattle.float_laws.specs.Round.{mag-zero, real-zero}
+use Rattle.float_laws.specs.Round.{plus-zero, key-zero, mag-zero, real-zero}
 use Rattle.float_laws.specs.Order.{le-refl-f, lt→le-f, le-trans-f}
 use Rattle.float_laws.specs.Inf.{le-top}
-use Rattle.float_laws.specs.Mono.{o, key-zero, above-zero}
+use Rattle.float_laws.specs.Mono.{above-zero}
 use Rattle.float_laws.specs.Bounds.{one, real-one, mag-one}
 use Rattle.float32.specs.Root.{squareRoot}
 use Rattle.float32.proofs.WholeRoot.{square-of-twice}
 use Rattle.float32.proofs.RootNearest.{Nearer, root-at, square-small, root-is-real, root-sign, square-root-is-nearest}
 
-zero-number : (f : Format) → T (number f o)
-zero-number f = real-number f o (real-zero f false)
+zero-number : (f : Format) → T (number f plus-zero)
+zero-number f = real-number f plus-zero (real-zero f false)
 
-module _ (f : Format) (x : Float) (h : T (real f x)) (positive : T (lt o x)) where
+module _ (f : Format) (x : Float) (h : T (real f x)) (positive : T (lt plus-zero x)) where
   -- the root of a positive value is finite
   pub root-real : T (real f (squareRoot f x))
   root-real = subst (λ (y : Float). T (real f y)) (sym (root-at f x h positive)) (root-is-real f (mag f x * 2 ^ low f) (square-small f x h positive))
@@ -68,8 +68,8 @@ module _ (f : Format) (x : Float) (h : T (real f x)) (positive : T (lt o x)) whe
   root-key = ap (λ (s : Bool). keyed (overflow f) s (mag f (squareRoot f x))) root-plus
 
   -- the root of a positive value is positive
-  pub root-positive : T (lt o (squareRoot f x))
-  root-positive = key→lt f o (squareRoot f x) (zero-number f) (real-number f (squareRoot f x) root-real) (omega (arith, key-zero f, root-key, root-size))
+  pub root-positive : T (lt plus-zero (squareRoot f x))
+  root-positive = key→lt f plus-zero (squareRoot f x) (zero-number f) (real-number f (squareRoot f x) root-real) (omega (arith, key-zero f, root-key, root-size))
 
   -- up to 1 it is no less than the value: were it less, the value itself would be nearer
   value-at-most-root : T (le x one) → T (le x (squareRoot f x))
@@ -88,7 +88,7 @@ module _ (f : Format) (x : Float) (h : T (real f x)) (positive : T (lt o x)) whe
       ]
 
 -- ---- it never falls
-sizes-never-fall : (f : Format) (x y : Float) (h : T (real f x)) (g : T (real f y)) (p : T (lt o x)) (q : T (lt o y)) → mag f x ≤ mag f y → mag f (squareRoot f x) ≤ mag f (squareRoot f y)
+sizes-never-fall : (f : Format) (x y : Float) (h : T (real f x)) (g : T (real f y)) (p : T (lt plus-zero x)) (q : T (lt plus-zero y)) → mag f x ≤ mag f y → mag f (squareRoot f x) ≤ mag f (squareRoot f y)
 sizes-never-fall f x y h g p q l =
     let U = 2 ^ low f in
     let Y = mag f (squareRoot f x) in
@@ -104,7 +104,7 @@ sizes-never-fall f x y h g p q l =
 -- a number from 0 up: a zero, a positive value, or the infinity
 data FromZero (f : Format) (x : Float) : Type 0 where
   nothing : mag f x ≡ 0 → squareRoot f x ≡ x → FromZero f x
-  some : T (real f x) → T (lt o x) → FromZero f x
+  some : T (real f x) → T (lt plus-zero x) → FromZero f x
   all : x ≡ inf false → FromZero f x
 
 some-size : (f : Format) (s : Bool) (m : ℕ) (e : ℤ) → T (fits f (fin s (suc m) e)) → mag f (fin s (suc m) e) ≡ 0 → ⊥
@@ -112,19 +112,19 @@ some-size f s m e h z =
     lt-irrefl 0
     (lt-of-lt-of-le (mul-pos (mul-pos (zero-lt-suc m) (up-pos e)) (pow-pos (low f))) (le-of-eq (sym (mag-exact f s (suc m) e h) ∙ ap (λ (n : ℕ). n * down e) z ∙ zero-mul (down e))))
 
-from-zero : (f : Format) (x : Float) → T (number f x) → T (le o x) → FromZero f x
+from-zero : (f : Format) (x : Float) → T (number f x) → T (le plus-zero x) → FromZero f x
 unfolding squareRoot
 from-zero f nan p h = absurd p
 from-zero f (inf false) p h = all refl
-from-zero f (inf true) p h = absurd (omega (arith, key-zero f, overflow-pos f, mag-inf f true, le→key f o (inf true) (zero-number f) tt h))
+from-zero f (inf true) p h = absurd (omega (arith, key-zero f, overflow-pos f, mag-inf f true, le→key f plus-zero (inf true) (zero-number f) tt h))
 from-zero f (fin s zero e) p h = nothing (mag-zero f s e) refl
 from-zero f (fin true (suc m) e) p h =
-    let a = le→key f o (fin true (suc m) e) (zero-number f) p h in
+    let a = le→key f plus-zero (fin true (suc m) e) (zero-number f) p h in
     absurd (some-size f true m e p (omega (arith, key-zero f, overflow-pos f)))
 from-zero f (fin false (suc m) e) p h =
     elim (eq-zero-or-pos (mag f (fin false (suc m) e))) [
       | inl z ↦ absurd (some-size f false m e p z)
-      | inr l ↦ some p (key→lt f o (fin false (suc m) e) (zero-number f) p (omega (arith, key-zero f)))
+      | inr l ↦ some p (key→lt f plus-zero (fin false (suc m) e) (zero-number f) p (omega (arith, key-zero f)))
     ]
 
 keyed-none : (K : ℕ) (s : Bool) (m : ℕ) → m ≡ 0 → keyed K s m ≡ K
@@ -135,7 +135,7 @@ root-of-infinity : (f : Format) (x : Float) → x ≡ inf false → squareRoot f
 unfolding squareRoot
 root-of-infinity f x e = ap (squareRoot f) e
 
-module _ (f : Format) (x : Float) (p : T (number f x)) (h : T (le o x)) where
+module _ (f : Format) (x : Float) (p : T (number f x)) (h : T (le plus-zero x)) where
   -- the root of a number from 0 up is such a number
   pub root-number : T (number f (squareRoot f x))
   root-number = go (from-zero f x p h)
@@ -145,13 +145,13 @@ module _ (f : Format) (x : Float) (p : T (number f x)) (h : T (le o x)) where
       go (some g l) = real-number f (squareRoot f x) (root-real f x g l)
       go (all e) = subst (λ (y : Float). T (number f y)) (sym (root-of-infinity f x e)) tt
 
-  pub root-from-zero : T (le o (squareRoot f x))
+  pub root-from-zero : T (le plus-zero (squareRoot f x))
   root-from-zero = go (from-zero f x p h)
     where
-      go : FromZero f x → T (le o (squareRoot f x))
-      go (nothing z e) = subst (λ (y : Float). T (le o y)) (sym e) h
-      go (some g l) = lt→le-f f o (squareRoot f x) (zero-number f) (real-number f (squareRoot f x) (root-real f x g l)) (root-positive f x g l)
-      go (all e) = subst (λ (y : Float). T (le o y)) (e ∙ sym (root-of-infinity f x e)) h
+      go : FromZero f x → T (le plus-zero (squareRoot f x))
+      go (nothing z e) = subst (λ (y : Float). T (le plus-zero y)) (sym e) h
+      go (some g l) = lt→le-f f plus-zero (squareRoot f x) (zero-number f) (real-number f (squareRoot f x) (root-real f x g l)) (root-positive f x g l)
+      go (all e) = subst (λ (y : Float). T (le plus-zero y)) (e ∙ sym (root-of-infinity f x e)) h
 
   -- the root of a number from 0 to 1 is no less than the number
   pub root-at-least : T (le x one) → T (le x (squareRoot f x))
@@ -167,7 +167,7 @@ module _ (f : Format) (x : Float) (p : T (number f x)) (h : T (le o x)) where
 
 -- a number with no minus sign has a root with none: the root of +0 is +0
 pub root-keeps-plus : (f : Format) (x : Float) → T (number f x) → sign x ≡ false → sign (squareRoot f x) ≡ false
-root-keeps-plus f x p s = go (from-zero f x p (key→le f o x (zero-number f) p (omega (arith, key-zero f, ap (λ (t : Bool). keyed (overflow f) t (mag f x)) s))))
+root-keeps-plus f x p s = go (from-zero f x p (key→le f plus-zero x (zero-number f) p (omega (arith, key-zero f, ap (λ (t : Bool). keyed (overflow f) t (mag f x)) s))))
   where
     go : FromZero f x → sign (squareRoot f x) ≡ false
     go (nothing z e) = ap sign e ∙ s
@@ -175,13 +175,13 @@ root-keeps-plus f x p s = go (from-zero f x p (key→le f o x (zero-number f) p 
     go (all e) = ap sign (root-of-infinity f x e)
 
 -- a greater number has no lesser root
-pub square-root-never-falls : (f : Format) (x y : Float) → T (number f x) → T (number f y) → T (le o x) → T (le x y) → T (le (squareRoot f x) (squareRoot f y))
+pub square-root-never-falls : (f : Format) (x y : Float) → T (number f x) → T (number f y) → T (le plus-zero x) → T (le x y) → T (le (squareRoot f x) (squareRoot f y))
 square-root-never-falls f x y p q h l = go (from-zero f x p h) (from-zero f y q k)
   where
-    k : T (le o y)
-    k = le-trans-f f o x y (zero-number f) p q h l
+    k : T (le plus-zero y)
+    k = le-trans-f f plus-zero x y (zero-number f) p q h l
 
-    size-of : (z : Float) → T (real f z) → T (lt o z) → key f z ≡ overflow f + mag f z
+    size-of : (z : Float) → T (real f z) → T (lt plus-zero z) → key f z ≡ overflow f + mag f z
     size-of z g a = ap (λ (s : Bool). keyed (overflow f) s (mag f z)) (above-zero f z (real-number f z g) a .0)
 
     infinite : (z : Float) → z ≡ inf false → key f z ≡ overflow f + overflow f
@@ -194,8 +194,8 @@ square-root-never-falls f x y p q h l = go (from-zero f x p h) (from-zero f y q 
     to-infinity e = subst (λ (z : Float). T (le (squareRoot f x) z)) (sym (root-of-infinity f y e)) (le-top f (squareRoot f x) (root-number f x p h))
 
     go : FromZero f x → FromZero f y → T (le (squareRoot f x) (squareRoot f y))
-    go (nothing z e) b = by-key (omega (arith, ap (key f) e, keyed-none (overflow f) (sign x) (mag f x) z, key-zero f, le→key f o (squareRoot f y) (zero-number f) (root-number f y q k) (root-from-zero f y q k)))
-    go (some g a) (nothing z e) = absurd (omega (arith, keyed-none (overflow f) (sign y) (mag f y) z, key-zero f, lt→key f o x (zero-number f) p a, le→key f x y p q l))
+    go (nothing z e) b = by-key (omega (arith, ap (key f) e, keyed-none (overflow f) (sign x) (mag f x) z, key-zero f, le→key f plus-zero (squareRoot f y) (zero-number f) (root-number f y q k) (root-from-zero f y q k)))
+    go (some g a) (nothing z e) = absurd (omega (arith, keyed-none (overflow f) (sign y) (mag f y) z, key-zero f, lt→key f plus-zero x (zero-number f) p a, le→key f x y p q l))
     go (some g a) (some g' a') =
         let m : mag f x ≤ mag f y = omega (arith, size-of x g a, size-of y g' a', le→key f x y p q l) in
         by-key (omega (arith, root-key f x g a, root-key f y g' a', sizes-never-fall f x y g g' a a' m))
@@ -214,5 +214,5 @@ unfolding squareRoot
 root-of-four = refl
 
 -- the root of a number from 0 to 1 is at most 1
-pub root-at-most-one : (x : Float) → T (number binary32 x) → T (le o x) → T (le x one) → T (le (squareRoot binary32 x) one)
+pub root-at-most-one : (x : Float) → T (number binary32 x) → T (le plus-zero x) → T (le x one) → T (le (squareRoot binary32 x) one)
 root-at-most-one x p h l = subst (λ (z : Float). T (le (squareRoot binary32 x) z)) root-of-one (square-root-never-falls binary32 x one p (real-number binary32 one (real-one binary32)) h l)

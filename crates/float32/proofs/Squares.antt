@@ -3,11 +3,11 @@ use mathlib.Core.Path.{_≡_, refl}
 use mathlib.Core.Bool.{Bool, true, false}
 use lib.Dec.{T}
 use lib.Ieee.{Float, binary32, unlike, le}
+use Rattle.float_laws.specs.Round.{plus-zero}
 use Rattle.float_laws.specs.Units.{real, sign}
 use Rattle.float_laws.specs.Ops.{mul-round}
 use Rattle.float_laws.specs.Bounds.{round-nonneg}
 use Rattle.float32.specs.Powers.{square}
-use Rattle.float32.proofs.PlusZero.{plus-zero}
 
 alike : (s : Bool) → unlike s s ≡ false
 alike true = refl

@@ -22,7 +22,9 @@ scaled f zero t = t
 scaled f (suc x) t = (hid f + t) * 2 ^ x
 
 mag-odd : (f : Format) (d : ℕ) (s : Bool) (q k : ℕ) → T (fits f (odd d s q k (low f))) → mag f (odd d s q k (low f)) ≡ q * 2 ^ k
-mag-odd f d s q k h = eq-of-mul-eq-mul-right (2 ^ low f) (pow-pos (low f)) (mag f (odd d s q k (low f))) (q * 2 ^ k) (mag-of-value f (odd d s q k (low f)) s (q * 2 ^ k) (2 ^ low f) h (odd-sign d s q k (low f)))
+mag-odd f d s q k h =
+    eq-of-mul-eq-mul-right (2 ^ low f) (pow-pos (low f)) (mag f (odd d s q k (low f))) (q * 2 ^ k)
+    (mag-of-value f (odd d s q k (low f)) s (q * 2 ^ k) (2 ^ low f) h (odd-sign d s q k (low f)))
 
 top-exponent : (e p x : ℕ) → suc x ≡ 2 * e + 1 → 2 ≤ p → e + p - 2 + suc e ≡ p - 1 + x
 top-exponent e p x h k = omega arith
@@ -33,7 +35,8 @@ mag-fields f s zero t h n = mag-odd f (prec f) s t 0 h ∙ mul-one t
 mag-fields f s (suc x) t h n = go (eqb (suc x) (ones f)) (eqb t 0) (eqb→eq (suc x) (ones f)) (eqb→eq t 0) h n
   where
     go : (b c : Bool) → (T b → suc x ≡ ones f) → (T c → t ≡ 0) → T (fits f (cond b (cond c (inf s) nan) (odd (prec f) s (hid f + t) x (low f))))
-        → T (not (isNan (cond b (cond c (inf s) nan) (odd (prec f) s (hid f + t) x (low f))))) → mag f (cond b (cond c (inf s) nan) (odd (prec f) s (hid f + t) x (low f))) ≡ (hid f + t) * 2 ^ x
+        → T (not (isNan (cond b (cond c (inf s) nan) (odd (prec f) s (hid f + t) x (low f)))))
+        → mag f (cond b (cond c (inf s) nan) (odd (prec f) s (hid f + t) x (low f))) ≡ (hid f + t) * 2 ^ x
     go true true e z h n =
         let w : hid f + t ≡ hid f = omega (arith, z tt) in
         mag-inf f s ∙ ap (λ (k : ℕ). 2 ^ k) (top-exponent (emax f) (prec f) x (e tt) (two f)) ∙ pow-add 2 (prec f - 1) x ∙ ap (λ (k : ℕ). k * 2 ^ x) (sym w)
@@ -46,7 +49,8 @@ sign-fields f s zero zero n = refl
 sign-fields f s zero (suc t) n = refl
 sign-fields f s (suc x) t n = go (eqb (suc x) (ones f)) (eqb t 0) n
   where
-    go : (b c : Bool) → T (not (isNan (cond b (cond c (inf s) nan) (odd (prec f) s (hid f + t) x (low f))))) → sign (cond b (cond c (inf s) nan) (odd (prec f) s (hid f + t) x (low f))) ≡ s
+    go : (b c : Bool) → T (not (isNan (cond b (cond c (inf s) nan) (odd (prec f) s (hid f + t) x (low f)))))
+        → sign (cond b (cond c (inf s) nan) (odd (prec f) s (hid f + t) x (low f))) ≡ s
     go true true n = refl
     go true false n = absurd n
     go false c n = odd-kind (prec f) s (hid f + t) x (low f) .0
@@ -78,7 +82,8 @@ module _ (f : Format) (b : ℕ) (h : b ≤ ones f * hid f) where
   fields : ofBits f b ≡ ofFields f false (b / hid f) (b % hid f)
   unfolding ofBits
   fields =
-      ap (λ (s : Bool). ofFields f s (b % top f / hid f) (b % hid f)) (is-false (leb (top f) b) (not-T (leb (top f) b) (λ (t : T (leb (top f) b)). not-le-of-lt under-top (leb→le (top f) b t))))
+      ap (λ (s : Bool). ofFields f s (b % top f / hid f) (b % hid f))
+      (is-false (leb (top f) b) (not-T (leb (top f) b) (λ (t : T (leb (top f) b)). not-le-of-lt under-top (leb→le (top f) b t))))
       ∙ ap (λ (z : ℕ). ofFields f false (z / hid f) (b % hid f)) (mod-eq-of-lt under-top)
 
   no-nan : T (not (isNan (ofBits f b)))

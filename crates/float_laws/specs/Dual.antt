@@ -1,21 +1,13 @@
 -- The dual window's bound, over whole numbers. A value's size is m, in units of which L make 1. Assumes nothing.
-use mathlib.Core.Path.{_≡_, sym, ap, _∙_, subst}
+use mathlib.Core.Path.{_≡_, ap, _∙_, subst}
 use mathlib.Core.List.{List, [], _∷_}
 use Prim.Native.Nat.{ℕ, suc, _+_, _*_, _^_, _≤_, _<_}
-use native.Mathlib.Nat.{zero-mul, mul-comm, mul-assoc, mul-left-comm, add-mul, mul-add, mul-pos, le-trans, mul-le-mul-right, mul-le-mul-left, mul-le-mul, suc-mul, add-zero, zero-add, eq-zero-or-pos}
+use native.Mathlib.Nat.{zero-mul, mul-comm, mul-assoc, mul-left-comm, add-mul, mul-pos, le-trans, mul-le-mul-right, mul-le-mul-left, mul-le-mul, suc-mul, add-zero, zero-add, eq-zero-or-pos}
 use mathlib.Core.Logic.{inl, inr}
 use native.Mathlib.Omega.{arith}
 use lib.ListN.{length}
-use Rattle.float_laws.specs.Near.{B, Near, near-refl, near-sym, near-weaken, near-add, near-trans, near-scale, near-unscale, near-of}
-
--- the sum of g over a list
-unfoldable pub total : {A : Type 0} → (A → ℕ) → List A → ℕ
-total g [] = 0
-total g (x ∷ xs) = g x + total g xs
-
-abbrev pub All : {A : Type 0} → (A → Type 0) → List A → Type 0
-All P [] = Unit
-All P (x ∷ xs) = P x × All P xs
+use Rattle.lists.specs.Totals.{total, All}
+use Rattle.float_laws.specs.Near.{B, Near, near-refl, near-sym, near-weaken, near-add, near-trans, near-scale, near-unscale, near-of, times}
 
 -- ---- a sum that is rounded at each step, from the left
 -- d is the sum so far. `up` is the rounded sum.
@@ -28,9 +20,10 @@ abbrev pub Steps : (ℕ → ℕ → ℕ) → (ℕ → ℕ) → ℕ → List ℕ 
 Steps up g d [] = Unit
 Steps up g d (x ∷ xs) = Near 1 (up d (g x)) (d + g x) × Steps up g (up d (g x)) xs
 
-rolled-near : (up : ℕ → ℕ → ℕ) (g : ℕ → ℕ) (k d e : ℕ) (xs : List ℕ) → k + length xs ≤ B → Near k d e → Steps up g d xs → Near (k + length xs) (rolled up g d xs) (e + total g xs)
+rolled-near : (up : ℕ → ℕ → ℕ) (g : ℕ → ℕ) (k d e : ℕ) (xs : List ℕ) → k + length xs ≤ B → Near k d e → Steps up g d xs
+    → Near (k + length xs) (rolled up g d xs) (e + total g xs)
 unfolding total
-rolled-near up g k d e [] h n s = rw (add-zero, add-zero) n
+rolled-near up g k d e [] h n s = rw (add-zero k, add-zero e) n
 rolled-near up g k d e (x ∷ xs) h n s =
     let a : 1 + k ≤ B = omega arith in
     let b : 1 + k + length xs ≤ B = omega arith in
@@ -71,7 +64,8 @@ tiny L S n h k l =
     let b : n * L ≤ 16 * L = mul-le-mul-right L l in
     omega arith
 
-pub squares-near : (L : ℕ) (q : ℕ → ℕ) (xs : List ℕ) → 2 ^ 57 ≤ L → L * L ≤ 2 ^ 30 * total sq xs → length xs ≤ 16 → All (Sq L q) xs → Near 2 (total q xs * L) (total sq xs)
+pub squares-near : (L : ℕ) (q : ℕ → ℕ) (xs : List ℕ) → 2 ^ 57 ≤ L → L * L ≤ 2 ^ 30 * total sq xs → length xs ≤ 16 → All (Sq L q) xs
+    → Near 2 (total q xs * L) (total sq xs)
 squares-near L q xs h k l a =
     let S = total sq xs in
     let t = tiny L S (length xs) h k l in
@@ -102,22 +96,10 @@ abbrev cross : Item → ℕ
 cross i = i .m * i .D
 
 times-hi : (m D t L : ℕ) → B * (t * D) ≤ 16777217 * (m * L) + 8388608 * D → B * (m * t * D) ≤ 16777217 * (m * m * L) + 8388608 * (m * D)
-times-hi m D t L h =
-    let l = mul-le-mul-left m h in
-    let a : m * (B * (t * D)) ≡ B * (m * t * D) = mul-left-comm m B (t * D) ∙ ap (λ (z : ℕ). B * z) (sym (mul-assoc m t D)) in
-    let b : m * (16777217 * (m * L)) ≡ 16777217 * (m * m * L) = mul-left-comm m 16777217 (m * L) ∙ ap (λ (z : ℕ). 16777217 * z) (sym (mul-assoc m m L)) in
-    let c : m * (8388608 * D) ≡ 8388608 * (m * D) = mul-left-comm m 8388608 D in
-    let d = mul-add m (16777217 * (m * L)) (8388608 * D) in
-    omega arith
+times-hi m D t L h = rw (mul-assoc m t D, mul-assoc m m L) (times m B 16777217 8388608 (t * D) (m * L) D h)
 
 times-lo : (m D t L : ℕ) → 16777215 * (m * L) ≤ B * (t * D) + 8388608 * D → 16777215 * (m * m * L) ≤ B * (m * t * D) + 8388608 * (m * D)
-times-lo m D t L h =
-    let l = mul-le-mul-left m h in
-    let a : m * (B * (t * D)) ≡ B * (m * t * D) = mul-left-comm m B (t * D) ∙ ap (λ (z : ℕ). B * z) (sym (mul-assoc m t D)) in
-    let b : m * (16777215 * (m * L)) ≡ 16777215 * (m * m * L) = mul-left-comm m 16777215 (m * L) ∙ ap (λ (z : ℕ). 16777215 * z) (sym (mul-assoc m m L)) in
-    let c : m * (8388608 * D) ≡ 8388608 * (m * D) = mul-left-comm m 8388608 D in
-    let d = mul-add m (B * (t * D)) (8388608 * D) in
-    omega arith
+times-lo m D t L h = rw (mul-assoc m t D, mul-assoc m m L) (times m 16777215 B 8388608 (m * L) (t * D) D h)
 
 nothing : (S X Z : ℕ) → B * S ≤ B * X + 2 * S → X ≡ 0 → Z ≤ 2 ^ 30 * S → 0 < Z → ⊥
 nothing S X Z a b c d = omega arith
@@ -150,7 +132,8 @@ module _ (L Q : ℕ) where
       omega (arith, cross-le xs (h .1), suc-mul (length xs) (32 * (Q * L)))
 
   -- so the products' sum is 1, up to 20 parts in 2 ^ 24
-  module _ (xs : List Item) (good : All (Good L Q) xs) (few : length xs ≤ 16) (big : 2 ^ 57 ≤ L) (enough : L * L ≤ 2 ^ 30 * total square xs) (squares : Near 2 (Q * L) (total square xs)) where
+  module _ (xs : List Item) (good : All (Good L Q) xs) (few : length xs ≤ 16) (big : 2 ^ 57 ≤ L) (enough : L * L ≤ 2 ^ 30 * total square xs)
+      (squares : Near 2 (Q * L) (total square xs)) where
     cross-small : 8388608 * total cross xs ≤ total square xs * L
     cross-small =
         let S = total square xs in

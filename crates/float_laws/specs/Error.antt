@@ -3,7 +3,7 @@ use mathlib.Core.Path.{_≡_, sym, ap, _∙_, subst}
 use mathlib.Core.Logic.{inl, inr}
 use mathlib.Core.Bool.{false, not}
 use Prim.Native.Nat.{ℕ, _+_, _-_, _*_, _/_, _%_, _^_, _≤_, _<_, compare, Ordering, Ordering·lt, Ordering·eq, Ordering·gt}
-use native.Mathlib.Nat.{one-mul, mul-one, mul-comm, mul-assoc, mul-left-comm, mul-right-comm, add-mul, mul-add, mul-pos, eq-zero-or-pos, le-of-eq, le-trans, lt-irrefl, mul-le-mul-right, mul-le-mul-left, le-div-iff-mul-le, div-add-mod', mod-lt, eq-of-mul-eq-mul-right, suc-mul, le-of-mul-le-mul-right}
+use native.Mathlib.Nat.{one-mul, mul-one, mul-comm, mul-assoc, mul-left-comm, mul-right-comm, add-mul, mul-add, mul-pos, eq-zero-or-pos, le-of-eq, le-trans, mul-le-mul-right, mul-le-mul-left, le-div-iff-mul-le, div-add-mod', mod-lt, eq-of-mul-eq-mul-right, suc-mul, le-of-mul-le-mul-right}
 use native.Mathlib.Omega.{arith}
 use lib.Pow.{pow-add, pow-pos}
 use lib.Dec.{T, isLe, isEq, eqb, leb→le, nleb→lt, eqb→eq, eqb-refl}
@@ -14,7 +14,7 @@ use lib.Ieee.Fits.{two, two-le-pos, round-fits}
 use lib.Ieee.Nearest.{closest}
 use lib.Ieee.Order.{drop, kept}
 use lib.Ieee.Scale.{overflow, grid, finite, round-val, round-under}
-use Rattle.float_laws.specs.Units.{mag, number, real, mag-inf}
+use Rattle.float_laws.specs.Units.{mag, real, real-of-size}
 use Rattle.float_laws.specs.Round.{rnd, rnd-mono, rnd-real, round-number, mag-of-value}
 
 abbrev pub Cmp : Ordering → ℕ → ℕ → Type 0
@@ -94,17 +94,17 @@ grid-within f a c C =
     }
 
 -- ---- the same of `rnd`, where the result is finite
-finite-of-size : (f : Format) (x : Float) → T (number f x) → mag f x < overflow f → T (finite x)
-finite-of-size f nan p h = p
-finite-of-size f (inf s) p h = absurd (lt-irrefl (overflow f) (subst (λ (z : ℕ). z < overflow f) (mag-inf f s) h))
-finite-of-size f (fin s m e) p h = tt
+finite-real : (f : Format) (x : Float) → T (real f x) → T (finite x)
+finite-real f nan p = p
+finite-real f (inf s) p = p
+finite-real f (fin s m e) p = tt
 
-pub rnd-grid : (f : Format) (a c : ℕ) → rnd f a c < overflow f → rnd f a c ≡ grid f a c
+rnd-grid : (f : Format) (a c : ℕ) → rnd f a c < overflow f → rnd f a c ≡ grid f a c
 unfolding rnd
 rnd-grid f a c h =
     let r = round f false a c in
     eq-of-mul-eq-mul-right (2 ^ low f) (pow-pos (low f)) (mag f r) (grid f a c)
-    (mag-of-value f r false (grid f a c) (2 ^ low f) (round-fits f false a c) (round-val f a c (round-under f a c (finite-of-size f r (round-number f false a c) h))))
+    (mag-of-value f r false (grid f a c) (2 ^ low f) (round-fits f false a c) (round-val f a c (round-under f a c (finite-real f r (real-of-size f r (round-number f false a c) h)))))
 
 pub rnd-within : (f : Format) (a c : ℕ) → 0 < c → rnd f a c < overflow f → Within (2 ^ (prec f - 1)) (a * 2 ^ low f) c (rnd f a c)
 rnd-within f a c C h = subst (λ (z : ℕ). Within (2 ^ (prec f - 1)) (a * 2 ^ low f) c z) (sym (rnd-grid f a c h)) (grid-within f a c C)
@@ -114,7 +114,8 @@ pub record Relative (P n c r : ℕ) : Type 0 where
   pub hi : P * (2 * (r * c)) ≤ P * (2 * n) + n
   pub lo : P * (2 * n) ≤ P * (2 * (r * c)) + n
 
-pub rnd-relative : (f : Format) (a c : ℕ) → 0 < c → rnd f a c < overflow f → 2 ^ (prec f - 1) * c ≤ a * 2 ^ low f → Relative (2 ^ (prec f - 1)) (a * 2 ^ low f) c (rnd f a c)
+pub rnd-relative : (f : Format) (a c : ℕ) → 0 < c → rnd f a c < overflow f → 2 ^ (prec f - 1) * c ≤ a * 2 ^ low f
+    → Relative (2 ^ (prec f - 1)) (a * 2 ^ low f) c (rnd f a c)
 rnd-relative f a c C h normal =
     let p = prec f in
     let n = a * 2 ^ low f in
@@ -152,7 +153,10 @@ strip P x y b L L0 h =
 
 whole-at-zero : (p n L : ℕ) → 0 < L → drop p (n * L) L ≡ 0 → kept p (n * L) L * 2 ^ drop p (n * L) L ≡ n
 whole-at-zero p n L C z =
-    ap (λ (k : ℕ). closest (n * L) (L * 2 ^ k) * 2 ^ k) z ∙ mul-one (closest (n * L) (L * 1)) ∙ ap (λ (u : ℕ). closest (n * L) u) (mul-one L) ∙ closest-whole n L C
+    ap (λ (k : ℕ). closest (n * L) (L * 2 ^ k) * 2 ^ k) z
+    ∙ mul-one (closest (n * L) (L * 1))
+    ∙ ap (λ (u : ℕ). closest (n * L) u) (mul-one L)
+    ∙ closest-whole n L C
 
 grid-close : (f : Format) (n : ℕ) → Close (2 ^ (prec f - 1)) n (grid f n (2 ^ low f))
 grid-close f n =
@@ -199,5 +203,6 @@ pub within-32 : (a c : ℕ) → 0 < c → rnd binary32 a c < overflow binary32
     → (16777216 * (rnd binary32 a c * c) ≤ 16777217 * (a * 2 ^ low binary32) + 8388608 * c) × (16777215 * (a * 2 ^ low binary32) ≤ 16777216 * (rnd binary32 a c * c) + 8388608 * c)
 within-32 a c C h = let w = rnd-within binary32 a c C h in (hi-32 (rnd binary32 a c * c) (a * 2 ^ low binary32) c (w .hi), lo-32 (rnd binary32 a c * c) (a * 2 ^ low binary32) c (w .lo))
 
-pub close-32 : (n : ℕ) → rnd binary32 n (2 ^ low binary32) < overflow binary32 → (16777216 * rnd binary32 n (2 ^ low binary32) ≤ 16777217 * n) × (16777215 * n ≤ 16777216 * rnd binary32 n (2 ^ low binary32))
+pub close-32 : (n : ℕ) → rnd binary32 n (2 ^ low binary32) < overflow binary32
+    → (16777216 * rnd binary32 n (2 ^ low binary32) ≤ 16777217 * n) × (16777215 * n ≤ 16777216 * rnd binary32 n (2 ^ low binary32))
 close-32 n h = let w = rnd-close binary32 n h in (omega (arith, w .hi), omega (arith, w .lo))

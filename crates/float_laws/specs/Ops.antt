@@ -1,17 +1,18 @@
 -- The operations on finite values, in units of the format's smallest value: each is one rounding of a fraction of whole numbers. Assumes nothing.
 use mathlib.Core.Path.{_≡_, refl, sym, ap, _∙_, subst}
-use mathlib.Core.Bool.{Bool, true, false, _&&_, cond, true≢false, Bool·beq}
+use mathlib.Core.Bool.{Bool, true, false, not, _&&_, cond, true≢false, Bool·beq}
 use Prim.Native.Nat.{ℕ, _+_, _-_, _*_, _^_, _<_}
-use native.Mathlib.Nat.{mul-comm, mul-assoc, mul-left-comm, mul-right-comm, mul-mul-mul-comm, mul-pos, add-mul, mul-sub, lt-irrefl, eq-of-mul-eq-mul-right}
-use lib.IntN.{ℤ}
+use native.Mathlib.Nat.{mul-comm, mul-assoc, mul-left-comm, mul-right-comm, mul-mul-mul-comm, mul-pos, add-mul, lt-irrefl, eq-of-mul-eq-mul-right}
+use lib.IntN.{ℤ, pos}
 use lib.Pow.{pow-pos}
 use lib.Dec.{T, ltb, eqb, ltb→lt, lt→ltb, eqb→eq}
-use lib.Ieee.{Float, nan, inf, fin, Format, up, down, low, fits, round, unlike, sum, add, mul, div}
-use lib.Ieee.Fits.{down-pos}
+use lib.Ieee.{Float, nan, inf, fin, Format, up, down, low, fits, round, neg, unlike, sum, add, mul, div}
+use lib.Ieee.Fits.{down-pos, neg-fits}
 use lib.Ieee.Positive.{first-pos}
 use lib.Ieee.Scale.{round-same}
 use Rattle.float_laws.specs.Units.{mag, sign, real, mag-exact, scaled-lt}
-use Rattle.float_laws.specs.Round.{mag-zero}
+use Rattle.float_laws.specs.Round.{mag-zero, sign-round, round-neg, squared-pos, mag-neg}
+use Rattle.float_laws.specs.Signs.{sub-mul}
 
 -- ---- the product
 mul-fin : (f : Format) (s : Bool) (m : ℕ) (e : ℤ) (t : Bool) (n : ℕ) (d : ℤ) → T (fits f (fin s m e)) → T (fits f (fin t n d))
@@ -21,18 +22,28 @@ mul-fin f s m e t n d h k =
     let L = 2 ^ low f in
     let x = mag f (fin s m e) in
     let y = mag f (fin t n d) in
-    round-same f (unlike s t) (m * up e * (n * up d)) (down e * down d) (x * y) (L * L) (mul-pos (down-pos e) (down-pos d)) (mul-pos (pow-pos (low f)) (pow-pos (low f)))
+    round-same f (unlike s t) (m * up e * (n * up d)) (down e * down d) (x * y) (L * L) (mul-pos (down-pos e) (down-pos d)) (squared-pos f)
     (mul-mul-mul-comm (m * up e) (n * up d) L L
     ∙ ap (λ (z : ℕ). z * (n * up d * L)) (sym (mag-exact f s m e h))
     ∙ ap (λ (z : ℕ). x * down e * z) (sym (mag-exact f t n d k))
     ∙ mul-mul-mul-comm x (down e) y (down d))
 
-pub mul-round : (f : Format) (x y : Float) → T (real f x) → T (real f y) → mul f x y ≡ round f (unlike (sign x) (sign y)) (mag f x * mag f y) (2 ^ low f * 2 ^ low f)
+pub mul-round : (f : Format) (x y : Float) → T (real f x) → T (real f y)
+    → mul f x y ≡ round f (unlike (sign x) (sign y)) (mag f x * mag f y) (2 ^ low f * 2 ^ low f)
 mul-round f nan y p q = absurd p
 mul-round f (inf s) y p q = absurd p
 mul-round f (fin s m e) nan p q = absurd q
 mul-round f (fin s m e) (inf t) p q = absurd q
 mul-round f (fin s m e) (fin t n d) p q = mul-fin f s m e t n d p q
+
+pub mul-sign : (f : Format) (x y : Float) → T (real f x) → T (real f y) → sign (mul f x y) ≡ unlike (sign x) (sign y)
+mul-sign f x y p q = ap sign (mul-round f x y p q) ∙ sign-round f (unlike (sign x) (sign y)) (mag f x * mag f y) (2 ^ low f * 2 ^ low f)
+
+-- with a clear sign the other stays
+pub unlike-clear : (s t : Bool) → t ≡ false → unlike s t ≡ s
+unlike-clear true false h = refl
+unlike-clear false false h = refl
+unlike-clear s true h = absurd (true≢false h)
 
 -- of any two values
 unlike-comm : (s t : Bool) → unlike s t ≡ unlike t s
@@ -83,6 +94,9 @@ div-round f (fin s m e) nan p q N = absurd q
 div-round f (fin s m e) (inf t) p q N = absurd q
 div-round f (fin s m e) (fin t n d) p q N = div-fin f s m e t n d p q N
 
+pub div-sign : (f : Format) (x y : Float) → T (real f x) → T (real f y) → 0 < mag f y → sign (div f x y) ≡ unlike (sign x) (sign y)
+div-sign f x y p q N = ap sign (div-round f x y p q N) ∙ sign-round f (unlike (sign x) (sign y)) (mag f x) (mag f y)
+
 -- ---- the sum
 bool-ext : (x y : Bool) → (T x → T y) → (T y → T x) → x ≡ y
 bool-ext true true h k = refl
@@ -97,11 +111,10 @@ ltb-same a b c a' b' c' C C' p q =
     (λ (h : T (ltb a' b')). lt→ltb a b (scaled-lt a' b' a b c c' C (sym p) (sym q) (ltb→lt a' b' h)))
 
 sub-scaled : (a b c a' b' c' : ℕ) → a * c' ≡ a' * c → b * c' ≡ b' * c → (a - b) * c' ≡ (a' - b') * c
-sub-scaled a b c a' b' c' p q =
-    mul-comm (a - b) c' ∙ mul-sub c' a b ∙ ap (λ (z : ℕ). z - c' * b) (mul-comm c' a ∙ p ∙ mul-comm a' c) ∙ ap (λ (z : ℕ). c * a' - z) (mul-comm c' b ∙ q ∙ mul-comm b' c)
-    ∙ sym (mul-comm (a' - b') c ∙ mul-sub c a' b')
+sub-scaled a b c a' b' c' p q = sub-mul a b c' ∙ ap (λ (z : ℕ). z - b * c') p ∙ ap (λ (z : ℕ). a' * c - z) q ∙ sym (sub-mul a' b' c)
 
-sum-same : (f : Format) (s : Bool) (a : ℕ) (t : Bool) (b c a' b' c' : ℕ) → 0 < c → 0 < c' → a * c' ≡ a' * c → b * c' ≡ b' * c → sum f s a t b c ≡ sum f s a' t b' c'
+sum-same : (f : Format) (s : Bool) (a : ℕ) (t : Bool) (b c a' b' c' : ℕ) → 0 < c → 0 < c' → a * c' ≡ a' * c → b * c' ≡ b' * c
+    → sum f s a t b c ≡ sum f s a' t b' c'
 unfolding sum
 sum-same f s a t b c a' b' c' C C' p q =
     let A : (u : Bool) → round f u (a + b) c ≡ round f u (a' + b') c' = λ u. round-same f u (a + b) c (a' + b') c' C C' (add-mul a b c' ∙ ap (λ (z : ℕ). z + b * c') p ∙ ap (λ (z : ℕ). a' * c + z) q ∙ sym (add-mul a' b' c)) in
@@ -139,3 +152,76 @@ unfolding sum
 sum-clear f false false a b c p q = refl
 sum-clear f false true a b c p q = absurd (true≢false q)
 sum-clear f true t a b c p q = absurd (true≢false p)
+
+-- ---- the sign of an operand passes to the product and the quotient, of any two values
+pub neg-neg : (x : Float) → neg (neg x) ≡ x
+unfolding neg
+neg-neg nan = refl
+neg-neg (inf true) = refl
+neg-neg (inf false) = refl
+neg-neg (fin true m e) = refl
+neg-neg (fin false m e) = refl
+
+unlike-not : (s t : Bool) → unlike s (not t) ≡ not (unlike s t)
+unlike-not true true = refl
+unlike-not true false = refl
+unlike-not false true = refl
+unlike-not false false = refl
+
+round-not : (f : Format) (s t : Bool) (a c : ℕ) → round f (unlike s (not t)) a c ≡ neg (round f (unlike s t) a c)
+round-not f s t a c = ap (λ (b : Bool). round f b a c) (unlike-not s t) ∙ go (unlike s t)
+  where
+    go : (b : Bool) → round f (not b) a c ≡ neg (round f b a c)
+    go false = round-neg f a c
+    go true = sym (neg-neg (round f false a c)) ∙ ap neg (sym (round-neg f a c))
+
+cond-neg : (b u v : Bool) → u ≡ not v → cond b nan (inf u) ≡ neg (cond b nan (inf v))
+unfolding neg
+cond-neg true u v e = refl
+cond-neg false u v e = ap inf e
+
+pub mul-neg : (f : Format) (x y : Float) → mul f x (neg y) ≡ neg (mul f x y)
+unfolding mul neg
+mul-neg f nan y = refl
+mul-neg f (inf s) nan = refl
+mul-neg f (inf s) (inf t) = ap inf (unlike-not s t)
+mul-neg f (inf s) (fin t n d) = cond-neg (eqb n 0) (unlike s (not t)) (unlike s t) (unlike-not s t)
+mul-neg f (fin s m e) nan = refl
+mul-neg f (fin s m e) (inf t) = cond-neg (eqb m 0) (unlike s (not t)) (unlike s t) (unlike-not s t)
+mul-neg f (fin s m e) (fin t n d) = round-not f s t (m * up e * (n * up d)) (down e * down d)
+
+pub div-neg : (f : Format) (x y : Float) → div f x (neg y) ≡ neg (div f x y)
+unfolding div neg
+div-neg f nan y = refl
+div-neg f (inf s) nan = refl
+div-neg f (inf s) (inf t) = refl
+div-neg f (inf s) (fin t n d) = ap inf (unlike-not s t)
+div-neg f (fin s m e) nan = refl
+div-neg f (fin s m e) (inf t) = ap (λ (b : Bool). fin b 0 (pos 0)) (unlike-not s t)
+div-neg f (fin s m e) (fin t n d) = go (eqb n 0)
+  where
+    go : (b : Bool)
+        → cond b (cond (eqb m 0) nan (inf (unlike s (not t)))) (round f (unlike s (not t)) (m * up e * down d) (n * up d * down e))
+        ≡ neg (cond b (cond (eqb m 0) nan (inf (unlike s t))) (round f (unlike s t) (m * up e * down d) (n * up d * down e)))
+    go true = cond-neg (eqb m 0) (unlike s (not t)) (unlike s t) (unlike-not s t)
+    go false = round-not f s t (m * up e * down d) (n * up d * down e)
+
+-- of the dividend
+pub neg-div : (f : Format) (x y : Float) → T (real f x) → T (real f y) → 0 < mag f y → div f (neg x) y ≡ neg (div f x y)
+neg-div f x y p q N = go x p
+  where
+    turn : (s : Bool) (m : ℕ) → round f (unlike (not s) (sign y)) m (mag f y) ≡ neg (round f (unlike s (sign y)) m (mag f y))
+    turn s m =
+        ap (λ (b : Bool). round f b m (mag f y)) (unlike-comm (not s) (sign y))
+        ∙ round-not f (sign y) s m (mag f y)
+        ∙ ap (λ (b : Bool). neg (round f b m (mag f y))) (unlike-comm (sign y) s)
+
+    go : (x : Float) → T (real f x) → div f (neg x) y ≡ neg (div f x y)
+    go nan p = absurd p
+    go (inf s) p = absurd p
+    go (fin s m e) p =
+        unfold neg in
+        div-round f (fin (not s) m e) y (neg-fits f (fin s m e) p) q N
+        ∙ turn s (mag f (fin (not s) m e))
+        ∙ ap (λ (n : ℕ). neg (round f (unlike s (sign y)) n (mag f y))) (mag-neg f (fin s m e))
+        ∙ ap neg (sym (div-round f (fin s m e) y p q N))

@@ -1,14 +1,16 @@
--- The order of numbers, a NaN left out: a total order up to `eq`, which puts the two zeros in one place. `larger` is its join and `smaller` its meet.
--- Each law is one on keys, and `omega` proves it. Assumes nothing.
-use mathlib.Core.Path.{_≡_, refl, sym}
+-- The order of numbers, a NaN left out: a total order up to `eq`, which puts the two zeros in one place. `larger` and `smaller` are of two numbers;
+-- `maximum`, `minimum` and `clamp` are document 01's, and agree with them on numbers. Each law is one on keys, and `omega` proves it. Assumes nothing.
+use mathlib.Core.Path.{_≡_, refl, sym, ap, _∙_}
 use mathlib.Core.Logic.{_⊎_, inl, inr}
-use mathlib.Core.Bool.{Bool, true, false, not, cond}
+use mathlib.Core.Bool.{Bool, true, false, not, cond, true≢false}
 use Prim.Native.Nat.{ℕ, _≤_, _<_, max, min}
 use native.Mathlib.Nat.{le-refl, le-trans, le-of-lt, le-of-eq, lt-of-le-of-lt, lt-of-lt-of-le, le-antisymm, lt-of-not-le, not-le-of-lt}
 use native.Mathlib.Omega.{arith}
 use lib.Dec.{T, not-T, T-not}
 use lib.Ieee.{Float, nan, inf, fin, Format, fits, isNan, lt, eq, le}
-use Rattle.float_laws.specs.Units.{number, key, lt→key, key→lt, eq→key, key→eq, le→key, key→le}
+use lib.Ieee.Bits.{is-false}
+use lib.Ieee.Scale.{overflow}
+use Rattle.float_laws.specs.Units.{mag, sign, number, key, keyed, mag-le, unique, lt→key, key→lt, eq→key, key→eq, le→key, key→le}
 
 -- ---- where a number is met: a value of the format that a comparison holds of
 pub fits-number : (f : Format) (x : Float) → T (fits f x) → T (not (isNan x)) → T (number f x)
@@ -91,6 +93,16 @@ module _ (f : Format) where
     pub lt-of-lt-of-le-f : T (lt x y) → T (le y z) → T (lt x z)
     lt-of-lt-of-le-f h k = key→lt f x z p r (lt-of-lt-of-le (lt→key f x y p q h) (le→key f y z q r k))
 
+-- ---- equal numbers of one sign are one datum
+one-size : (K : ℕ) (s t : Bool) (m n : ℕ) → m ≤ K → n ≤ K → s ≡ t → keyed K s m ≡ keyed K t n → m ≡ n
+one-size K false false m n M N e h = omega arith
+one-size K true true m n M N e h = omega arith
+one-size K false true m n M N e h = absurd (true≢false (sym e))
+one-size K true false m n M N e h = absurd (true≢false e)
+
+pub eq→same : (f : Format) (x y : Float) → T (number f x) → T (number f y) → sign x ≡ sign y → T (eq x y) → x ≡ y
+eq→same f x y p q s h = unique f x y p q s (one-size (overflow f) (sign x) (sign y) (mag f x) (mag f y) (mag-le f x p) (mag-le f y q) s (eq→key f x y p q h))
+
 -- ---- the larger and the smaller of two numbers
 abbrev pub larger : Float → Float → Float
 larger x y = cond (lt x y) y x
@@ -142,6 +154,9 @@ module _ (f : Format) (x y : Float) (p : T (number f x)) (q : T (number f y)) wh
   pub smaller-right : T (le (smaller x y) y)
   smaller-right = key→le f (smaller x y) y smaller-number q (omega (arith, key-smaller))
 
+  pub smaller-greatest : (z : Float) → T (number f z) → T (le z x) → T (le z y) → T (le z (smaller x y))
+  smaller-greatest z r h k = key→le f z (smaller x y) r smaller-number (omega (arith, key-smaller, le→key f z x r p h, le→key f z y r q k))
+
 module _ (f : Format) (x x' y y' : Float) (p : T (number f x)) (p' : T (number f x')) (q : T (number f y)) (q' : T (number f y')) where
   pub larger-mono : T (le x x') → T (le y y') → T (le (larger x y) (larger x' y'))
   larger-mono h k =
@@ -154,9 +169,10 @@ module _ (f : Format) (x x' y y' : Float) (p : T (number f x)) (p' : T (number f
       (omega (arith, key-smaller f x y p q, key-smaller f x' y' p' q', le→key f x x' p p' h, le→key f y y' q q' k))
 
 pub larger-comm : (f : Format) (x y : Float) → T (number f x) → T (number f y) → T (eq (larger x y) (larger y x))
-larger-comm f x y p q = key→eq f (larger x y) (larger y x) (larger-number f x y p q) (larger-number f y x q p) (omega (arith, key-larger f x y p q, key-larger f y x q p))
+larger-comm f x y p q =
+    key→eq f (larger x y) (larger y x) (larger-number f x y p q) (larger-number f y x q p) (omega (arith, key-larger f x y p q, key-larger f y x q p))
 
--- ---- a clamp: the low end below it, the high end above it, else the number itself
+-- ---- document 01: a clamp gives the low end below it, the high end above it, else the number itself
 abbrev pub clamp : Float → Float → Float → Float
 clamp lo hi x = cond (lt x lo) lo (cond (lt hi x) hi x)
 
@@ -171,7 +187,9 @@ module _ (f : Format) (lo hi : Float) (p : T (number f lo)) (q : T (number f hi)
         go false false = r
 
     pub key-clamp : key f (clamp lo hi x) ≡ max (key f lo) (min (key f hi) (key f x))
-    key-clamp = go (lt x lo) (lt hi x) (lt→key f x lo r p) (λ (n : T (not (lt x lo))). le→key f lo x p r (not-lt-f f x lo r p n)) (lt→key f hi x q r) (λ (n : T (not (lt hi x))). le→key f x hi r q (not-lt-f f hi x q r n))
+    key-clamp =
+        go (lt x lo) (lt hi x) (lt→key f x lo r p) (λ (n : T (not (lt x lo))). le→key f lo x p r (not-lt-f f x lo r p n)) (lt→key f hi x q r)
+        (λ (n : T (not (lt hi x))). le→key f x hi r q (not-lt-f f hi x q r n))
       where
         order : key f lo ≤ key f hi
         order = le→key f lo hi p q ends
@@ -189,14 +207,58 @@ module _ (f : Format) (lo hi : Float) (p : T (number f lo)) (q : T (number f hi)
     clamp-high = key→le f (clamp lo hi x) hi clamp-number q (omega (arith, key-clamp, le→key f lo hi p q ends))
 
   pub clamp-mono : (x y : Float) → T (number f x) → T (number f y) → T (le x y) → T (le (clamp lo hi x) (clamp lo hi y))
-  clamp-mono x y r s h = key→le f (clamp lo hi x) (clamp lo hi y) (clamp-number x r) (clamp-number y s) (omega (arith, key-clamp x r, key-clamp y s, le→key f x y r s h))
+  clamp-mono x y r s h =
+      key→le f (clamp lo hi x) (clamp lo hi y) (clamp-number x r) (clamp-number y s) (omega (arith, key-clamp x r, key-clamp y s, le→key f x y r s h))
 
--- ---- the maximum as Rust has it: where one of the two is a NaN, the other
+  -- within the ends it is the number itself, to the bit
+  pub clamp-within : (x : Float) → T (number f x) → T (le lo x) → T (le x hi) → clamp lo hi x ≡ x
+  clamp-within x r h k =
+      ap (λ (b : Bool). cond b lo (cond (lt hi x) hi x)) (is-false (lt x lo) (le→not-lt-f f lo x p r h))
+      ∙ ap (λ (b : Bool). cond b hi x) (is-false (lt hi x) (le→not-lt-f f x hi r q k))
+
+pub clamp-nan : (lo hi : Float) → clamp lo hi nan ≡ nan
+unfolding lt
+clamp-nan lo nan = refl
+clamp-nan lo (inf s) = refl
+clamp-nan lo (fin s m e) = refl
+
+-- ---- document 01: the maximum of a and b is b if a < b, else a; the minimum is b if b < a, else a; where one of the two is NaN, both give the other, as Rust's do
 abbrev pub maximum : Float → Float → Float
-maximum x y = cond (isNan x) y (larger x y)
+maximum a b = cond (lt a b) b (cond (isNan a) b a)
+
+abbrev pub minimum : Float → Float → Float
+minimum a b = cond (lt b a) b (cond (isNan a) b a)
 
 pub maximum-number : (f : Format) (x y : Float) → T (number f x) → maximum x y ≡ larger x y
 unfolding isNan
 maximum-number f nan y p = absurd p
 maximum-number f (inf s) y p = refl
 maximum-number f (fin s m e) y p = refl
+
+pub minimum-number : (f : Format) (x y : Float) → T (number f x) → minimum x y ≡ smaller x y
+unfolding isNan
+minimum-number f nan y p = absurd p
+minimum-number f (inf s) y p = refl
+minimum-number f (fin s m e) y p = refl
+
+pub maximum-nan-left : (y : Float) → maximum nan y ≡ y
+unfolding isNan lt
+maximum-nan-left y = refl
+
+pub maximum-nan-right : (x : Float) → maximum x nan ≡ x
+unfolding isNan lt
+maximum-nan-right nan = refl
+maximum-nan-right (inf s) = refl
+maximum-nan-right (fin s m e) = refl
+
+pub minimum-nan-left : (y : Float) → minimum nan y ≡ y
+unfolding isNan lt
+minimum-nan-left nan = refl
+minimum-nan-left (inf s) = refl
+minimum-nan-left (fin s m e) = refl
+
+pub minimum-nan-right : (x : Float) → minimum x nan ≡ x
+unfolding isNan lt
+minimum-nan-right nan = refl
+minimum-nan-right (inf s) = refl
+minimum-nan-right (fin s m e) = refl

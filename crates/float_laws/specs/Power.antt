@@ -30,7 +30,8 @@ real-power f k h =
 
 -- at most 2 ^ k, so below the overflow
 pub rnd-power : (f : Format) (k a c : ℕ) → k ≤ emax f → 0 < c → a * 2 ^ low f ≤ 2 ^ k * 2 ^ low f * c → rnd f a c ≤ 2 ^ k * 2 ^ low f
-rnd-power f k a c h C l = le-trans (rnd-at-most f (power k) a c (real-power f k h) C (le-trans l (le-of-eq (ap (λ (z : ℕ). z * c) (sym (mag-power f k)))))) (le-of-eq (mag-power f k))
+rnd-power f k a c h C l =
+    le-trans (rnd-at-most f (power k) a c (real-power f k h) C (le-trans l (le-of-eq (ap (λ (z : ℕ). z * c) (sym (mag-power f k)))))) (le-of-eq (mag-power f k))
 
 pub power-below : (f : Format) (k : ℕ) → k ≤ emax f → 2 ^ k * 2 ^ low f < overflow f
 power-below f k h = subst (λ (z : ℕ). z < overflow f) (mag-power f k) (mag-below f (power k) (real-power f k h))

@@ -1,4 +1,6 @@
--- A level stays in 0..1: l + (1 - l) * a and l + (0 - l) * a for a level l and a step a in 0..1, rounded at each operation. Assumes nothing.
+-- A value moved part of the way to another, as envelopes and the Gaussian lookup have it: `toward f a b t` is a + (b - a) * t, rounded at each operation, with t in 0..1.
+-- Toward a lower b it stays in 0..a, and above b where a is at most twice b, since b - a is then exact. (In general it can pass below b: from 1 toward 2 ^ -30 it comes to 0.)
+-- Toward 1 it stays between the level and 1: 1 - l is off by half a last place at most, so the sum is at most 1 + 2 ^ -24, which rounds to 1. Assumes nothing.
 use mathlib.Core.Path.{_≡_, refl, sym, ap, _∙_, subst}
 use mathlib.Core.Bool.{Bool, true, false}
 use Prim.Native.Nat.{ℕ, _+_, _-_, _*_, _^_, _≤_, _<_}
@@ -8,11 +10,104 @@ use lib.Dec.{T, lit≤}
 use lib.Ieee.{Float, Format, binary32, low, prec, le, add, sub, mul, round, neg}
 use lib.Ieee.Scale.{overflow}
 use Rattle.float_laws.specs.Units.{mag, sign, number, real, key, keyed, key→le, real-number, mag-below}
-use Rattle.float_laws.specs.Round.{rnd, rnd-real, real-zero}
-use Rattle.float_laws.specs.Mono.{o, rndU, rndU-mono, rndU-zero, center, center-up, center-down, key-zero, add-key, sub-key, add-number, sub-number, mul-number, mul-nonneg, nonneg-key, key-nonneg, size-nonneg, sizes, real-neg, key-neg, rndM, mul-key, center-mono}
-use Rattle.float_laws.specs.Bounds.{one, real-one, mag-one, real-between, sub-nonneg, add-nonneg, mul-le-left, mul-real, rndM-le}
+use Rattle.float_laws.specs.Round.{plus-zero, key-zero, rnd, rnd-real, real-zero}
+use Rattle.float_laws.specs.Mono.{rndU, rndU-mono, rndU-zero, center-up, center-down, add-key, sub-key, add-number, sub-number, mul-number, mul-nonneg, nonneg-key, key-nonneg, size-nonneg, sizes, real-neg, key-neg, rndM, mul-key, center-mono}
+use Rattle.float_laws.specs.Bounds.{one, real-one, mag-one, real-between, sub-nonneg, mul-le-left, mul-real, rndM-le}
+use Rattle.float_laws.specs.Exact.{sub-near}
 use Rattle.float_laws.specs.Error.{Close, rnd-close}
 
+abbrev pub toward : Format → Float → Float → Float → Float
+toward f a b t = add f a (mul f (sub f b a) t)
+
+-- ---- toward what is lower
+shrinks : (K : ℕ) (s : Bool) (m r : ℕ) → m ≤ K → r ≤ m → keyed K s m ≤ K → (keyed K s m ≤ keyed K s r) × (keyed K s r ≤ K)
+shrinks K false m r M h k = omega arith
+shrinks K true m r M h k = omega arith
+
+module _ (f : Format) (a b t : Float) (p : T (real f a)) (q : T (real f b)) (r : T (real f t)) (b0 : T (le plus-zero b)) (h : T (le b a))
+    (t0 : T (le plus-zero t)) (t1 : T (le t one)) where
+  sizes-ba : (mag f b ≤ mag f a) × (key f b ≡ overflow f + mag f b) × (key f a ≡ overflow f + mag f a)
+  sizes-ba = sizes f b a q p b0 h
+
+  drop-key : key f (sub f b a) + rndU f (mag f a - mag f b) ≡ overflow f
+  drop-key =
+      let K = overflow f in
+      let n = mag f a - mag f b in
+      let s = sizes-ba in
+      let m = mag-below f a p in
+      let small : rndU f n ≤ mag f a = le-trans (rndU-mono f n (mag f a) (omega arith)) (le-of-eq (rnd-real f a p)) in
+      omega (arith, sub-key f b a q p ∙ center-down K (rndU f) (key f b + (K + K - key f a)) n (rndU-zero f) (omega arith))
+
+  drop-bounds : (overflow f ≤ key f (sub f b a) + mag f a) × (key f (sub f b a) ≤ overflow f)
+  drop-bounds =
+      let n = mag f a - mag f b in
+      let small : rndU f n ≤ mag f a = le-trans (rndU-mono f n (mag f a) (omega arith)) (le-of-eq (rnd-real f a p)) in
+      (omega (arith, drop-key), omega (arith, drop-key))
+
+  drop-real : T (real f (sub f b a))
+  drop-real =
+      let n = real-neg f a p in
+      let z = real-zero f false in
+      let d = sub-number f b a q p in
+      let s = sizes-ba in
+      real-between f (neg a) (sub f b a) plus-zero d n z
+      (key→le f (neg a) (sub f b a) (real-number f (neg a) n) d (omega (arith, drop-bounds, key-neg f a (real-number f a p))))
+      (key→le f (sub f b a) plus-zero d (real-number f plus-zero z) (omega (arith, drop-bounds, key-zero f)))
+
+  step-key : (key f (sub f b a) ≤ key f (mul f (sub f b a) t)) × (key f (mul f (sub f b a) t) ≤ overflow f)
+  step-key =
+      let d = sub f b a in
+      let w = shrinks (overflow f) (sign d) (mag f d) (rndM f (mag f d) (mag f t)) (le-of-lt (mag-below f d drop-real)) (rndM-le f d t drop-real r t0 t1) (drop-bounds .1) in
+      let e = mul-key f d t drop-real r (nonneg-key f t (real-number f t r) t0) in
+      (omega (arith, e, w .0), omega (arith, e, w .1))
+
+  step-real : T (real f (mul f (sub f b a) t))
+  step-real =
+      let d = sub f b a in
+      let s = mul f d t in
+      let z = real-zero f false in
+      let n = mul-number f d t drop-real r in
+      real-between f d s plus-zero n drop-real z (key→le f d s (real-number f d drop-real) n (step-key .0))
+      (key→le f s plus-zero n (real-number f plus-zero z) (omega (arith, step-key .1, key-zero f)))
+
+  result-number : T (number f (toward f a b t))
+  result-number = add-number f a (mul f (sub f b a) t) p step-real
+
+  -- a sum of keys that is 2 K + m at least, or at most, for a value of the size m
+  at-least : (c : Float) → T (real f c) → overflow f + overflow f + mag f c ≤ key f a + key f (mul f (sub f b a) t)
+      → overflow f + mag f c ≤ key f (toward f a b t)
+  at-least c k l =
+      let K = overflow f in
+      let u = key f a + key f (mul f (sub f b a) t) in
+      omega
+      (arith, add-key f a (mul f (sub f b a) t) p step-real, center-up K (rndU f) (K + K + mag f c) (mag f c) refl, center-mono K (rndU f) (rndU-mono f) (K + K + mag f c) u l, rnd-real f c k)
+
+  pub toward-lower-nonneg : T (le plus-zero (toward f a b t))
+  toward-lower-nonneg =
+      let s = sizes-ba in
+      let z = at-least plus-zero (real-zero f false) (omega (arith, key-zero f, drop-bounds, step-key)) in
+      key-nonneg f (toward f a b t) result-number (omega (arith, z, key-zero f))
+
+  pub toward-lower-most : T (le (toward f a b t) a)
+  toward-lower-most =
+      let K = overflow f in
+      let m = mag f a in
+      let u = key f a + key f (mul f (sub f b a) t) in
+      let s = sizes-ba in
+      key→le f (toward f a b t) a result-number (real-number f a p)
+      (omega (arith, add-key f a (mul f (sub f b a) t) p step-real, center-up K (rndU f) (K + K + m) m refl, center-mono K (rndU f) (rndU-mono f) u (K + K + m) (omega (arith, step-key)), rnd-real f a p))
+
+  pub toward-lower-real : T (real f (toward f a b t))
+  toward-lower-real = real-between f plus-zero (toward f a b t) a result-number (real-zero f false) p toward-lower-nonneg toward-lower-most
+
+  pub toward-lower-least : mag f a ≤ mag f b * 2 → T (le b (toward f a b t))
+  toward-lower-least l =
+      let s = sizes-ba in
+      let a0 : T (le plus-zero a) = key-nonneg f a (real-number f a p) (omega arith) in
+      let e = sub-near f b a q p b0 a0 (omega arith) l in
+      key→le f b (toward f a b t) (real-number f b q) result-number (omega (arith, at-least b q (omega (arith, step-key))))
+
+-- ---- toward 1
 -- 1 + 2 ^ -24, halfway to the next value, rounds to 1, which is even
 tie : rndU binary32 (2 ^ 149 + 2 ^ 125) ≤ 2 ^ 149
 unfolding rnd round mag
@@ -31,8 +126,7 @@ small-key : (K m : ℕ) → m < K → K + m ≤ K + K
 small-key K m h = omega arith
 
 module _ (f : Format) (P : 2 ^ (prec f - 1) ≡ 8388608) (C : ℕ) (eC : 16777216 * C ≡ 16777217 * 2 ^ low f) (rC : rndU f C ≤ 2 ^ low f)
-    (l a : Float) (p : T (real f l)) (q : T (real f a)) (l0 : T (le o l)) (l1 : T (le l one)) (a0 : T (le o a)) (a1 : T (le a one)) where
-  -- ---- rising: l + (1 - l) * a
+    (l a : Float) (p : T (real f l)) (q : T (real f a)) (l0 : T (le plus-zero l)) (l1 : T (le l one)) (a0 : T (le plus-zero a)) (a1 : T (le a one)) where
   size-l : (mag f l ≤ mag f one) × (key f l ≡ overflow f + mag f l) × (key f one ≡ overflow f + mag f one)
   size-l = sizes f l one p (real-one f) l0 l1
 
@@ -44,7 +138,7 @@ module _ (f : Format) (P : 2 ^ (prec f - 1) ≡ 8388608) (C : ℕ) (eC : 1677721
       ∙ center-up K (rndU f) (key f one + (K + K - key f l)) (mag f one - mag f l)
       (keys-minus K (key f one) (key f l) (mag f l) (mag f one) (s .2) (s .1) (s .0) (le-trans (le-of-eq (s .1)) (small-key K (mag f l) (mag-below f l p))))
 
-  gap-0 : T (le o (sub f one l))
+  gap-0 : T (le plus-zero (sub f one l))
   gap-0 = sub-nonneg f one l (real-one f) p l1
 
   gap-1 : T (le (sub f one l) one)
@@ -53,101 +147,54 @@ module _ (f : Format) (P : 2 ^ (prec f - 1) ≡ 8388608) (C : ℕ) (eC : 1677721
       (omega (arith, gap-key, size-l .2, rndU-mono f (mag f one - mag f l) (mag f one) (omega arith), rnd-real f one (real-one f)))
 
   gap-real : T (real f (sub f one l))
-  gap-real = real-between f o (sub f one l) one (sub-number f one l (real-one f) p) (real-zero f false) (real-one f) gap-0 gap-1
+  gap-real = real-between f plus-zero (sub f one l) one (sub-number f one l (real-one f) p) (real-zero f false) (real-one f) gap-0 gap-1
 
-  step-real : T (real f (mul f (sub f one l) a))
-  step-real = mul-real f (sub f one l) a gap-real q gap-0 a0 a1
+  rise-real : T (real f (mul f (sub f one l) a))
+  rise-real = mul-real f (sub f one l) a gap-real q gap-0 a0 a1
 
-  step-0 : T (le o (mul f (sub f one l) a))
-  step-0 = mul-nonneg f (sub f one l) a gap-real q gap-0 a0
+  rise-0 : T (le plus-zero (mul f (sub f one l) a))
+  rise-0 = mul-nonneg f (sub f one l) a gap-real q gap-0 a0
 
-  pub rise-low : T (le o (add f l (mul f (sub f one l) a)))
-  rise-low = add-nonneg f l (mul f (sub f one l) a) p step-real l0 step-0
-
-  pub rise-high : T (le (add f l (mul f (sub f one l) a)) one)
-  rise-high =
+  rise-key : key f (toward f l one a) ≡ overflow f + rndU f (mag f l + mag f (mul f (sub f one l) a))
+  rise-key =
       let K = overflow f in
+      let t = mul f (sub f one l) a in
+      add-key f l t p rise-real
+      ∙ center-up K (rndU f) (key f l + key f t) (mag f l + mag f t)
+      (keys-sum K (key f l) (key f t) (mag f l) (mag f t) (size-nonneg f l p l0) (size-nonneg f t rise-real rise-0))
+
+  rise-number : T (number f (toward f l one a))
+  rise-number = add-number f l (mul f (sub f one l) a) p rise-real
+
+  rise-low : T (le l (toward f l one a))
+  rise-low =
+      let n = mag f l + mag f (mul f (sub f one l) a) in
+      key→le f l (toward f l one a) (real-number f l p) rise-number
+      (omega (arith, rise-key, size-nonneg f l p l0, rndU-mono f (mag f l) n (omega arith), rnd-real f l p))
+
+  rise-high : T (le (toward f l one a) one)
+  rise-high =
       let d = sub f one l in
       let t = mul f d a in
       let s = size-l in
-      let st = sizes f t d step-real gap-real step-0 (mul-le-left f d a gap-real q gap-0 a0 a1) in
-      let kt = size-nonneg f t step-real step-0 in
-      let kd : mag f d ≡ rndU f (mag f one - mag f l) = omega (arith, gap-key, size-nonneg f d gap-real gap-0) in
-      let close = subst (λ (z : ℕ). Close z (mag f one - mag f l) (rndU f (mag f one - mag f l))) P (rnd-close f (mag f one - mag f l) (subst (λ (z : ℕ). z < overflow f) kd (mag-below f d gap-real))) in
+      let n = mag f one - mag f l in
+      let less = sizes f t d rise-real gap-real rise-0 (mul-le-left f d a gap-real q gap-0 a0 a1) .0 in
+      let kd : mag f d ≡ rndU f n = omega (arith, gap-key, size-nonneg f d gap-real gap-0) in
+      let close = subst (λ (z : ℕ). Close z n (rndU f n)) P (rnd-close f n (subst (λ (z : ℕ). z < overflow f) kd (mag-below f d gap-real))) in
       let one-is = mag-one f in
-      let top : mag f l + mag f t ≤ C = under-tie (mag f l) (rndU f (mag f one - mag f l)) (mag f t) (mag f one) C (s .0) (close .hi) (eC ∙ ap (λ (z : ℕ). 16777217 * z) (sym one-is)) (le-trans (st .0) (le-of-eq kd)) in
-      let sum-key = add-key f l t p step-real ∙ center-up K (rndU f) (key f l + key f t) (mag f l + mag f t) (keys-sum K (key f l) (key f t) (mag f l) (mag f t) (s .1) kt) in
-      key→le f (add f l t) one (add-number f l t p step-real) (real-number f one (real-one f))
-      (omega (arith, sum-key, s .2, rndU-mono f (mag f l + mag f t) C top, rC, one-is))
+      let top : mag f l + mag f t ≤ C = under-tie (mag f l) (rndU f n) (mag f t) (mag f one) C (s .0) (close .hi) (eC ∙ ap (λ (z : ℕ). 16777217 * z) (sym one-is)) (le-trans less (le-of-eq kd)) in
+      key→le f (toward f l one a) one rise-number (real-number f one (real-one f))
+      (omega (arith, rise-key, s .2, rndU-mono f (mag f l + mag f t) C top, rC, one-is))
 
--- ---- falling: l + (0 - l) * a
-keys-down : (K k j m : ℕ) → k ≡ K → j ≡ K + m → m < K → k + (K + K - j) + m ≡ K + K
-keys-down K k j m a b h = omega arith
+-- for f32
+module _ (l a : Float) (p : T (real binary32 l)) (q : T (real binary32 a)) (l0 : T (le plus-zero l)) (l1 : T (le l one)) (a0 : T (le plus-zero a))
+    (a1 : T (le a one)) where
+  pub toward-one-least : T (le l (toward binary32 l one a))
+  toward-one-least = rise-low binary32 refl (2 ^ 149 + 2 ^ 125) refl tie l a p q l0 l1 a0 a1
 
-shrinks : (K : ℕ) (s : Bool) (m r : ℕ) → m ≤ K → r ≤ m → keyed K s m ≤ K → (keyed K s m ≤ keyed K s r) × (keyed K s r ≤ K)
-shrinks K false m r M h k = omega arith
-shrinks K true m r M h k = omega arith
+  pub toward-one-most : T (le (toward binary32 l one a) one)
+  toward-one-most = rise-high binary32 refl (2 ^ 149 + 2 ^ 125) refl tie l a p q l0 l1 a0 a1
 
-module _ (f : Format) (l a : Float) (p : T (real f l)) (q : T (real f a)) (l0 : T (le o l)) (a0 : T (le o a)) (a1 : T (le a one)) where
-  o-real : T (real f o)
-  o-real = real-zero f false
-
-  drop-key : key f (sub f o l) + mag f l ≡ overflow f
-  drop-key =
-      let K = overflow f in
-      let m = mag f l in
-      let z : rndU f m ≡ m = rnd-real f l p in
-      omega (arith, mag-below f l p, z, sub-key f o l o-real p ∙ center-down K (rndU f) (key f o + (K + K - key f l)) m (rndU-zero f) (keys-down K (key f o) (key f l) m (key-zero f) (size-nonneg f l p l0) (mag-below f l p)))
-
-  drop-number : T (number f (sub f o l))
-  drop-number = sub-number f o l o-real p
-
-  drop-real : T (real f (sub f o l))
-  drop-real =
-      let n = real-neg f l p in
-      real-between f (neg l) (sub f o l) o drop-number n o-real
-      (key→le f (neg l) (sub f o l) (real-number f (neg l) n) drop-number (omega (arith, drop-key, key-neg f l (real-number f l p), size-nonneg f l p l0, mag-below f l p)))
-      (key→le f (sub f o l) o drop-number (real-number f o o-real) (omega (arith, drop-key, key-zero f)))
-
-  fall-key : (key f (sub f o l) ≤ key f (mul f (sub f o l) a)) × (key f (mul f (sub f o l) a) ≤ overflow f)
-  fall-key =
-      let d = sub f o l in
-      let w = shrinks (overflow f) (sign d) (mag f d) (rndM f (mag f d) (mag f a)) (le-of-lt (mag-below f d drop-real)) (rndM-le f d a drop-real q a0 a1) (omega (arith, drop-key)) in
-      let e = mul-key f d a drop-real q (nonneg-key f a (real-number f a q) a0) in
-      (omega (arith, e, w .0), omega (arith, e, w .1))
-
-  fall-real : T (real f (mul f (sub f o l) a))
-  fall-real =
-      let d = sub f o l in
-      let t = mul f d a in
-      let n = mul-number f d a drop-real q in
-      real-between f d t o n drop-real o-real (key→le f d t drop-number n (fall-key .0)) (key→le f t o n (real-number f o o-real) (omega (arith, fall-key .1, key-zero f)))
-
-  fall-sum : (overflow f ≤ key f (add f l (mul f (sub f o l) a))) × (key f (add f l (mul f (sub f o l) a)) ≤ key f l)
-  fall-sum =
-      let K = overflow f in
-      let t = mul f (sub f o l) a in
-      let m = mag f l in
-      let kl = size-nonneg f l p l0 in
-      let lo : K + K ≤ key f l + key f t = omega (arith, drop-key, fall-key .0) in
-      let hi : key f l + key f t ≤ K + K + m = omega (arith, fall-key .1) in
-      let u : center K (rndU f) (K + K) ≡ K + rndU f 0 = center-up K (rndU f) (K + K) 0 (omega arith) in
-      let v : center K (rndU f) (K + K + m) ≡ K + rndU f m = center-up K (rndU f) (K + K + m) m refl in
-      let x = center-mono K (rndU f) (rndU-mono f) (K + K) (key f l + key f t) lo in
-      let y = center-mono K (rndU f) (rndU-mono f) (key f l + key f t) (K + K + m) hi in
-      let e = add-key f l t p fall-real in
-      (omega (arith, u, x, e), omega (arith, v, y, e, rnd-real f l p))
-
-  pub fall-low : T (le o (add f l (mul f (sub f o l) a)))
-  fall-low = key-nonneg f (add f l (mul f (sub f o l) a)) (add-number f l (mul f (sub f o l) a) p fall-real) (fall-sum .0)
-
-  pub fall-high : T (le (add f l (mul f (sub f o l) a)) l)
-  fall-high = key→le f (add f l (mul f (sub f o l) a)) l (add-number f l (mul f (sub f o l) a) p fall-real) (real-number f l p) (fall-sum .1)
-
--- ---- for f32
-module _ (l a : Float) (p : T (real binary32 l)) (q : T (real binary32 a)) (l0 : T (le o l)) (l1 : T (le l one)) (a0 : T (le o a)) (a1 : T (le a one)) where
-  pub rise-32 : T (le o (add binary32 l (mul binary32 (sub binary32 one l) a))) × T (le (add binary32 l (mul binary32 (sub binary32 one l) a)) one)
-  rise-32 = (rise-low binary32 refl (2 ^ 149 + 2 ^ 125) refl tie l a p q l0 l1 a0 a1, rise-high binary32 refl (2 ^ 149 + 2 ^ 125) refl tie l a p q l0 l1 a0 a1)
-
-  pub fall-32 : T (le o (add binary32 l (mul binary32 (sub binary32 o l) a))) × T (le (add binary32 l (mul binary32 (sub binary32 o l) a)) l)
-  fall-32 = (fall-low binary32 l a p q l0 a0 a1, fall-high binary32 l a p q l0 a0 a1)
+  pub toward-one-real : T (real binary32 (toward binary32 l one a))
+  toward-one-real =
+      real-between binary32 l (toward binary32 l one a) one (rise-number binary32 refl (2 ^ 149 + 2 ^ 125) refl tie l a p q l0 l1 a0 a1) p (real-one binary32) toward-one-least toward-one-most

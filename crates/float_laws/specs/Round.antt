@@ -3,7 +3,7 @@
 use mathlib.Core.Path.{_≡_, refl, sym, ap, _∙_, subst}
 use mathlib.Core.Bool.{Bool, true, false, not, cond}
 use Prim.Native.Nat.{ℕ, zero, suc, _+_, _-_, _*_, _/_, _^_, _≤_, _<_}
-use native.Mathlib.Nat.{zero-mul, mul-assoc, mul-right-comm, eq-of-mul-eq-mul-right, mul-one, zero-div}
+use native.Mathlib.Nat.{mul-pos, zero-mul, mul-assoc, mul-right-comm, eq-of-mul-eq-mul-right, mul-one, zero-div}
 use lib.Ieee.Digits.{back}
 use native.Mathlib.Omega.{arith}
 use lib.IntN.{ℤ, pos, negsuc}
@@ -106,7 +106,22 @@ mag-of-value f (fin t m e) s a c h v =
     ∙ ap (λ (z : ℕ). z * 2 ^ low f) (v .1)
     ∙ mul-right-comm a (down e) (2 ^ low f))
 
--- ---- every finite value of the format is one that `round` leaves alone
+-- ---- a whole number of units that the format holds: at most `prec` binary digits, and zeros after them
+pub record Held (f : Format) (n : ℕ) : Type 0 where
+  pub digits : ℕ
+  pub zeros : ℕ
+  pub is : n ≡ digits * 2 ^ zeros
+  pub short : digits < 2 ^ prec f
+
+-- a fraction that is such a number of units, below the overflow, rounds to it
+pub rnd-held : (f : Format) (n a c : ℕ) → Held f n → n < overflow f → 0 < c → a * 2 ^ low f ≡ n * c → rnd f a c ≡ n
+unfolding rnd
+rnd-held f n a c h b C e =
+    let r = round f false a c in
+    let v = round-exact f false a c (h .digits) (h .zeros) C (h .short) (subst (λ (z : ℕ). z < overflow f) (h .is) b) (e ∙ ap (λ (z : ℕ). z * c) (h .is)) in
+    eq-of-mul-eq-mul-right c C (mag f r) n (mag-of-value f r false a c (round-fits f false a c) v ∙ e)
+
+-- every finite value is one
 shift : (m l : ℕ) (e : ℤ) → down e ≤ 2 ^ l → (j : ℕ) × (m * up e * 2 ^ l ≡ m * 2 ^ j * down e)
 shift m l (pos k) h = (k + l, mul-assoc m (2 ^ k) (2 ^ l) ∙ ap (λ (z : ℕ). m * z) (sym (pow-add 2 k l)) ∙ sym (mul-one (m * 2 ^ (k + l))))
 shift m l (negsuc k) h = (
@@ -117,28 +132,28 @@ shift m l (negsuc k) h = (
       ∙ sym (mul-assoc m (2 ^ (l - suc k)) (2 ^ suc k)),
 )
 
-rnd-fin : (f : Format) (s : Bool) (m : ℕ) (e : ℤ) → T (fits f (fin s m e)) → rnd f (mag f (fin s m e)) (2 ^ low f) ≡ mag f (fin s m e)
-unfolding rnd
-rnd-fin f s m e h =
-    let x = fin s m e in
-    let L = 2 ^ low f in
-    let (j, E) = shift m (low f) e (down-le f s m e h) in
-    let is : mag f x ≡ m * 2 ^ j = eq-of-mul-eq-mul-right (down e) (down-pos e) (mag f x) (m * 2 ^ j) (mag-exact f s m e h ∙ E) in
-    let v = round-exact f false (m * up e) (down e) m j (down-pos e) (digits-below f s m e h) (subst (λ (z : ℕ). z < overflow f) is (mag-below f x h)) E in
-    let r = round f false (m * up e) (down e) in
-    ap (mag f) (round-same f false (mag f x) L (m * up e) (down e) (pow-pos (low f)) (down-pos e) (mag-exact f s m e h))
-    ∙ eq-of-mul-eq-mul-right (down e) (down-pos e) (mag f r) (mag f x) (mag-of-value f r false (m * up e) (down e) (round-fits f false (m * up e) (down e)) v ∙ sym (mag-exact f s m e h))
+pub held-real : (f : Format) (x : Float) → T (real f x) → Held f (mag f x)
+held-real f nan p = absurd p
+held-real f (inf s) p = absurd p
+held-real f (fin s m e) p =
+    let (j, E) = shift m (low f) e (down-le f s m e p) in
+    record { digits = m; zeros = j; is = eq-of-mul-eq-mul-right (down e) (down-pos e) (mag f (fin s m e)) (m * 2 ^ j) (mag-exact f s m e p ∙ E); short = digits-below f s m e p }
 
 pub rnd-real : (f : Format) (x : Float) → T (real f x) → rnd f (mag f x) (2 ^ low f) ≡ mag f x
-rnd-real f nan h = absurd h
-rnd-real f (inf s) h = absurd h
-rnd-real f (fin s m e) h = rnd-fin f s m e h
+rnd-real f x p = rnd-held f (mag f x) (mag f x) (2 ^ low f) (held-real f x p) (mag-below f x p) (pow-pos (low f)) refl
 
 -- a fraction that a finite value equals rounds to that value
 pub rnd-exact : (f : Format) (x : Float) (a c : ℕ) → T (real f x) → 0 < c → a * 2 ^ low f ≡ mag f x * c → rnd f a c ≡ mag f x
 rnd-exact f x a c p C h = rnd-same f a c (mag f x) (2 ^ low f) C (pow-pos (low f)) h ∙ rnd-real f x p
 
+-- how many units of the square make 1
+pub squared-pos : (f : Format) → 0 < 2 ^ low f * 2 ^ low f
+squared-pos f = mul-pos (pow-pos (low f)) (pow-pos (low f))
+
 -- ---- zero
+abbrev pub plus-zero : Float
+plus-zero = fin false 0 (pos 0)
+
 pub mag-zero : (f : Format) (s : Bool) (e : ℤ) → mag f (fin s 0 e) ≡ 0
 unfolding mag
 mag-zero f s e = ap (λ (z : ℕ). z * 2 ^ low f / down e) (zero-mul (up e)) ∙ ap (λ (z : ℕ). z / down e) (zero-mul (2 ^ low f)) ∙ zero-div (down e)
@@ -149,5 +164,8 @@ real-zero f s = tt
 
 pub rnd-zero : (f : Format) (c : ℕ) → 0 < c → rnd f 0 c ≡ 0
 rnd-zero f c C =
-    let o = fin false 0 (pos 0) in
-    rnd-exact f o 0 c (real-zero f false) C (zero-mul (2 ^ low f) ∙ sym (zero-mul c) ∙ ap (λ (z : ℕ). z * c) (sym (mag-zero f false (pos 0)))) ∙ mag-zero f false (pos 0)
+    rnd-exact f plus-zero 0 c (real-zero f false) C (zero-mul (2 ^ low f) ∙ sym (zero-mul c) ∙ ap (λ (z : ℕ). z * c) (sym (mag-zero f false (pos 0))))
+    ∙ mag-zero f false (pos 0)
+
+pub key-zero : (f : Format) → key f plus-zero ≡ overflow f
+key-zero f = omega (arith, mag-zero f false (pos 0))

@@ -1,14 +1,13 @@
 -- What the order of two finite values says of their signs and sizes as fractions. Assumes nothing.
-use mathlib.Core.Path.{_≡_, refl, sym, ap, _∙_, subst}
-use mathlib.Core.Bool.{Bool, true, false, not, cond, _&&_, _||_}
-use Prim.Native.Nat.{ℕ, zero, suc, _+_, _-_, _*_, _/_, _^_, _≤_, _<_}
-use native.Mathlib.Nat.{le-trans, le-of-eq, le-of-lt, mul-comm, mul-assoc, mul-right-comm, mul-le-mul-right, add-mul, mul-sub, zero-mul}
-use native.Mathlib.Omega.{arith}
-use lib.Dec.{T, ltb, eqb, ltb→lt, eqb→eq, lit<}
+use mathlib.Core.Path.{_≡_, sym, ap, _∙_}
+use mathlib.Core.Bool.{Bool, true, false, _&&_, _||_}
+use Prim.Native.Nat.{ℕ, _-_, _*_, _≤_, _<_}
+use native.Mathlib.Nat.{le-of-eq, le-of-lt, mul-comm, mul-sub}
+use lib.Dec.{T, ltb, eqb, ltb→lt, eqb→eq}
 use lib.IntN.{ℤ}
-use lib.Ieee.{Float, nan, inf, fin, Format, up, down, low, emax, prec, le, lt, eq, neg, odd, units, round}
-use lib.Ieee.Fits.{down-pos, and-l, and-r}
-use lib.Ieee.Nearest.{div-mono}
+use lib.Ieee.{fin, Format, up, down, le, neg, round}
+use lib.Ieee.Fits.{and-l, and-r}
+use Rattle.float_laws.specs.Round.{round-neg}
 
 -- what ±x ≤ ±y says of the magnitudes
 abbrev pub Ord : Bool → ℕ → Bool → ℕ → Type 0
@@ -21,21 +20,16 @@ pub sub-mul : (a b c : ℕ) → (a - b) * c ≡ a * c - b * c
 sub-mul a b c = mul-comm (a - b) c ∙ mul-sub c a b ∙ ap (λ (z : ℕ). z - c * b) (mul-comm c a) ∙ ap (λ (z : ℕ). a * c - z) (mul-comm c b)
 
 -- ---- what `le` says
+either : (a b : ℕ) (u v z : Bool) → (T u → a < b) → (T v → a ≡ b) → T (u || (v && z)) → a ≤ b
+either a b true v z f g t = le-of-lt (f tt)
+either a b false true z f g t = le-of-eq (g tt)
+either a b false false z f g t = absurd t
+
 pub le-or-eq : (a b : ℕ) (z : Bool) → T (ltb a b || (eqb a b && z)) → a ≤ b
-le-or-eq a b z = go (ltb a b) (eqb a b) (ltb→lt a b) (eqb→eq a b)
-  where
-    go : (u v : Bool) → (T u → a < b) → (T v → a ≡ b) → T (u || (v && z)) → a ≤ b
-    go true v f g t = le-of-lt (f tt)
-    go false true f g t = le-of-eq (g tt)
-    go false false f g t = absurd t
+le-or-eq a b z = either a b (ltb a b) (eqb a b) z (ltb→lt a b) (eqb→eq a b)
 
 ge-or-eq : (a b : ℕ) (z : Bool) → T (ltb b a || (eqb a b && z)) → b ≤ a
-ge-or-eq a b z = go (ltb b a) (eqb a b) (ltb→lt b a) (eqb→eq a b)
-  where
-    go : (u v : Bool) → (T u → b < a) → (T v → a ≡ b) → T (u || (v && z)) → b ≤ a
-    go true v f g t = le-of-lt (f tt)
-    go false true f g t = le-of-eq (sym (g tt))
-    go false false f g t = absurd t
+ge-or-eq a b z = either b a (ltb b a) (eqb a b) z (ltb→lt b a) (λ t. sym (eqb→eq a b t))
 
 both-zero : (a b : ℕ) → T (eqb a b && (false || eqb a 0)) → (a ≡ 0) × (b ≡ 0)
 both-zero a b t =
@@ -50,20 +44,6 @@ ord-of-le false m e true n d h = both-zero (m * up e * down d) (n * up d * down 
 ord-of-le true m e false n d h = tt
 ord-of-le true m e true n d h = ge-or-eq (m * up e * down d) (n * up d * down e) true h
 
--- ---- the sign
-neg-odd : (d q k l : ℕ) → neg (odd d false q k l) ≡ odd d true q k l
-unfolding neg odd
-neg-odd d zero k l = refl
-neg-odd d (suc q) k l = refl
-
-neg-units : (f : Format) (q k : ℕ) → neg (units f false q k) ≡ units f true q k
-unfolding units neg
-neg-units f q k = go (ltb (q * 2 ^ k) (2 ^ (low f + suc (emax f))))
-  where
-    go : (b : Bool) → neg (cond b (odd (suc (prec f)) false q k (low f)) (inf false)) ≡ cond b (odd (suc (prec f)) true q k (low f)) (inf true)
-    go true = neg-odd (suc (prec f)) q k (low f)
-    go false = refl
-
+-- ---- the sign of a rounding
 pub neg-round : (f : Format) (n d : ℕ) → neg (round f false n d) ≡ round f true n d
-unfolding round
-neg-round f n d = neg-units f _ _
+neg-round f n d = sym (round-neg f n d)

@@ -1,60 +1,57 @@
--- The dual window over f32: the operations in the order of the code, and the bound. Assumes nothing.
+-- The dual window over one residue class, as the list of the class's values: the operations in the order of the code, and the bound of Dual for them. Assumes nothing.
 use mathlib.Core.Path.{_≡_, refl, sym, ap, _∙_, subst}
-use mathlib.Core.Bool.{Bool, true, false, not, cond, true≢false}
+use mathlib.Core.Bool.{Bool, true, false}
 use mathlib.Core.List.{List, [], _∷_, _++_}
 use Prim.Native.Nat.{ℕ, suc, _+_, _-_, _*_, _^_, _≤_, _<_}
-use native.Mathlib.Nat.{mul-comm, mul-assoc, mul-left-comm, mul-right-comm, mul-pos, add-mul, le-trans, le-of-eq, le-of-lt, lt-of-le-of-lt, mul-le-mul, mul-le-mul-right, le-of-mul-le-mul-right, pow-suc, zero-add, add-assoc, add-comm, div-one}
+use native.Mathlib.Nat.{mul-comm, mul-assoc, mul-left-comm, mul-right-comm, add-comm, zero-add, le-trans, le-of-eq, le-of-lt, lt-of-le-of-lt, mul-le-mul, mul-le-mul-right, le-of-mul-le-mul-right, pow-suc, div-one}
 use native.Mathlib.Omega.{arith}
-use lib.IntN.{pos, negsuc}
+use lib.IntN.{pos}
 use lib.Pow.{pow-pos, pow-mono}
 use lib.Dec.{T, lit≤, not-T}
-use lib.ListN.{length, length-append}
-use lib.Ieee.{Float, nan, inf, fin, Format, binary32, prec, emax, low, fits, add, mul, div, lt, le, unlike, round, neg}
+use lib.ListN.{length, getD, take, drop, length-append, take-append-drop}
+use lib.Ieee.{Float, nan, fin, Format, prec, emax, low, fits, add, mul, div, lt, le, unlike, round, neg}
+use lib.Ieee.Bits.{cond-no}
 use lib.Ieee.Scale.{overflow}
-use Rattle.float_laws.specs.Units.{mag, sign, number, real, key, keyed, mag-inf, mag-below, lt→key, le→key, real-number}
-use Rattle.float_laws.specs.Order.{larger, le-left}
-use Rattle.float_laws.specs.Round.{rnd, sign-round, mag-round, round-number, mag-zero, real-zero}
-use Rattle.float_laws.specs.Ops.{mul-round, div-round, add-sum, sum-clear}
-use Rattle.float_laws.specs.Mono.{o, rndU, rndM, real-neg}
+use Rattle.lists.specs.Maps.{tabulate, length-tab}
+use Rattle.lists.specs.Folds.{fold, range}
+use Rattle.lists.specs.Totals.{total, All, total-append, all-append, all-take, all-drop, all-at, all-tab, total-tab, total-getD}
+use Rattle.float_laws.specs.Units.{mag, sign, real, key, keyed, real-of-size, mag-below, lt→key, le→key, real-number, keyed-le}
+use Rattle.float_laws.specs.Order.{maximum, maximum-number, le-left}
+use Rattle.float_laws.specs.Round.{plus-zero, rnd, sign-round, mag-round, round-number, mag-zero, real-zero, squared-pos}
+use Rattle.float_laws.specs.Ops.{mul-round, div-round, add-sum, sum-clear, unlike-clear}
+use Rattle.float_laws.specs.Mono.{rndU, rndM, real-neg}
 use Rattle.float_laws.specs.Error.{Within, Close, rnd-within, rnd-close, hi-32, lo-32}
-use Rattle.float_laws.specs.Bounds.{one, real-between}
+use Rattle.float_laws.specs.Bounds.{real-between}
 use Rattle.float_laws.specs.Power.{rnd-power, power-below, real-power}
-use Rattle.float_laws.specs.Near.{B, Near, near-of, near-20}
-use Rattle.float_laws.specs.Dual.{total, All, rolled, Steps, sum-near, Sq, sq, squares-near, Item, Good, prod, square, dual-near}
+use Rattle.float_laws.specs.Near.{B, Near, near-of, untimes}
+use Rattle.float_laws.specs.Dual.{rolled, Steps, sum-near, Sq, sq, squares-near, Item, Good, prod, square, dual-near}
 
 -- ---- the code's steps
--- the squares, summed from the left onto d
+abbrev pub squared : Format → Float → Float
+squared f x = mul f x x
+
+-- the squares of a list's values, summed from the left onto d
 abbrev pub energy : Format → Float → List Float → Float
-energy f d [] = d
-energy f d (x ∷ xs) = energy f (add f d (mul f x x)) xs
+energy f d ys = fold (λ s x. add f s (squared f x)) d ys
 
--- the value x over the larger of that sum and c
+-- the value x over that sum, or over c where the sum is below c
 abbrev pub dual : Format → Float → List Float → Float → Float
-dual f c ys x = div f x (larger (energy f o ys) c)
+dual f c ys x = div f x (maximum (energy f plus-zero ys) c)
 
--- of each entry of the second list its dual, the sum being taken from the entry on, round the end to the first list
-abbrev pub pairs : Format → Float → List Float → List Float → List (Float × Float)
-pairs f c pre [] = []
-pairs f c pre (x ∷ xs) = (x, dual f c (x ∷ xs ++ pre) x) ∷ pairs f c (pre ++ (x ∷ [])) xs
+-- the list read from place j on, round its end
+abbrev pub turn : ℕ → List Float → List Float
+turn j xs = drop j xs ++ take j xs
 
 -- ---- a finite value with a clear sign
-pub record Plain (f : Format) (x : Float) (n : ℕ) : Type 0 where
-  pub is-real : T (real f x)
-  pub clear : sign x ≡ false
-  pub size : mag f x ≡ n
-
-finite-number : (f : Format) (x : Float) → T (number f x) → mag f x < overflow f → T (real f x)
-finite-number f nan p h = p
-finite-number f (inf s) p h = absurd (clash (overflow f) (mag f (inf s)) (mag-inf f s) h)
-  where
-    clash : (a b : ℕ) → b ≡ a → b < a → ⊥
-    clash a b e l = omega arith
-finite-number f (fin s m e) p h = p
+record Plain (f : Format) (x : Float) (n : ℕ) : Type 0 where
+  is-real : T (real f x)
+  clear : sign x ≡ false
+  size : mag f x ≡ n
 
 plain-round : (f : Format) (a c : ℕ) → rnd f a c < overflow f → Plain f (round f false a c) (rnd f a c)
 plain-round f a c h =
     record {
-      is-real = finite-number f (round f false a c) (round-number f false a c) (lt-of-le-of-lt (le-of-eq (mag-round f false a c)) h);
+      is-real = real-of-size f (round f false a c) (round-number f false a c) (lt-of-le-of-lt (le-of-eq (mag-round f false a c)) h);
       clear = sign-round f false a c;
       size = mag-round f false a c;
     }
@@ -79,12 +76,12 @@ add-plain f x y m n p q h =
     ∙ ap (λ (z : ℕ). round f false (m + z) (2 ^ low f)) (q .size)))
     (plain-round f (m + n) (2 ^ low f) h)
 
-abbrev pub mags : Format → List Float → List ℕ
+abbrev mags : Format → List Float → List ℕ
 mags f [] = []
 mags f (x ∷ xs) = mag f x ∷ mags f xs
 
 -- a value whose size is at most 16
-pub record Ok (f : Format) (x : Float) : Type 0 where
+pub record AtMost16 (f : Format) (x : Float) : Type 0 where
   pub is-real : T (real f x)
   pub small : mag f x ≤ 16 * 2 ^ low f
 
@@ -92,21 +89,22 @@ pub record Ok (f : Format) (x : Float) : Type 0 where
 square-le : (m L : ℕ) → m ≤ 16 * L → m * m * L ≤ 256 * L * (L * L)
 square-le m L h =
     let a : m * m ≤ 16 * L * (16 * L) = mul-le-mul h h in
-    let e : 16 * L * (16 * L) ≡ 256 * (L * L) = simp (mul-assoc, mul-comm, mul-left-comm) (omega arith) in
-    let g : 256 * (L * L) * L ≡ 256 * L * (L * L) = simp (mul-assoc, mul-comm, mul-left-comm) in
+    let e : 16 * L * (16 * L) ≡ 256 * (L * L) = simp (mul-assoc, mul-left-comm) (omega arith) in
+    let g : 256 * (L * L) * L ≡ 256 * L * (L * L) = simp mul-assoc in
     le-trans (mul-le-mul-right L (le-trans a (le-of-eq e))) (le-of-eq g)
 
-strip-hi : (q m L : ℕ) → 0 < L → 8388608 * (2 * (q * (L * L))) ≤ 8388608 * (2 * (m * m * L)) + (m * m * L + 8388608 * (L * L)) → B * (q * L) ≤ 16777217 * (m * m) + 8388608 * L
-strip-hi q m L L0 h =
-    let a : B * (q * L) * L ≡ B * (q * (L * L)) = mul-assoc B (q * L) L ∙ ap (λ (z : ℕ). B * z) (mul-assoc q L L) in
-    let b : (16777217 * (m * m) + 8388608 * L) * L ≡ 16777217 * (m * m * L) + 8388608 * (L * L) = add-mul (16777217 * (m * m)) (8388608 * L) L ∙ ap (λ (z : ℕ). z + 8388608 * L * L) (mul-assoc 16777217 (m * m) L) ∙ ap (λ (z : ℕ). 16777217 * (m * m * L) + z) (mul-assoc 8388608 L L) in
-    le-of-mul-le-mul-right (omega arith) L0
+module _ (q m L : ℕ) (L0 : 0 < L) where
+  left : L * (q * L) ≡ q * (L * L)
+  left = mul-left-comm L q L
 
-strip-lo : (q m L : ℕ) → 0 < L → 8388608 * (2 * (m * m * L)) ≤ 8388608 * (2 * (q * (L * L))) + (m * m * L + 8388608 * (L * L)) → 16777215 * (m * m) ≤ B * (q * L) + 8388608 * L
-strip-lo q m L L0 h =
-    let a : 16777215 * (m * m) * L ≡ 16777215 * (m * m * L) = mul-assoc 16777215 (m * m) L in
-    let b : (B * (q * L) + 8388608 * L) * L ≡ B * (q * (L * L)) + 8388608 * (L * L) = add-mul (B * (q * L)) (8388608 * L) L ∙ ap (λ (z : ℕ). z + 8388608 * L * L) (mul-assoc B (q * L) L ∙ ap (λ (z : ℕ). B * z) (mul-assoc q L L)) ∙ ap (λ (z : ℕ). B * (q * (L * L)) + z) (mul-assoc 8388608 L L) in
-    le-of-mul-le-mul-right (omega arith) L0
+  right : L * (m * m) ≡ m * m * L
+  right = mul-comm L (m * m)
+
+  strip-hi : 8388608 * (2 * (q * (L * L))) ≤ 8388608 * (2 * (m * m * L)) + (m * m * L + 8388608 * (L * L)) → B * (q * L) ≤ 16777217 * (m * m) + 8388608 * L
+  strip-hi h = untimes L B 16777217 8388608 (q * L) (m * m) L L0 (omega (arith, left, right))
+
+  strip-lo : 8388608 * (2 * (m * m * L)) ≤ 8388608 * (2 * (q * (L * L))) + (m * m * L + 8388608 * (L * L)) → 16777215 * (m * m) ≤ B * (q * L) + 8388608 * L
+  strip-lo h = untimes L 16777215 B 8388608 (m * m) (q * L) L L0 (omega (arith, left, right))
 
 double : (j d q L : ℕ) → 8 ≤ j → d ≤ 2 ^ j * L → q ≤ 256 * L → d + q ≤ 2 ^ suc j * L
 double j d q L h a b =
@@ -119,9 +117,6 @@ module _ (f : Format) (P : 2 ^ (prec f - 1) ≡ 8388608) (big : 2 ^ 57 ≤ 2 ^ l
   L0 : 0 < 2 ^ low f
   L0 = pow-pos (low f)
 
-  LL0 : 0 < 2 ^ low f * 2 ^ low f
-  LL0 = mul-pos (pow-pos (low f)) (pow-pos (low f))
-
   abbrev q : ℕ → ℕ
   q m = rndM f m m
 
@@ -129,14 +124,14 @@ module _ (f : Format) (P : 2 ^ (prec f - 1) ≡ 8388608) (big : 2 ^ 57 ≤ 2 ^ l
   up d g = rndU f (d + g)
 
   q-le : (m : ℕ) → m ≤ 16 * 2 ^ low f → q m ≤ 256 * 2 ^ low f
-  q-le m h = rnd-power f 8 (m * m) (2 ^ low f * 2 ^ low f) (le-trans (lit≤ tt) wide) LL0 (square-le m (2 ^ low f) h)
+  q-le m h = rnd-power f 8 (m * m) (2 ^ low f * 2 ^ low f) (le-trans (lit≤ tt) wide) (squared-pos f) (square-le m (2 ^ low f) h)
 
   q-below : (m : ℕ) → m ≤ 16 * 2 ^ low f → q m < overflow f
   q-below m h = lt-of-le-of-lt (q-le m h) (power-below f 8 (le-trans (lit≤ tt) wide))
 
   q-sq : (m : ℕ) → m ≤ 16 * 2 ^ low f → Sq (2 ^ low f) q m
   q-sq m h =
-      let w = subst (λ (z : ℕ). Within z (m * m * 2 ^ low f) (2 ^ low f * 2 ^ low f) (q m)) P (rnd-within f (m * m) (2 ^ low f * 2 ^ low f) LL0 (q-below m h)) in
+      let w = subst (λ (z : ℕ). Within z (m * m * 2 ^ low f) (2 ^ low f * 2 ^ low f) (q m)) P (rnd-within f (m * m) (2 ^ low f * 2 ^ low f) (squared-pos f) (q-below m h)) in
       record { hi = strip-hi (q m) m (2 ^ low f) L0 (w .hi); lo = strip-lo (q m) m (2 ^ low f) L0 (w .lo) }
 
   near-up : (n : ℕ) → rndU f n < overflow f → Near 1 (rndU f n) n
@@ -151,14 +146,16 @@ module _ (f : Format) (P : 2 ^ (prec f - 1) ≡ 8388608) (big : 2 ^ 57 ≤ 2 ^ l
   up-below j d g h k a b = lt-of-le-of-lt (up-le j d g h k a b) (power-below f (suc j) (le-trans k wide))
 
   -- the sum's roundings, and the sum
-  steps : (j d : ℕ) (xs : List Float) → 8 ≤ j → j + length xs ≤ 64 → d ≤ 2 ^ j * 2 ^ low f → All (Ok f) xs → Steps up q d (mags f xs)
+  steps : (j d : ℕ) (xs : List Float) → 8 ≤ j → j + length xs ≤ 64 → d ≤ 2 ^ j * 2 ^ low f → All (AtMost16 f) xs → Steps up q d (mags f xs)
   steps j d [] h k a b = tt
   steps j d (x ∷ xs) h k a b =
       let g = q-le (mag f x) (b .0 .small) in
       let s : suc j ≤ 64 = omega arith in
       (near-up (d + q (mag f x)) (up-below j d (q (mag f x)) h s a g), steps (suc j) (up d (q (mag f x))) xs (omega arith) (omega arith) (up-le j d (q (mag f x)) h s a g) (b .1))
 
-  energy-plain : (j : ℕ) (d : Float) (n : ℕ) (xs : List Float) → 8 ≤ j → j + length xs ≤ 64 → Plain f d n → n ≤ 2 ^ j * 2 ^ low f → All (Ok f) xs → Plain f (energy f d xs) (rolled up q n (mags f xs))
+  energy-plain : (j : ℕ) (d : Float) (n : ℕ) (xs : List Float) → 8 ≤ j → j + length xs ≤ 64 → Plain f d n → n ≤ 2 ^ j * 2 ^ low f → All (AtMost16 f) xs
+      → Plain f (energy f d xs) (rolled up q n (mags f xs))
+  unfolding fold
   energy-plain j d n [] h k p a b = p
   energy-plain j d n (x ∷ xs) h k p a b =
       let m = mag f x in
@@ -180,53 +177,28 @@ floor-e L Q e h n = omega (arith, n .under)
 over : (K c e s : ℕ) → K + e < s → s ≤ K + c → (L : ℕ) → L ≤ 2 ^ 32 * e → 2 ^ 39 * c ≤ L → ⊥
 over K c e s h g L a b = omega arith
 
-keyed-le : (K : ℕ) (s : Bool) (m : ℕ) → keyed K s m ≤ K + m
-keyed-le K false m = omega arith
-keyed-le K true m = omega arith
-
-cond-no : (b : Bool) (x y : Float) → T (not b) → cond b x y ≡ y
-cond-no true x y h = absurd h
-cond-no false x y h = refl
-
 quot-le : (m e L : ℕ) → m ≤ 16 * L → L ≤ 2 ^ 32 * e → m * L ≤ 2 ^ 36 * L * e
 quot-le m e L h k =
     let a : m ≤ 2 ^ 36 * e = omega arith in
     le-trans (mul-le-mul-right L a) (le-of-eq (mul-right-comm (2 ^ 36) e L))
-
-unlike-clear : (s t : Bool) → t ≡ false → unlike s t ≡ s
-unlike-clear true false h = refl
-unlike-clear false false h = refl
-unlike-clear s true h = absurd (true≢false h)
-
-total-append : {A : Type 0} (g : A → ℕ) (a b : List A) → total g (a ++ b) ≡ total g a + total g b
-unfolding total
-total-append g [] b = sym (zero-add (total g b))
-total-append g (x ∷ a) b = ap (λ (z : ℕ). g x + z) (total-append g a b) ∙ sym (add-assoc (g x) (total g a) (total g b))
-
-mags-append : (f : Format) (a b : List Float) → mags f (a ++ b) ≡ mags f a ++ mags f b
-mags-append f [] b = refl
-mags-append f (x ∷ a) b = ap (λ (z : List ℕ). mag f x ∷ z) (mags-append f a b)
-
-all-append : {A : Type 0} (Q : A → Type 0) (a b : List A) → All Q a → All Q b → All Q (a ++ b)
-all-append Q [] b h k = k
-all-append Q (x ∷ a) b h k = (h .0, all-append Q a b (h .1) k)
 
 mags-length : (f : Format) (xs : List Float) → length (mags f xs) ≡ length xs
 mags-length f [] = refl
 mags-length f (x ∷ xs) = ap suc (mags-length f xs)
 
 -- ---- one quotient: ys are the values whose squares are summed, and Q is the sum of the rounded squares
-module _ (f : Format) (P : 2 ^ (prec f - 1) ≡ 8388608) (big : 2 ^ 57 ≤ 2 ^ low f) (wide : 64 ≤ emax f) (c : Float) (cr : T (real f c)) (cs : 2 ^ 39 * mag f c ≤ 2 ^ low f) (Q : ℕ) (fl : 2 ^ low f ≤ 2 ^ 31 * Q) where
-  module _ (ys : List Float) (ok : All (Ok f) ys) (few : length ys ≤ 16) (same : total (λ m. rndM f m m) (mags f ys) ≡ Q) where
+module _ (f : Format) (P : 2 ^ (prec f - 1) ≡ 8388608) (big : 2 ^ 57 ≤ 2 ^ low f) (wide : 64 ≤ emax f) (c : Float) (cr : T (real f c))
+    (cs : 2 ^ 39 * mag f c ≤ 2 ^ low f) (Q : ℕ) (fl : 2 ^ low f ≤ 2 ^ 31 * Q) where
+  module _ (ys : List Float) (ok : All (AtMost16 f) ys) (few : length ys ≤ 16) (same : total (λ m. rndM f m m) (mags f ys) ≡ Q) where
     e : ℕ
     e = rolled (λ d g. rndU f (d + g)) (λ m. rndM f m m) 0 (mags f ys)
 
-    plain-o : Plain f o 0
+    plain-o : Plain f plus-zero 0
     plain-o = record { is-real = real-zero f false; clear = refl; size = mag-zero f false (pos 0) }
 
-    plain-e : Plain f (energy f o ys) e
+    plain-e : Plain f (energy f plus-zero ys) e
     unfolding e
-    plain-e = energy-plain f P big wide 8 o 0 ys (omega arith) (omega arith) plain-o (omega arith) ok
+    plain-e = energy-plain f P big wide 8 plus-zero 0 ys (omega arith) (omega arith) plain-o (omega arith) ok
 
     near-e : Near 16 e Q
     unfolding e
@@ -238,16 +210,18 @@ module _ (f : Format) (P : 2 ^ (prec f - 1) ≡ 8388608) (big : 2 ^ 57 ≤ 2 ^ l
     floor-is : 2 ^ low f ≤ 2 ^ 32 * e
     floor-is = floor-e (2 ^ low f) Q e fl near-e
 
-    key-e : key f (energy f o ys) ≡ overflow f + e
-    key-e = ap (λ (s : Bool). keyed (overflow f) s (mag f (energy f o ys))) (plain-e .clear) ∙ ap (λ (z : ℕ). overflow f + z) (plain-e .size)
+    key-e : key f (energy f plus-zero ys) ≡ overflow f + e
+    key-e = ap (λ (s : Bool). keyed (overflow f) s (mag f (energy f plus-zero ys))) (plain-e .clear) ∙ ap (λ (z : ℕ). overflow f + z) (plain-e .size)
 
-    divisor-is : larger (energy f o ys) c ≡ energy f o ys
+    divisor-is : maximum (energy f plus-zero ys) c ≡ energy f plus-zero ys
     divisor-is =
-        let E = energy f o ys in
-        cond-no (lt E c) c E
+        let E = energy f plus-zero ys in
+        maximum-number f E c (real-number f E (plain-e .is-real))
+        ∙ cond-no (lt E c) c E
         (not-T (lt E c)
         (λ (h : T (lt E c)).
-        over (overflow f) (mag f c) e (key f c) (subst (λ (z : ℕ). z < key f c) key-e (lt→key f E c (real-number f E (plain-e .is-real)) (real-number f c cr) h))
+        over (overflow f) (mag f c) e (key f c)
+        (subst (λ (z : ℕ). z < key f c) key-e (lt→key f E c (real-number f E (plain-e .is-real)) (real-number f c cr) h))
         (keyed-le (overflow f) (sign c) (mag f c)) (2 ^ low f) floor-is cs))
 
     e-pos : 0 < e
@@ -256,20 +230,26 @@ module _ (f : Format) (P : 2 ^ (prec f - 1) ≡ 8388608) (big : 2 ^ 57 ≤ 2 ^ l
         positive-e : (L e : ℕ) → L ≤ 2 ^ 32 * e → 0 < L → 0 < e
         positive-e L e h p = omega arith
 
-    module _ (x : Float) (okx : Ok f x) where
+    module _ (x : Float) (okx : AtMost16 f x) where
       dual-round : dual f c ys x ≡ round f (sign x) (mag f x) e
       dual-round =
-          let E = energy f o ys in
+          let E = energy f plus-zero ys in
           ap (div f x) divisor-is
           ∙ div-round f x E (okx .is-real) (plain-e .is-real) (subst (λ (z : ℕ). 0 < z) (sym (plain-e .size)) e-pos)
           ∙ ap (λ (s : Bool). round f s (mag f x) (mag f E)) (unlike-clear (sign x) (sign E) (plain-e .clear))
           ∙ ap (λ (z : ℕ). round f (sign x) (mag f x) z) (plain-e .size)
 
-      pub dual-sign : sign (dual f c ys x) ≡ sign x
+      dual-sign : sign (dual f c ys x) ≡ sign x
       dual-sign = ap sign dual-round ∙ sign-round f (sign x) (mag f x) e
 
       quotient-le : rnd f (mag f x) e ≤ 2 ^ 36 * 2 ^ low f
       quotient-le = rnd-power f 36 (mag f x) e (le-trans (lit≤ tt) wide) e-pos (quot-le (mag f x) e (2 ^ low f) (okx .small) floor-is)
+
+      dual-real : T (real f (dual f c ys x))
+      dual-real =
+          subst (λ (z : Float). T (real f z)) (sym dual-round)
+          (real-of-size f (round f (sign x) (mag f x) e) (round-number f (sign x) (mag f x) e)
+          (lt-of-le-of-lt (le-trans (le-of-eq (mag-round f (sign x) (mag f x) e)) quotient-le) (power-below f 36 (le-trans (lit≤ tt) wide))))
 
       quotient-good : Good (2 ^ low f) Q (record { m = mag f x; D = e; t = mag f (dual f c ys x) })
       quotient-good =
@@ -279,91 +259,94 @@ module _ (f : Format) (P : 2 ^ (prec f - 1) ≡ 8388608) (big : 2 ^ 57 ≤ 2 ^ l
           let v = subst (λ (z : ℕ). Within 8388608 (mag f x * 2 ^ low f) e z) is w in
           record { hi = hi-32 (t * e) (mag f x * 2 ^ low f) e (v .hi); lo = lo-32 (t * e) (mag f x * 2 ^ low f) e (v .lo); near = near-e; small = okx .small }
 
--- ---- all quotients
--- the sizes of a value and its dual, multiplied
-abbrev pub joint : Format → Float × Float → ℕ
-joint f p = mag f (p .0) * mag f (p .1)
+-- ---- the list read from another place: the same length, the same values, the same sums
+pub length-turn : (j : ℕ) (xs : List Float) → length (turn j xs) ≡ length xs
+length-turn j xs =
+    length-append (drop j xs) (take j xs)
+    ∙ add-comm (length (drop j xs)) (length (take j xs))
+    ∙ sym (length-append (take j xs) (drop j xs))
+    ∙ ap length (take-append-drop j xs)
 
-module _ (f : Format) (c : Float) where
-  items : List Float → List Float → List Item
-  items pre [] = []
-  items pre (x ∷ xs) =
-      let ys = x ∷ xs ++ pre in
-      record { m = mag f x; D = rolled (λ d g. rndU f (d + g)) (λ m. rndM f m m) 0 (mags f ys); t = mag f (dual f c ys x) } ∷ items (pre ++ (x ∷ [])) xs
+all-turn : (P : Float → Type 0) (j : ℕ) (xs : List Float) → All P xs → All P (turn j xs)
+all-turn P j xs h = all-append P (drop j xs) (take j xs) (all-drop P j xs h) (all-take P j xs h)
 
-  items-prod : (pre xs : List Float) → total prod (items pre xs) ≡ total (joint f) (pairs f c pre xs)
-  unfolding total items
-  items-prod pre [] = refl
-  items-prod pre (x ∷ xs) = ap (λ (z : ℕ). mag f x * mag f (dual f c (x ∷ xs ++ pre) x) + z) (items-prod (pre ++ (x ∷ [])) xs)
-
-  items-square : (pre xs : List Float) → total square (items pre xs) ≡ total sq (mags f xs)
-  unfolding total items
-  items-square pre [] = refl
-  items-square pre (x ∷ xs) = ap (λ (z : ℕ). mag f x * mag f x + z) (items-square (pre ++ (x ∷ [])) xs)
-
-  items-length : (pre xs : List Float) → length (items pre xs) ≡ length xs
-  unfolding items
-  items-length pre [] = refl
-  items-length pre (x ∷ xs) = ap suc (items-length (pre ++ (x ∷ [])) xs)
-
-sums-append : (f : Format) (g : ℕ → ℕ) (a b : List Float) → total g (mags f (a ++ b)) ≡ total g (mags f a) + total g (mags f b)
-sums-append f g a b = ap (total g) (mags-append f a b) ∙ total-append g (mags f a) (mags f b)
-
-sums-one : (f : Format) (g : ℕ → ℕ) (x : Float) (a b : List Float) → total g (mags f (a ++ (x ∷ []))) + total g (mags f b) ≡ total g (mags f a) + total g (mags f (x ∷ b))
+total-mags : (f : Format) (g : ℕ → ℕ) (xs : List Float) → total g (mags f xs) ≡ total (λ x. g (mag f x)) xs
 unfolding total
-sums-one f g x a b = let h = sums-append f g a (x ∷ []) in omega arith
+total-mags f g [] = refl
+total-mags f g (x ∷ xs) = ap (λ (z : ℕ). g (mag f x) + z) (total-mags f g xs)
 
-module _ (f : Format) (P : 2 ^ (prec f - 1) ≡ 8388608) (big : 2 ^ 57 ≤ 2 ^ low f) (wide : 64 ≤ emax f) (c : Float) (cr : T (real f c)) (cs : 2 ^ 39 * mag f c ≤ 2 ^ low f) where
-  items-good : (Q : ℕ) → 2 ^ low f ≤ 2 ^ 31 * Q → (pre xs : List Float) → All (Ok f) pre → All (Ok f) xs → length pre + length xs ≤ 16
-      → total (λ m. rndM f m m) (mags f pre) + total (λ m. rndM f m m) (mags f xs) ≡ Q → All (Good (2 ^ low f) Q) (items f c pre xs)
-  unfolding items e
-  items-good Q fl pre [] a b l h = tt
-  items-good Q fl pre (x ∷ xs) a b l h =
-      let ys = x ∷ xs ++ pre in
-      let n = length-append (x ∷ xs) pre in
-      let k = length-append pre (x ∷ []) in
-      let s = sums-append f (λ m. rndM f m m) (x ∷ xs) pre in (
-        quotient-good f P big wide c cr cs Q fl ys (all-append (Ok f) (x ∷ xs) pre b a) (omega arith) (s ∙ add-comm (total (λ m. rndM f m m) (mags f (x ∷ xs))) (total (λ m. rndM f m m) (mags f pre)) ∙ h) x (b .0),
-        items-good Q fl (pre ++ (x ∷ [])) xs (all-append (Ok f) pre (x ∷ []) a (b .0, tt)) (b .1) (omega arith) (sums-one f (λ m. rndM f m m) x pre xs ∙ h),
-      )
+total-turn : (f : Format) (g : ℕ → ℕ) (j : ℕ) (xs : List Float) → total g (mags f (turn j xs)) ≡ total g (mags f xs)
+total-turn f g j xs =
+    let h : Float → ℕ = λ x. g (mag f x) in
+    total-mags f g (turn j xs)
+    ∙ total-append h (drop j xs) (take j xs)
+    ∙ add-comm (total h (drop j xs)) (total h (take j xs))
+    ∙ sym (total-append h (take j xs) (drop j xs))
+    ∙ ap (total h) (take-append-drop j xs)
+    ∙ sym (total-mags f g xs)
 
-  all-sq : (xs : List Float) → All (Ok f) xs → All (Sq (2 ^ low f) (λ m. rndM f m m)) (mags f xs)
+-- ---- all quotients: the value at place j, and its dual, the sum being taken from j on
+module _ (f : Format) (P : 2 ^ (prec f - 1) ≡ 8388608) (big : 2 ^ 57 ≤ 2 ^ low f) (wide : 64 ≤ emax f) (c : Float) (cr : T (real f c))
+    (cs : 2 ^ 39 * mag f c ≤ 2 ^ low f) (xs : List Float)
+    (ok : All (AtMost16 f) xs) (few : length xs ≤ 16) (enough : 2 ^ low f * 2 ^ low f ≤ 2 ^ 30 * total (λ x. mag f x * mag f x) xs) where
+  abbrev value : ℕ → Float
+  value j = getD xs j nan
+
+  abbrev partner : ℕ → Float
+  partner j = dual f c (turn j xs) (value j)
+
+  abbrev Q : ℕ
+  Q = total (λ m. rndM f m m) (mags f xs)
+
+  all-sq : (ys : List Float) → All (AtMost16 f) ys → All (Sq (2 ^ low f) (λ m. rndM f m m)) (mags f ys)
   all-sq [] h = tt
-  all-sq (x ∷ xs) h = (q-sq f P big wide (mag f x) (h .0 .small), all-sq xs (h .1))
+  all-sq (x ∷ ys) h = (q-sq f P big wide (mag f x) (h .0 .small), all-sq ys (h .1))
 
-  pub window-near : (xs : List Float) → All (Ok f) xs → length xs ≤ 16 → 2 ^ low f * 2 ^ low f ≤ 2 ^ 30 * total sq (mags f xs)
-      → Near 20 (total (joint f) (pairs f c [] xs)) (2 ^ low f * 2 ^ low f)
-  window-near xs ok few enough =
+  enough-mags : 2 ^ low f * 2 ^ low f ≤ 2 ^ 30 * total sq (mags f xs)
+  enough-mags = subst (λ (z : ℕ). 2 ^ low f * 2 ^ low f ≤ 2 ^ 30 * z) (sym (total-mags f sq xs)) enough
+
+  near-Q : Near 2 (Q * 2 ^ low f) (total sq (mags f xs))
+  near-Q = squares-near (2 ^ low f) (λ m. rndM f m m) (mags f xs) big enough-mags (le-trans (le-of-eq (mags-length f xs)) few) (all-sq xs ok)
+
+  floor-Q : 2 ^ low f ≤ 2 ^ 31 * Q
+  floor-Q = floor (2 ^ low f) Q (total sq (mags f xs)) near-Q enough-mags (pow-pos (low f))
+
+  module _ (j : ℕ) (h : j < length xs) where
+    okx : AtMost16 f (value j)
+    okx = all-at (AtMost16 f) xs j nan ok h
+
+    oks : All (AtMost16 f) (turn j xs)
+    oks = all-turn (AtMost16 f) j xs ok
+
+    fews : length (turn j xs) ≤ 16
+    fews = le-trans (le-of-eq (length-turn j xs)) few
+
+    same : total (λ m. rndM f m m) (mags f (turn j xs)) ≡ Q
+    same = total-turn f (λ m. rndM f m m) j xs
+
+    pub window-sign : sign (partner j) ≡ sign (value j)
+    window-sign = dual-sign f P big wide c cr cs Q floor-Q (turn j xs) oks fews same (value j) okx
+
+    pub window-real : T (real f (partner j))
+    window-real = dual-real f P big wide c cr cs Q floor-Q (turn j xs) oks fews same (value j) okx
+
+    one-good : Good (2 ^ low f) Q (record { m = mag f (value j); D = e f P big wide c cr cs Q floor-Q (turn j xs) oks fews same; t = mag f (partner j) })
+    one-good = quotient-good f P big wide c cr cs Q floor-Q (turn j xs) oks fews same (value j) okx
+
+  abbrev item : ℕ → Item
+  item j = record { m = mag f (value j); D = rolled (λ d g. rndU f (d + g)) (λ m. rndM f m m) 0 (mags f (turn j xs)); t = mag f (partner j) }
+
+  pub window-near : Near 20 (total (λ j. mag f (value j) * mag f (partner j)) (range 0 (length xs))) (2 ^ low f * 2 ^ low f)
+  unfolding e
+  window-near =
       let L = 2 ^ low f in
-      let g : ℕ → ℕ = λ m. rndM f m m in
-      let Q = total g (mags f xs) in
-      let l : length (mags f xs) ≤ 16 = le-trans (le-of-eq (mags-length f xs)) few in
-      let n = squares-near L g (mags f xs) big enough l (all-sq xs ok) in
-      let fl = floor L Q (total sq (mags f xs)) n enough (pow-pos (low f)) in
-      let none : total g [] ≡ 0 = unfold total in refl in
-      let good = items-good Q fl [] xs tt ok (omega arith) (omega (arith, none)) in
-      let is = items-square f c [] xs in
-      subst (λ (z : ℕ). Near 20 z (L * L)) (items-prod f c [] xs)
-      (dual-near L Q (items f c [] xs) good (le-trans (le-of-eq (items-length f c [] xs)) few) big
-      (subst (λ (z : ℕ). L * L ≤ 2 ^ 30 * z) (sym is) enough)
-      (subst (λ (z : ℕ). Near 2 (Q * L) z) (sym is) n))
-
--- ---- `f32`, and the code's least divisor, 1.0e-12
-abbrev pub least : Float
-least = fin false 2305843 (negsuc 60)
-
-real-least : T (real binary32 least)
-unfolding fits
-real-least = tt
-
--- the exact sum of the products of values and duals is 1 within 2 ^ -19, and each product is not negative, since a value and its dual have one sign (`window-signs`)
-pub window-32 : (xs : List Float) → All (Ok binary32) xs → length xs ≤ 16 → 2 ^ low binary32 * 2 ^ low binary32 ≤ 2 ^ 30 * total sq (mags binary32 xs)
-    → (524288 * total (joint binary32) (pairs binary32 least [] xs) ≤ 524289 * (2 ^ low binary32 * 2 ^ low binary32))
-    × (524287 * (2 ^ low binary32 * 2 ^ low binary32) ≤ 524288 * total (joint binary32) (pairs binary32 least [] xs))
-unfolding mag
-window-32 xs ok few enough =
-    near-20 (total (joint binary32) (pairs binary32 least [] xs)) (2 ^ low binary32 * 2 ^ low binary32)
-    (window-near binary32 refl (lit≤ tt) (lit≤ tt) least real-least (lit≤ tt) xs ok few enough)
+      let items = tabulate (length xs) item in
+      let is : total sq (mags f xs) ≡ total square items = total-mags f sq xs ∙ total-getD nan (λ x. mag f x * mag f x) xs ∙ sym (total-tab square item 0 (length xs)) in
+      let good : All (Good L Q) items = all-tab (Good L Q) item 0 (length xs) (λ j a b. one-good j (rw zero-add at b)) in
+      subst (λ (z : ℕ). Near 20 z (L * L)) (total-tab prod item 0 (length xs))
+      (dual-near L Q items good (le-trans (le-of-eq (length-tab item 0 (length xs))) few) big
+      (subst (λ (z : ℕ). L * L ≤ 2 ^ 30 * z) is enough-mags)
+      (subst (λ (z : ℕ). Near 2 (Q * L) z) is near-Q))
 
 -- ---- the hypotheses as a caller has them: a value of f32 from -16 to 16
 abbrev pub sixteen : Bool → Float
@@ -377,9 +360,9 @@ size-within : (K : ℕ) (s : Bool) (m b : ℕ) → m ≤ K → b < K → K - b �
 size-within K false m b M B h k = omega arith
 size-within K true m b M B h k = omega arith
 
-pub ok-of-range : (f : Format) (x : Float) → 4 ≤ emax f → T (fits f x) → T (le (sixteen true) x) → T (le x (sixteen false)) → Ok f x
+pub at-most-16 : (f : Format) (x : Float) → 4 ≤ emax f → T (fits f x) → T (le (sixteen true) x) → T (le x (sixteen false)) → AtMost16 f x
 unfolding fits neg
-ok-of-range f x w p h k =
+at-most-16 f x w p h k =
     let hi = sixteen-real false in
     let lo = sixteen-real true in
     let n = le-left f x (sixteen false) p k in
@@ -392,36 +375,3 @@ ok-of-range f x w p h k =
     sixteen-real : (s : Bool) → T (real f (sixteen s))
     sixteen-real true = real-neg f (sixteen false) (real-power f 4 w)
     sixteen-real false = real-power f 4 w
-
--- ---- a value and its dual have one sign, so the exact product of the two is the product of their sizes
-module _ (f : Format) (P : 2 ^ (prec f - 1) ≡ 8388608) (big : 2 ^ 57 ≤ 2 ^ low f) (wide : 64 ≤ emax f) (c : Float) (cr : T (real f c)) (cs : 2 ^ 39 * mag f c ≤ 2 ^ low f) where
-  abbrev pub Alike : Float × Float → Type 0
-  Alike p = sign (p .1) ≡ sign (p .0)
-
-  pairs-alike : (Q : ℕ) → 2 ^ low f ≤ 2 ^ 31 * Q → (pre xs : List Float) → All (Ok f) pre → All (Ok f) xs → length pre + length xs ≤ 16
-      → total (λ m. rndM f m m) (mags f pre) + total (λ m. rndM f m m) (mags f xs) ≡ Q → All Alike (pairs f c pre xs)
-  pairs-alike Q fl pre [] a b l h = tt
-  pairs-alike Q fl pre (x ∷ xs) a b l h =
-      let ys = x ∷ xs ++ pre in
-      let n = length-append (x ∷ xs) pre in
-      let k = length-append pre (x ∷ []) in
-      let s = sums-append f (λ m. rndM f m m) (x ∷ xs) pre in (
-        dual-sign f P big wide c cr cs Q fl ys (all-append (Ok f) (x ∷ xs) pre b a) (omega arith) (s ∙ add-comm (total (λ m. rndM f m m) (mags f (x ∷ xs))) (total (λ m. rndM f m m) (mags f pre)) ∙ h) x (b .0),
-        pairs-alike Q fl (pre ++ (x ∷ [])) xs (all-append (Ok f) pre (x ∷ []) a (b .0, tt)) (b .1) (omega arith) (sums-one f (λ m. rndM f m m) x pre xs ∙ h),
-      )
-
-  pub window-alike : (xs : List Float) → All (Ok f) xs → length xs ≤ 16 → 2 ^ low f * 2 ^ low f ≤ 2 ^ 30 * total sq (mags f xs) → All Alike (pairs f c [] xs)
-  window-alike xs ok few enough =
-      let L = 2 ^ low f in
-      let g : ℕ → ℕ = λ m. rndM f m m in
-      let Q = total g (mags f xs) in
-      let l : length (mags f xs) ≤ 16 = le-trans (le-of-eq (mags-length f xs)) few in
-      let n = squares-near L g (mags f xs) big enough l (all-sq f P big wide c cr cs xs ok) in
-      let fl = floor L Q (total sq (mags f xs)) n enough (pow-pos (low f)) in
-      let none : total g [] ≡ 0 = unfold total in refl in
-      pairs-alike Q fl [] xs tt ok (omega arith) (omega (arith, none))
-
--- ---- two ones have the dual 0.5 each
-two-ones : pairs binary32 least [] (one ∷ one ∷ []) ≡ (one, fin false 1 (negsuc 0)) ∷ (one, fin false 1 (negsuc 0)) ∷ []
-unfolding add mul div lt
-two-ones = refl

@@ -1,11 +1,11 @@
 -- Linear interpolation, with floor, between the entries of a table of whole numbers, over steps of a power of two. Assumes nothing.
-use mathlib.Core.Path.{_≡_, refl, sym, ap, _∙_, subst}
+use mathlib.Core.Path.{_≡_, refl, ap}
 use mathlib.Core.Logic.{_⊎_, inl, inr}
 use mathlib.Core.Bool.{Bool, true, false, not}
 use Prim.Native.Nat.{ℕ, _+_, _-_, _*_, _/_, _%_, _^_, _≤_, _<_}
 use native.Mathlib.Nat.{le-trans, le-of-eq, le-of-lt, lt-of-le-of-lt, mul-le-mul, mul-le-mul-left, mul-div-cancel, div-lt-iff-lt-mul, mul-lt-mul-of-pos-left}
 use native.Mathlib.Omega.{arith}
-use lib.Dec.{T, leb, leb→le, nleb→lt, lit<, lit≤}
+use lib.Dec.{T, leb, leb→le, nleb→lt, lit<}
 use lib.Pow.{pow-pos, pow-mono, shr-le, shr-mono, split}
 use lib.Bits.{bitAnd, and-mask, mask-lt}
 
@@ -13,7 +13,7 @@ use lib.Bits.{bitAnd, and-mask, mask-lt}
 unfoldable pub interp : ℕ → (ℕ → ℕ) → ℕ → ℕ
 interp w p F = p (F / 2 ^ w) + (p (F / 2 ^ w + 1) - p (F / 2 ^ w)) * (F % 2 ^ w) / 2 ^ w
 
--- ---- interpolation between them
+-- ---- a step's part of its rise, and sums that stay in the step
 pub part-le : (D r w : ℕ) → r ≤ 2 ^ w → D * r / 2 ^ w ≤ D
 part-le D r w h = le-trans (shr-mono w (mul-le-mul-left D h)) (le-of-eq (mul-div-cancel D (pow-pos w)))
 

@@ -1,14 +1,12 @@
 -- pow10 and exp never fall and have E2's range, and log10 never falls: each is E2 or L2 with a product by a positive constant before or after it, which keeps the order
 -- and leaves 0 as it is. Assumes nothing.
 use mathlib.Core.Path.{_≡_, refl}
-use mathlib.Core.Bool.{false}
-use Prim.Native.Nat.{ℕ, suc}
 use lib.Dec.{T}
 use lib.Count.{trailingZeros}
-use lib.IntN.{ℤ, negsuc}
-use lib.Ieee.{Float, fin, binary32, le, mul, ofBits, round, size, span, climb, units, odd}
+use lib.Ieee.{Float, binary32, le, mul, ofBits, round, size, span, climb, units, odd}
+use lib.Ieee.Positive.{positive}
 use Rattle.float_laws.specs.Bounds.{one}
-use Rattle.float_laws.specs.Signed.{mul-by}
+use Rattle.float_laws.specs.Inf.{mul-by}
 use Rattle.power.specs.Power.{positiveZero, E2}
 use Rattle.power.specs.Log.{positiveNormal}
 use Rattle.float32.specs.Constants.{LOG2-10, LOG2-E, LOG10-2}
@@ -19,25 +17,23 @@ use Rattle.power.proofs.Range.{E2-at-most-one, E2-at-least-one}
 
 -- ---- the constants are positive
 record Factor (c : Float) : Type 0 where
-  digits : ℕ
-  exponent : ℤ
-  is : c ≡ fin false (suc digits) exponent
+  above : T (positive c)
   zero : mul binary32 positiveZero c ≡ positiveZero
 
 factor-10 : Factor LOG2-10
-unfolding ofBits mul round size span climb units odd trailingZeros
-factor-10 = record { digits = 1741646; exponent = negsuc 18; is = refl; zero = refl }
+unfolding ofBits positive mul round size span climb units odd trailingZeros
+factor-10 = record { above = tt; zero = refl }
 
 factor-e : Factor LOG2-E
-unfolding ofBits mul round size span climb units odd trailingZeros
-factor-e = record { digits = 12102202; exponent = negsuc 22; is = refl; zero = refl }
+unfolding ofBits positive mul round size span climb units odd trailingZeros
+factor-e = record { above = tt; zero = refl }
 
 factor-2 : Factor LOG10-2
-unfolding ofBits mul round size span climb units odd trailingZeros
-factor-2 = record { digits = 10100890; exponent = negsuc 24; is = refl; zero = refl }
+unfolding ofBits positive mul round size span climb units odd trailingZeros
+factor-2 = record { above = tt; zero = refl }
 
 times-mono : {c : Float} → Factor c → (x y : Float) → T (le x y) → T (le (mul binary32 x c) (mul binary32 y c))
-times-mono f x y h = rw (f .is) (mul-by (f .digits) (f .exponent) x y h)
+times-mono {c} f x y h = mul-by binary32 c (f .above) x y h
 
 -- ---- E2 of a product
 module _ {c : Float} (f : Factor c) where

@@ -7,7 +7,7 @@ use native.Mathlib.Omega.{arith}
 use lib.Dec.{T, leb, ltb, leb→le, ltb→lt}
 use lib.ListN.{length}
 use lib.Ieee.Fits.{and-l, and-r}
-use Rattle.lists.specs.Every.{every, at}
+use Rattle.lists.specs.Tested.{every, every-at}
 use Rattle.power.specs.Table.{highBits, lowBits, powerTable, P}
 
 -- x is the greatest whole number with x ^ n ≤ 2 ^ (30 * n + j): the entry j of a table of n steps, n being 256 here and 30 * n 7680
@@ -34,7 +34,7 @@ long = refl
 is-root : (j : ℕ) → j ≤ 2 ^ highBits → Root (2 ^ highBits) j (P j)
 is-root j h =
     let n = 2 ^ highBits in
-    let t = at (isRoot n) powerTable all-roots j (rw long (omega arith)) in
+    let t = every-at 0 (isRoot n) powerTable all-roots j (rw long (omega arith)) in
     record {
       most = leb→le (P j ^ n) (2 ^ (30 * n + j)) (and-l (leb (P j ^ n) (2 ^ (30 * n + j))) (ltb (2 ^ (30 * n + j)) (suc (P j) ^ n)) t);
       more = ltb→lt (2 ^ (30 * n + j)) (suc (P j) ^ n) (and-r (leb (P j ^ n) (2 ^ (30 * n + j))) (ltb (2 ^ (30 * n + j)) (suc (P j) ^ n)) t);

@@ -9,7 +9,7 @@ use native.Mathlib.Omega.{arith}
 use lib.Dec.{T, leb, leb→le}
 use lib.Ieee.Fits.{and-l, and-r}
 use Rattle.lists.specs.Interpolation.{interp, interp-is, here-or-on}
-use Rattle.lists.specs.Below.{allBelow, at}
+use Rattle.lists.specs.Tested.{allBelow, below-at}
 use Rattle.sine.specs.Table.{sineTable, R}
 use Rattle.sine.proofs.Chord.{Step, rising, falling, chord-low, chord-high}
 use Rattle.sine.proofs.Entries.{R-rises}
@@ -109,7 +109,7 @@ step-circle : (h k m r s c : ℕ) → h < 256 → k ≡ 255 - h → m + r ≡ 16
 step-circle h k m r s c H K W S C s-le c-le =
     let x = rising m r (R h) (rise h) (R k) (rise k) in
     let y = falling m r (R h) (rise h) (R k) (rise k) in
-    let t = step (R h) (rise h) (R k) (rise k) (rw K (at 256 (λ i. sound (R i) (rise i) (R (255 - i)) (rise (255 - i))) steps-sound h H)) in
+    let t = step (R h) (rise h) (R k) (rise k) (rw K (below-at 256 (λ i. sound (R i) (rise i) (R (255 - i)) (rise (255 - i))) steps-sound h H)) in
     let p = squares-low x y s c least dip (rw S (floor-high x)) (rw C (floor-high y)) (chord-low m r (R h) (rise h) (R k) (rise k) least greatest dip W t) in
     let q = squares-high x y s c greatest (rw S (floor-low x)) (rw C (floor-low y)) (chord-high m r (R h) (rise h) (R k) (rise k) least greatest dip W t) in
     record { low = omega arith; high = omega arith }

@@ -8,7 +8,7 @@ use native.Mathlib.Omega.{arith}
 use lib.Dec.{T, leb, leb→le, lit≤, lit<}
 use lib.Ieee.Fits.{and-l, and-r}
 use Rattle.lists.specs.Interpolation.{here-or-on}
-use Rattle.lists.specs.Below.{allBelow, at}
+use Rattle.lists.specs.Tested.{allBelow, below-at}
 use Rattle.sine.specs.Table.{sineTable, R}
 
 rises : ℕ → Bool
@@ -21,7 +21,7 @@ all-rise = tt
 pub R-rises : (j : ℕ) → j < 256 → (R j ≤ R (j + 1)) × (R (j + 1) ≤ 1073741824)
 unfolding rises
 R-rises j h =
-    let t = at 256 rises all-rise j h in
+    let t = below-at 256 rises all-rise j h in
     (leb→le (R j) (R (j + 1)) (search and-l), leb→le (R (j + 1)) 1073741824 (search and-r))
 
 pub R-small : (j : ℕ) → j < 257 → R j ≤ 1073741824

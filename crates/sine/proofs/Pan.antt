@@ -11,6 +11,7 @@ use lib.IntN.{pos}
 use lib.Ieee.{Float, fin, Format, binary32, low, ofBits, neg, add, mul, le, lt, eq, fits, sum, round, size, units, odd, span, climb}
 use lib.Ieee.Scale.{overflow}
 use Rattle.lists.specs.Interpolation.{interp}
+use Rattle.float32.specs.Constants.{SQRT-2}
 use Rattle.float32.specs.Value.{moved}
 use Rattle.float_laws.specs.Units.{mag, sign, number, real, keyed, mag-below, mag-le, eq→key, unique}
 use Rattle.float_laws.specs.Round.{rnd, mag-round, rnd-zero}
@@ -24,10 +25,6 @@ use Rattle.sine.proofs.Circle.{near-circle}
 use Rattle.sine.proofs.Range.{Level, sin-first-quarter, cos-first-quarter}
 use Rattle.sine.proofs.PanAngle.{panAngle, pan-place}
 use Rattle.sine.proofs.Balances.{TimesRoot, zero-times-root, times-root, product-normal, AddToTwo, balances-add-to-two}
-
--- Rust's √2
-abbrev pub SQRT-2 : Float
-SQRT-2 = ofBits binary32 0x3fb5_04f3
 
 abbrev pub leftBalance : Float → Float
 leftBalance pan = mul binary32 (cosOf (panAngle pan)) SQRT-2

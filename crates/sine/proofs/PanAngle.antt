@@ -5,17 +5,15 @@ use native.Mathlib.Omega.{arith}
 use lib.Dec.{T}
 use lib.IntN.{ℤ, pos, negsuc}
 use lib.Ieee.{Float, nan, inf, fin, binary32, ofBits, neg, add, mul, le, lt, eq, round, sum, size, units, odd, span, climb, fits}
+use Rattle.float32.specs.Constants.{FRAC-PI-4}
 use Rattle.float32.specs.Value.{moved}
 use Rattle.float32.proofs.Floor.{moved-mono}
 use Rattle.float_laws.specs.Units.{number, real, real-number}
 use Rattle.float_laws.specs.Order.{le-refl-f}
-use Rattle.float_laws.specs.Mono.{o, add-mono, add-number, mul-mono-l, mul-number}
+use Rattle.float_laws.specs.Round.{plus-zero}
+use Rattle.float_laws.specs.Mono.{add-mono, add-number, mul-mono-l, mul-number}
 use Rattle.float_laws.specs.Bounds.{one, real-between}
 use Rattle.sine.specs.Sine.{U, u, TURNS-PER-RADIAN}
-
--- Rust's π/4
-abbrev pub FRAC-PI-4 : Float
-FRAC-PI-4 = ofBits binary32 0x3f49_0fdb
 
 abbrev pub panAngle : Float → Float
 panAngle pan = mul binary32 (add binary32 pan one) FRAC-PI-4
@@ -46,7 +44,7 @@ through-plus : (z : Float) → T (real binary32 z) → (lo x hi : Float) → T (
     → Between lo x hi → Between (plus z lo) (plus z x) (plus z hi)
 through-plus z r = through (plus z) (λ x p. add-number binary32 x z p r) (λ x y p q h. add-mono binary32 x y z z p q r r h (le-refl-f binary32 z (real-number binary32 z r)))
 
-through-times : (z : Float) → T (real binary32 z) → T (le o z) → (lo x hi : Float) → T (real binary32 (times z lo)) → T (real binary32 (times z hi))
+through-times : (z : Float) → T (real binary32 z) → T (le plus-zero z) → (lo x hi : Float) → T (real binary32 (times z lo)) → T (real binary32 (times z hi))
     → Between lo x hi → Between (times z lo) (times z x) (times z hi)
 through-times z r up = through (times z) (λ x p. mul-number binary32 x z p r) (λ x y p q h. mul-mono-l binary32 x y z p q r up h)
 

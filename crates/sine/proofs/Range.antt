@@ -13,8 +13,8 @@ use borrow.Author.Tests.{eq-eqb, ne-eqb}
 use Rattle.lists.specs.Interpolation.{interp, here-or-on}
 use Rattle.float_laws.specs.Units.{mag, sign, number, real, key, keyed, real-number, key→le}
 use Rattle.float_laws.specs.Order.{number-fits}
-use Rattle.float_laws.specs.Round.{mag-of-value, round-number, sign-round}
-use Rattle.float_laws.specs.Mono.{o, real-neg, key-neg, key-nonneg}
+use Rattle.float_laws.specs.Round.{plus-zero, mag-of-value, round-number, sign-round}
+use Rattle.float_laws.specs.Mono.{real-neg, key-neg, key-nonneg}
 use Rattle.float_laws.specs.Bounds.{one, real-one, mag-one}
 use Rattle.float_laws.specs.Rise.{Upto, upto-level}
 use Rattle.sine.specs.Table.{sineTable, R}
@@ -41,7 +41,7 @@ within-one f x n h =
     let m = real-neg f one (real-one f) in
     (key→le f (neg one) x (real-number f (neg one) m) n (omega arith), key→le f x one n (real-number f one (real-one f)) (omega arith))
 
-clear-nonneg : (f : Format) (x : Float) → T (number f x) → sign x ≡ false → T (le o x)
+clear-nonneg : (f : Format) (x : Float) → T (number f x) → sign x ≡ false → T (le plus-zero x)
 clear-nonneg f x n s = key-nonneg f x n (rw (ap (λ (b : Bool). keyed (overflow f) b (mag f x)) s) (omega arith))
 
 -- ---- every place

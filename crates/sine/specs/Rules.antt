@@ -6,7 +6,7 @@ use Prim.Native.Nat.{ℕ, _+_, _*_, _/_, _^_, _≤_, _<_}
 use lib.Dec.{T, leb, ltb, eqb, leb→le, ltb→lt, eqb→eq}
 use lib.Ieee.Fits.{and-l, and-r}
 use lib.ListN.{length, getD}
-use Rattle.lists.specs.Below.{allBelow, at}
+use Rattle.lists.specs.Tested.{allBelow, below-at}
 use Rattle.sine.specs.Table.{halfAngleCosines, sineTable, K, R}
 
 -- r is the greatest whole number whose square is at most n
@@ -58,7 +58,7 @@ K-rule = record {
   next = λ i h.
       let r = K (i + 1) in
       let n = (2 ^ 30 + K i) * 2 ^ 29 in
-      let t : T (root r n) = at 8 K-next K-all i h in
+      let t : T (root r n) = below-at 8 K-next K-all i h in
       (leb→le (r * r) n (search and-l), ltb→lt n ((r + 1) * (r + 1)) (search and-r));
 }
 
@@ -68,5 +68,5 @@ R-rule = record {
   entries = refl;
   first = refl;
   last = refl;
-  middle = λ s i h k. eqb→eq _ _ (at (2 ^ s) (R-middle s (256 / 2 ^ s)) (at 8 R-row R-all s h) i k);
+  middle = λ s i h k. eqb→eq _ _ (below-at (2 ^ s) (R-middle s (256 / 2 ^ s)) (below-at 8 R-row R-all s h) i k);
 }

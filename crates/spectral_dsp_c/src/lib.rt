@@ -1,7 +1,7 @@
 // The static library: C names, plain numbers and slices. A slice crosses as a pointer and a length.
 ghost use mathlib.Core.Path.{_≡_};
 ghost use lib.Ieee.{binary32, toBits, ofBits};
-ghost use Rattle.lists.specs.Turned.{mapAt};
+ghost use Rattle.lists.specs.Maps.{mapAt};
 ghost use Rattle.float32.specs.Order.{maximum, minimum, clamp, magnitude};
 ghost use Rattle.float32.specs.Counts.{floorCount, ceilCount};
 ghost use Rattle.float32.specs.Remainder.{remEuclidOne};
