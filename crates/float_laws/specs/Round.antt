@@ -18,17 +18,17 @@ use Rattle.float_laws.specs.Units.{mag, sign, number, real, key, keyed, 
 use Rattle.float_laws.specs.Order.{fits-number}
 
 -- ---- the sign only passes through
-odd-shape : (d : ℕ) (s : Bool) (q k l : ℕ) → odd d true q k l ≡ neg (odd d false q k l)
+odd-neg : (d q k l : ℕ) → odd d true q k l ≡ neg (odd d false q k l)
 unfolding odd neg
-odd-shape d s zero k l = refl
-odd-shape d s (suc q) k l = refl
+odd-neg d zero k l = refl
+odd-neg d (suc q) k l = refl
 
 units-neg : (f : Format) (q k : ℕ) → units f true q k ≡ neg (units f false q k)
 unfolding units
 units-neg f q k = go (ltb (q * 2 ^ k) (2 ^ (low f + suc (emax f))))
   where
     go : (b : Bool) → cond b (odd (suc (prec f)) true q k (low f)) (inf true) ≡ neg (cond b (odd (suc (prec f)) false q k (low f)) (inf false))
-    go true = odd-shape (suc (prec f)) true q k (low f)
+    go true = odd-neg (suc (prec f)) q k (low f)
     go false = unfold neg in refl
 
 pub round-neg : (f : Format) (a c : ℕ) → round f true a c ≡ neg (round f false a c)
@@ -82,13 +82,13 @@ unfolding rnd
 rnd-le f a c = mag-le f (round f false a c) (round-number f false a c)
 
 -- ---- the order, and the value
-above : (K a b c d : ℕ) → K + a ≤ K + b → a ≤ b
-above K a b c d h = omega arith
+above : (K a b : ℕ) → K + a ≤ K + b → a ≤ b
+above K a b h = omega arith
 
 pub rnd-mono : (f : Format) (a b c d : ℕ) → 0 < b → 0 < d → a * d ≤ c * b → rnd f a b ≤ rnd f c d
 rnd-mono f a b c d B D h =
     let l = le→key f (round f false a b) (round f false c d) (round-number f false a b) (round-number f false c d) (round-mono f a b c d B D h) in
-    above (overflow f) (rnd f a b) (rnd f c d) c d (rw (key-round f false a b, key-round f false c d) at l)
+    above (overflow f) (rnd f a b) (rnd f c d) (rw (key-round f false a b, key-round f false c d) at l)
 
 pub rnd-same : (f : Format) (a b c d : ℕ) → 0 < b → 0 < d → a * d ≡ c * b → rnd f a b ≡ rnd f c d
 unfolding rnd
