@@ -21,7 +21,7 @@ fn guess(t: u64) -> usize
     if h < LAST_STEP { h } else { LAST_STEP }
 }
 
-// From the step h down to one that begins at t or below.
+// From the step `start` down to one that begins at t or below.
 fn step_below(powers: &PowerTable, t: u64, start: usize) -> usize
     requires { ⌜ (now powers ≡ powerTable) × (2 ^ 30 ≤ t) × (start < 2 ^ highBits) ⌝ }
     ensures { λ r. ⌜ (r < 2 ^ highBits) × (P r ≤ t) ⌝ }
