@@ -7,7 +7,6 @@ use lib.Dec.{T}
 use lib.Count.{trailingZeros}
 use lib.IntN.{ℤ, negsuc}
 use lib.Ieee.{Float, fin, binary32, le, mul, ofBits, round, size, span, climb, units, odd}
-use Rattle.float_laws.specs.Units.{real}
 use Rattle.float_laws.specs.Bounds.{one}
 use Rattle.float_laws.specs.Signed.{mul-by}
 use Rattle.power.specs.Power.{positiveZero, E2}
@@ -15,6 +14,7 @@ use Rattle.power.specs.Log.{positiveNormal}
 use Rattle.power.specs.Decimal.{log2of10, log2ofE, log10of2, pow10, exp, log10}
 use Rattle.power.proofs.Rising.{E2-mono}
 use Rattle.power.proofs.LogRising.{L2-mono}
+use Rattle.float_laws.specs.Units.{real}
 use Rattle.power.proofs.Range.{E2-real, E2-nonneg, E2-at-most-one, E2-at-least-one}
 
 -- ---- the constants are positive
