@@ -1,4 +1,6 @@
-// What a scene is made of, as plain values: the motion's shape and settings.
+// What a scene is made of, as plain values, and what of it is accepted: so far the motion's shape and settings.
+ghost use mathlib.Core.Path.{_≡_};
+ghost use Rattle.scene.specs.Accepted.{motionAccepted};
 
 // The moving field's shapes, in the Rust's order.
 pub enum MotionShape {
@@ -19,4 +21,16 @@ pub struct MotionConfig {
     // Where the field stands in its cycle of length 1.
     pub phase: f32,
     pub size_octaves: f32,
+}
+
+pub fn motion_accepted(config: MotionConfig) -> bool
+    ensures { λ r. ⌜ r ≡ motionAccepted config ⌝ }
+{
+    if !limits::motion_depth(config.depth_db) {
+        return false;
+    }
+    if !float32::order::is_finite(config.phase) {
+        return false;
+    }
+    limits::motion_size(config.size_octaves)
 }
