@@ -1,1 +1,5 @@
+pub mod Written
+pub mod Gates
 pub mod Motion
+pub mod Advanced
+pub mod Prepared
