@@ -7,7 +7,7 @@ use lib.IntN.{pos}
 use lib.Count.{trailingZeros}
 use lib.Ieee.{Float, fin, binary32, le, mul, div, ofBits, round, size, span, climb, units, odd, isNan, fits}
 use lib.Ieee.Positive.{positive}
-use Rattle.float_laws.specs.Units.{number, real}
+use Rattle.float_laws.specs.Units.{number, real, real-number}
 use Rattle.float_laws.specs.Order.{le-trans-f}
 use Rattle.float_laws.specs.Bounds.{one}
 use Rattle.float_laws.specs.Inf.{div-by}
@@ -15,8 +15,7 @@ use Rattle.float32.specs.Value.{moved}
 use Rattle.lists.specs.Interpolation.{interp}
 use Rattle.power.specs.Table.{powerTable}
 use Rattle.power.specs.Power.{positiveZero, powerAt, powerOf, E2}
-use Rattle.power.proofs.Range.{E2-nonneg, E2-real, E2-number}
-use Rattle.power.proofs.Bases.{pow10-mono, pow10-at-most-one, pow10-at-least-one}
+use Rattle.power.proofs.Bases.{pow10-mono, pow10-nonneg, pow10-real, pow10-at-most-one, pow10-at-least-one}
 use Rattle.decibels.specs.Gain.{DECIBELS-PER-DECADE, gainOf}
 
 -- ---- the quotient
@@ -36,13 +35,13 @@ pub gain-never-falls : (x y : Float) → T (le x y) → T (le (gainOf x) (gainOf
 gain-never-falls x y h = pow10-mono _ _ (quotient-mono x y h)
 
 pub gain-nonneg : (db : Float) → T (le positiveZero (gainOf db))
-gain-nonneg db = E2-nonneg _
+gain-nonneg db = pow10-nonneg _
 
 pub gain-real : (db : Float) → T (real binary32 (gainOf db))
-gain-real db = E2-real _
+gain-real db = pow10-real _
 
 pub gain-number : (db : Float) → T (number binary32 (gainOf db))
-gain-number db = E2-number _
+gain-number db = real-number binary32 (gainOf db) (gain-real db)
 
 -- ---- about 0 dB
 pub gain-of-zero : gainOf positiveZero ≡ one

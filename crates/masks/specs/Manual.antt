@@ -7,7 +7,10 @@ use lib.Ieee.{Float, nan, binary32, ofBits, le}
 use Rattle.float32.specs.Order.{minimum}
 use Rattle.decibels.specs.Gain.{gainOf}
 
--- the curve has the points 0..8,192, and the bins of the largest size are as many
+-- the curve has the points 0..8,192, as many as the largest size has bins
+abbrev pub MANUAL-MASK-POINTS : ℕ
+MANUAL-MASK-POINTS = 8193
+
 abbrev pub LAST-POINT : ℕ
 LAST-POINT = 8192
 

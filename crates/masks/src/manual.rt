@@ -1,13 +1,15 @@
 // The gain that the drawn curve gives a bin.
 ghost use mathlib.Core.Path.{_≡_};
-ghost use Prim.Native.Nat.{suc, min};
+ghost use Prim.Native.Nat.{min};
 ghost use lib.ListN.{length};
 ghost use Rattle.power.specs.Table.{powerTable};
-ghost use Rattle.masks.specs.Manual.{LAST-POINT, curvePoint, curveGain, manualGain};
+ghost use Rattle.masks.specs.Manual.{MANUAL-MASK-POINTS, curvePoint, curveGain, manualGain};
 use float32::order::min;
 use power::table::PowerTable;
 
-// The curve has the points 0..8,192, and the bins of the largest size are as many.
+// The curve has the points 0..8,192, as many as the largest size has bins.
+pub const MANUAL_MASK_POINTS: usize = 8193;
+
 pub const LAST_POINT: usize = 8192;
 
 pub const MANUAL_CURVE_MUTE_DB: f32 = -144.0;
@@ -44,7 +46,7 @@ pub fn curve_gain(powers: &PowerTable, db: f32) -> f32
 }
 
 pub fn manual_gain(powers: &PowerTable, curve: &[f32], bin: usize, size: usize) -> f32
-    requires { ⌜ (now powers ≡ powerTable) × (length (now curve) ≡ suc LAST-POINT) ⌝ }
+    requires { ⌜ (now powers ≡ powerTable) × (length (now curve) ≡ MANUAL-MASK-POINTS) ⌝ }
     ensures { λ r. ⌜ r ≡ manualGain (now (curve .entry)) bin size ⌝ }
 {
     curve_gain(powers, curve[curve_point(bin, size)])
