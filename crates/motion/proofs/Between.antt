@@ -1,6 +1,6 @@
 -- Chains of f32 operations by their ends: where each operand lies between two finite values, so does the result, since rounding keeps the order. The ends are constants, and are computed.
 -- Assumes nothing.
-use mathlib.Core.Path.{_≡_, subst}
+use mathlib.Core.Path.{subst}
 use mathlib.Core.Bool.{not}
 use lib.Dec.{T}
 use lib.Ieee.{Float, nan, inf, fin, binary32, isNan, fits, le, add, sub, mul, div}

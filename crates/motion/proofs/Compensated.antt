@@ -2,30 +2,28 @@
 -- are at most 1, and one over that is at least 1, or infinite. The product with what the field leaves is finite, not negative and at most 4. Assumes nothing.
 use mathlib.Core.Path.{_≡_, refl, sym, ap, _∙_, subst}
 use mathlib.Core.Bool.{Bool, true, false, not, cond}
-use mathlib.Core.List.{List, [], _∷_}
-use Prim.Native.Nat.{ℕ, zero, suc, _+_, _*_, _^_, _≤_, _<_}
-use native.Mathlib.Nat.{add-zero, suc-add, add-suc, le-of-eq, le-trans}
+use Prim.Native.Nat.{ℕ, zero, suc, _+_, _^_, _≤_, _<_}
+use native.Mathlib.Nat.{add-zero, le-of-eq, le-trans}
 use native.Mathlib.Omega.{arith}
 use lib.IntN.{pos}
 use lib.Dec.{T, lit≤}
 use lib.Count.{trailingZeros}
-use lib.Ieee.{Float, nan, inf, fin, Format, binary32, low, prec, fits, isNan, lt, le, add, mul, div, round, size, span, climb, units, odd, ofBits, ofFields, ofInt, unlike}
+use lib.Ieee.{Float, inf, Format, binary32, low, prec, fits, isNan, lt, le, add, mul, div, round, size, span, climb, units, odd, ofBits, ofFields, ofInt, unlike}
 use lib.Ieee.Scale.{overflow}
 use lib.Ieee.Positive.{positive}
 use Rattle.lists.specs.Folds.{fold, range}
 use Rattle.lists.specs.Interpolation.{interp}
-use Rattle.float_laws.specs.Units.{mag, sign, number, real, key, keyed, real-number, unique}
-use Rattle.float_laws.specs.Order.{le-trans-f, lt→le-f, not-lt-f, smaller, smaller-number, smaller-right, smaller-greatest, le-antisymm-f, eq→same}
+use Rattle.float_laws.specs.Units.{mag, sign, number, real, keyed}
+use Rattle.float_laws.specs.Order.{not-lt-f, smaller, smaller-number, smaller-right, smaller-greatest, le-antisymm-f, eq→same}
 use Rattle.float_laws.specs.Round.{plus-zero, sign-round}
 use Rattle.float_laws.specs.Ops.{mul-sign, div-sign, add-sum, sum-clear}
 use Rattle.float_laws.specs.Mono.{add-number, add-mono, key-nonneg, sizes, div-number, div-anti, above-zero}
 use Rattle.float_laws.specs.Inf.{le-top, div-by}
 use Rattle.float_laws.specs.Bounds.{one, real-one, real-between, one-nonneg}
 use Rattle.float_laws.specs.Power.{power, mag-power, real-power}
-use Rattle.float_laws.specs.Exact.{real-whole, sign-whole, mag-whole, whole-add, whole-power}
+use Rattle.float_laws.specs.Exact.{real-whole, whole-add, whole-power}
 use Rattle.float_laws.specs.Rise.{Upto, upto-mul}
 use Rattle.float32.specs.Order.{minimum}
-use Rattle.float32.specs.Powers.{square}
 use Rattle.float32.specs.Remainder as remainder
 use Rattle.float32.specs.Root.{squareRoot}
 use Rattle.float32.specs.Value.{moved}
@@ -35,9 +33,9 @@ use Rattle.power.specs.Table.{powerTable}
 use Rattle.power.specs.Power.{powerAt, powerOf, E2}
 use Rattle.scene.specs.declared.MotionConfig.{MotionConfig}
 use Rattle.motion.specs.Field.{RESTING-DEPTH-DB, gain, motionGain}
-use Rattle.motion.specs.Compensation.{MOTION-COMPENSATION-SAMPLES, MAX-MOTION-COMPENSATION-DB, sampleFrequency, samplePower, meanSquare, compensation}
+use Rattle.motion.specs.Compensation.{MAX-MOTION-COMPENSATION-DB, sampleFrequency, samplePower, meanSquare, compensation}
 use Rattle.motion.proofs.Between.{Between, between, wider}
-use Rattle.motion.proofs.Openings.{product, zero-real, zero-number, zero-is, one-is, one-number, one-same}
+use Rattle.motion.proofs.Openings.{product, zero-real, zero-number, one-is, one-number, one-same}
 use Rattle.motion.proofs.Gains.{motion-gain-between, motion-gain-level}
 
 -- ---- a sum of i samples: finite, with no minus sign, and at most i

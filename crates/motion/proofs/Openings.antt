@@ -2,38 +2,39 @@
 -- above 0 is at most 1. Saw is at most 1 and at least -2 where its cycle has a place, and NaN where it has none. Sprinkle and Cloud are 1. Assumes nothing.
 use mathlib.Core.Path.{_≡_, refl, sym, ap, _∙_, subst}
 use mathlib.Core.Logic.{_⊎_, inl, inr}
-use mathlib.Core.Bool.{Bool, true, false, not, cond, _||_}
+use mathlib.Core.Bool.{Bool, true, false, not, cond}
 use Prim.Native.Nat.{_*_}
 use lib.IntN.{pos}
 use lib.Dec.{T}
 use lib.Count.{trailingZeros}
-use lib.Ieee.{Float, nan, inf, fin, up, down, binary32, fits, isNan, lt, le, neg, add, sub, sum, mul, div, rem, round, size, span, climb, units, odd, ofBits, ofFields}
-use lib.Ieee.Fits.{add-fits, sub-fits, mul-fits, rem-fits, cond-fits, and-l, and-r}
+use lib.Ieee.{Float, nan, inf, fin, up, down, binary32, fits, lt, le, neg, add, sub, sum, mul, div, rem, round, size, span, climb, units, odd, ofBits, ofFields}
+use lib.Ieee.Fits.{add-fits, sub-fits, mul-fits, rem-fits, cond-fits}
 use lib.Ieee.Positive.{positive}
 use Rattle.float_laws.specs.Units.{number, real, real-number}
-use Rattle.float_laws.specs.Order.{le-left, le-right, le-trans-f, lt→le-f, not-lt-f, clamp-number, clamp-low, clamp-high}
+use Rattle.float_laws.specs.Order.{le-left, le-trans-f, lt→le-f, not-lt-f, clamp-number, clamp-low, clamp-high}
 use Rattle.float_laws.specs.Round.{plus-zero, round-number}
 use Rattle.float_laws.specs.Ops.{mul-comm-f}
-use Rattle.float_laws.specs.Inf.{mul-by-turns, le-top}
+use Rattle.float_laws.specs.Inf.{mul-by-turns}
 use Rattle.float_laws.specs.Bounds.{one, real-one, one-nonneg, round-nonneg}
-use Rattle.float32.specs.Constants.{TAU, LOG2-E}
-use Rattle.float32.specs.Order.{clamp, within}
-use Rattle.float32.specs.Powers.{square, fifth}
+use Rattle.float32.specs.Constants.{LOG2-E}
+use Rattle.float32.specs.Order.{clamp}
+use Rattle.float32.specs.Powers.{square}
 use Rattle.float32.specs.Remainder as remainder
 use Rattle.float32.specs.Remainder.{remEuclidOne}
 use Rattle.float32.proofs.OrderAgrees.{clamp-agrees}
+use Rattle.float32.proofs.Limits.{within-low, within-high, within-number}
 use Rattle.float32.proofs.RemainderInUnit.{remainder-in-unit}
 use Rattle.power.specs.Power.{E2}
 use Rattle.power.specs.Decimal.{exp}
 use Rattle.power.proofs.Ends.{E2-nan}
-use Rattle.power.proofs.Range.{E2-real, E2-nonneg, E2-number}
+use Rattle.power.proofs.Range.{E2-nonneg, E2-number}
 use Rattle.power.proofs.Bases.{exp-at-most-one}
 use Rattle.sine.specs.Sine.{wave, sinOf, cosOf}
 use Rattle.sine.proofs.Range.{sin-within-one, cos-within-one}
 use Rattle.scene.specs.declared.MotionShape.{MotionShape}
 use Rattle.scene.specs.declared.MotionShape.the-variants.{Ripple, Harmonic, Drift, Scan, Notch, Saw, Sprinkle, Cloud}
 use Rattle.scene.specs.declared.MotionConfig.{MotionConfig}
-use Rattle.motion.specs.Shapes.{RESET-START, half, two, three, ripple, harmonic, broad, middle, detail, drift, wrapped, window, smoothstep, sawAt, saw}
+use Rattle.motion.specs.Shapes.{RESET-START, half, two, three, ripple, harmonic, broad, middle, detail, drift, window, smoothstep, sawAt, saw}
 use Rattle.motion.specs.Field.{shapeAt, resting, openness}
 use Rattle.motion.proofs.Between.{Between, between, wider, between-add, between-sub, between-mul, between-times, between-over}
 
@@ -137,31 +138,31 @@ unfolding harmonic
 harmonic-level x size phase = let r = ripple-level x size phase in product (product (product r r) (product r r)) r
 
 -- ---- Drift
-abbrev quarter : Float
-quarter = ofBits binary32 0x3e80_0000
+abbrev broad-weight : Float
+broad-weight = ofBits binary32 0x3e80_0000
 
-abbrev share : Float
-share = ofBits binary32 0x3e2e_147b
+abbrev middle-weight : Float
+middle-weight = ofBits binary32 0x3e2e_147b
 
-abbrev rest : Float
-rest = ofBits binary32 0x3da3_d70a
+abbrev detail-weight : Float
+detail-weight = ofBits binary32 0x3da3_d70a
 
 record LayerEnds (k : Float) : Type 0 where
   above : T (positive k)
   low : T (real binary32 (mul binary32 (neg one) k))
   high : T (real binary32 (mul binary32 one k))
 
-quarter-ends : LayerEnds quarter
+broad-ends : LayerEnds broad-weight
 unfolding ofBits ofFields odd trailingZeros fits neg mul round size span climb units
-quarter-ends = record { above = tt; low = tt; high = tt }
+broad-ends = record { above = tt; low = tt; high = tt }
 
-share-ends : LayerEnds share
+middle-ends : LayerEnds middle-weight
 unfolding ofBits ofFields odd trailingZeros fits neg mul round size span climb units
-share-ends = record { above = tt; low = tt; high = tt }
+middle-ends = record { above = tt; low = tt; high = tt }
 
-rest-ends : LayerEnds rest
+detail-ends : LayerEnds detail-weight
 unfolding ofBits ofFields odd trailingZeros fits neg mul round size span climb units
-rest-ends = record { above = tt; low = tt; high = tt }
+detail-ends = record { above = tt; low = tt; high = tt }
 
 layer : {k : Float} → LayerEnds k → {w : Float} → Between (neg one) one w → Between (mul binary32 (neg one) k) (mul binary32 one k) (mul binary32 k w)
 layer {k} e b = between-times k (e .above) b (e .low) (e .high)
@@ -171,9 +172,9 @@ abbrev sums : Float → Float → Float → Float
 sums a b c = add binary32 (add binary32 (add binary32 half a) b) c
 
 record DriftEnds (w : Float) : Type 0 where
-  first : T (real binary32 (add binary32 half (mul binary32 w quarter)))
-  second : T (real binary32 (add binary32 (add binary32 half (mul binary32 w quarter)) (mul binary32 w share)))
-  third : T (real binary32 (sums (mul binary32 w quarter) (mul binary32 w share) (mul binary32 w rest)))
+  first : T (real binary32 (add binary32 half (mul binary32 w broad-weight)))
+  second : T (real binary32 (add binary32 (add binary32 half (mul binary32 w broad-weight)) (mul binary32 w middle-weight)))
+  third : T (real binary32 (sums (mul binary32 w broad-weight) (mul binary32 w middle-weight) (mul binary32 w detail-weight)))
 
 drift-low : DriftEnds (neg one)
 unfolding ofBits ofFields odd trailingZeros fits neg mul add sum round size span climb units
@@ -188,9 +189,9 @@ unfolding drift broad middle detail
 drift-level x size phase =
     let l = drift-low in
     let h = drift-high in
-    let a = between-add half-between (layer quarter-ends (sine-between _)) (l .first) (h .first) in
-    let b = between-add a (layer share-ends (sine-between _)) (l .second) (h .second) in
-    clamped _ (between-add b (layer rest-ends (sine-between _)) (l .third) (h .third) .is-real)
+    let a = between-add half-between (layer broad-ends (sine-between _)) (l .first) (h .first) in
+    let b = between-add a (layer middle-ends (sine-between _)) (l .second) (h .second) in
+    clamped _ (between-add b (layer detail-ends (sine-between _)) (l .third) (h .third) .is-real)
 
 -- ---- Scan and Notch
 pub one-between : Between one one one
@@ -262,12 +263,10 @@ remainder-fits v f =
     cond-fits binary32 (lt r remainder.zero) (add binary32 r remainder.one) r (add-fits binary32 r remainder.one) (rem-fits binary32 v remainder.one f)
 
 in-unit : (v : Float) → T (real binary32 v) → T (fits binary32 v) → Level (remEuclidOne v)
-unfolding within
 in-unit v p f =
     let r = remEuclidOne v in
     let w = rw (zero-is, one-is) at (remainder-in-unit v p) in
-    let h = and-l (le plus-zero r) (le r one) w in
-    between plus-zero one r (le-right binary32 plus-zero r (remainder-fits v f) h) zero-real (real-one binary32) h (and-r (le plus-zero r) (le r one) w)
+    between plus-zero one r (within-number plus-zero one r w binary32 (remainder-fits v f)) zero-real (real-one binary32) (within-low plus-zero one r w) (within-high plus-zero one r w)
 
 -- where the cycle has a place, it is one from 0 to 1
 cycle-place : (v : Float) → T (fits binary32 v) → (remEuclidOne v ≡ nan) ⊎ Level (remEuclidOne v)
