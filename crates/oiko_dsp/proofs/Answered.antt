@@ -1,6 +1,6 @@
 -- What the calls answer to accepted input, and what is known of it: equal temperament, of `note_frequency`; a frequency that is finite, positive and normal and never falls as the
 -- tuning rises; a gain that is finite and never negative. The tests pass, and the rest is known of the core. Assumes nothing.
-use mathlib.Core.Path.{_≡_, refl, sym, _∙_}
+use mathlib.Core.Path.{_≡_, refl, _∙_}
 use mathlib.Core.List.{[], _∷_}
 use Prim.Native.Nat.{ℕ, _≤_}
 use native.Mathlib.Nat.{le-refl}
@@ -11,18 +11,17 @@ use lib.Ieee.Bits.{is-true}
 use Rattle.answer.specs.declared.Answer.{Answer}
 use Rattle.answer.specs.Reply.{Reply, done, ofAnswer}
 use Rattle.float_laws.specs.Units.{real}
-use Rattle.float_laws.specs.Round.{plus-zero}
+use Rattle.float32.specs.Remainder.{zero}
 use Rattle.float32.proofs.Limits.{within-low, within-high, within-real}
 use Rattle.limits.specs.Limits as limits
 use Rattle.limits.specs.Limits.{LEAST-TUNING, MOST-TUNING}
 use Rattle.power.specs.Log.{positiveNormal}
 use Rattle.decibels.specs.Gain.{gainOf}
-use Rattle.decibels.proofs.Gains.{gain-nonneg, gain-real}
 use Rattle.pitch.specs.Pitch.{noteHertz}
 use Rattle.pitch.specs.Tune.{tuneBits, InTune}
 use Rattle.pitch.proofs.InTune.{equal-temperament}
 use Rattle.pitch.proofs.Range.{Tuning, hertz-never-falls, hertz-real, hertz-normal}
-use Rattle.oiko_dsp.specs.Calls.{zero, dbToGain, noteFrequency, noteFrequencyWithTuning}
+use Rattle.oiko_dsp.specs.Calls.{dbToGain, noteFrequency, noteFrequencyWithTuning}
 
 -- ---- equal temperament
 pub record TunedReply (bits note : ℕ) (reply : Reply) : Type 0 where

@@ -18,8 +18,8 @@ use Rattle.limits.specs.Limits as limits
 use Rattle.decibels.proofs.Gains.{two}
 use Rattle.masks.specs.Gates.{emphasisGain, floorGain, noteGateGain}
 use Rattle.masks.specs.Manual.{MANUAL-MASK-POINTS, curvePoint, manualGain}
-use Rattle.masks.proofs.Smoothstep.{Unit}
-use Rattle.masks.proofs.Emphasis.{emphasis-at-least-one, emphasis-at-most-two, floor-nonneg, floor-at-most-one}
+use Rattle.masks.proofs.InUnit.{InUnit}
+use Rattle.masks.proofs.Emphasis.{emphasis-at-least-one, emphasis-at-most-two}
 use Rattle.masks.proofs.Gated.{note-gate-at-least-floor, note-gate-at-most-three}
 use Rattle.masks.proofs.Curve.{curve-gain-in-unit}
 use Rattle.spectral_dsp.specs.Gates.{noteEmphasisGainOf, noteGateGainOf, manualGainAtBinOf}
@@ -47,6 +47,6 @@ module _ (curve : List Float) (bin size : ℕ) (s : T (limits.size size)) (b : T
   unfolding manualGainAtBinOf
   manual-answered = rw (is-true (limits.size size) s, is-true (limits.bin bin) b, eq-eqb (length curve) MANUAL-MASK-POINTS l) refl
 
-  pub manual-in-unit : T (fits binary32 (getD curve (curvePoint bin size) nan)) → Unit (manualGain curve bin size)
+  pub manual-in-unit : T (fits binary32 (getD curve (curvePoint bin size) nan)) → InUnit (manualGain curve bin size)
   unfolding manualGain
   manual-in-unit f = curve-gain-in-unit (getD curve (curvePoint bin size) nan) f
