@@ -13,7 +13,7 @@ use Rattle.float_laws.specs.Bounds.{one, real-between, add-nonneg, add-zero-f, 
 use Rattle.float32.specs.Order.{clamp}
 use Rattle.float32.specs.Remainder as rem
 use Rattle.decibels.proofs.Gains.{two}
-use Rattle.masks.specs.Gates.{emphasisGain, floorGain, gateGain, noteGateGain}
+use Rattle.masks.specs.Gates.{emphasisGain, floorGain, gateGain, limitedGateGain}
 use Rattle.masks.proofs.InUnit.{InUnit, clamp-in-unit}
 use Rattle.masks.proofs.Emphasis.{floor-nonneg, floor-real, floor-at-most-one, lift-nonneg, lift-at-most-two, lift-real}
 
@@ -100,14 +100,14 @@ module _ (depth width openness : Float) (h : T (fits binary32 depth)) (p : T (re
   limited : InUnit (clamp rem.zero rem.one openness)
   limited = clamp-in-unit openness (real-number binary32 openness p)
 
-  pub note-gate-at-least-floor : T (le (floorGain depth) (noteGateGain depth width openness))
-  unfolding noteGateGain
+  pub note-gate-at-least-floor : T (le (floorGain depth) (limitedGateGain depth width openness))
+  unfolding limitedGateGain
   note-gate-at-least-floor = gate-at-least-floor depth width h _ (unit-openness _ limited)
 
-  pub note-gate-at-most-three : T (le (noteGateGain depth width openness) (fin false 3 (pos 0)))
-  unfolding noteGateGain
+  pub note-gate-at-most-three : T (le (limitedGateGain depth width openness) (fin false 3 (pos 0)))
+  unfolding limitedGateGain
   note-gate-at-most-three = gate-at-most-three depth width h _ limited
 
-  pub note-gate-real : T (real binary32 (noteGateGain depth width openness))
-  unfolding noteGateGain
+  pub note-gate-real : T (real binary32 (limitedGateGain depth width openness))
+  unfolding limitedGateGain
   note-gate-real = gate-real depth width h _ (unit-openness _ limited)

@@ -44,5 +44,5 @@ abbrev pub gateGain : Float → Float → Float → Float
 gateGain floor emphasis openness = add binary32 floor (mul binary32 (sub binary32 emphasis floor) openness)
 
 -- `note_gate_gain`, which limits the openness to 0..1
-unfoldable pub noteGateGain : Float → Float → Float → Float
-noteGateGain depth width openness = gateGain (floorGain depth) (emphasisGain width) (clamp zero one openness)
+unfoldable pub limitedGateGain : Float → Float → Float → Float
+limitedGateGain depth width openness = gateGain (floorGain depth) (emphasisGain width) (clamp zero one openness)
