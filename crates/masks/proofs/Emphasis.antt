@@ -1,8 +1,7 @@
 -- The emphasis is from 1 to 2 and the floor from 0 to 1, so that the emphasis less the floor is never negative. The position of a width is a clamp and lies in 0..1; smoothstep keeps it
 -- there; so the decibels are from 0 to 6 and those of the floor at most 0, and gains never fall. Assumes nothing.
-use mathlib.Core.Path.{_≡_, refl, sym, ap}
+use mathlib.Core.Path.{_≡_, refl}
 use mathlib.Core.Bool.{Bool, true, false, not, cond}
-use Prim.Native.Nat.{ℕ, _*_, _^_}
 use lib.Dec.{T, lit≤}
 use lib.IntN.{pos}
 use lib.Count.{trailingZeros}
@@ -10,43 +9,23 @@ use lib.Ieee.{Float, nan, inf, fin, binary32, le, lt, isNan, ofBits, fits, sub, 
 use lib.Ieee.Positive.{positive}
 use Rattle.float_laws.specs.Units.{number, real, real-number}
 use Rattle.float_laws.specs.Order as order
-use Rattle.float_laws.specs.Order.{le-trans-f, le-refl-f, lt-of-lt-of-le-f}
+use Rattle.float_laws.specs.Order.{le-trans-f, lt-of-lt-of-le-f}
 use Rattle.float_laws.specs.Round.{plus-zero}
-use Rattle.float_laws.specs.Mono.{sub-mono, sub-number, mul-mono, mul-nonneg, le-neg, number-neg}
+use Rattle.float_laws.specs.Mono.{sub-mono, sub-number, mul-nonneg, le-neg, number-neg}
 use Rattle.float_laws.specs.Bounds as bounds
 use Rattle.float_laws.specs.Bounds.{real-one, real-between, sub-nonneg, mul-le-left}
 use Rattle.float_laws.specs.Inf.{div-by-number, positive-above}
-use Rattle.float32.specs.Order.{maximum, clamp}
-use Rattle.float32.proofs.OrderAgrees.{clamp-agrees, maximum-nan-first, maximum-larger}
+use Rattle.float32.specs.Order.{maximum}
+use Rattle.float32.specs.Remainder.{zero}
+use Rattle.float32.proofs.OrderAgrees.{maximum-nan-first, maximum-larger}
 use Rattle.power.specs.Power.{positiveZero}
-use Rattle.power.specs.Log.{positiveNormal, rounded, L2}
+use Rattle.power.specs.Log.{rounded, L2}
 use Rattle.power.proofs.LogRising.{L2-mono}
 use Rattle.power.proofs.LogRange.{L2-of-power, L2-number, L2-real}
-use Rattle.decibels.specs.Gain.{gainOf}
-use Rattle.decibels.proofs.Gains.{six, two, gain-at-least-one, gain-at-most-one, gain-at-most-two, gain-nonneg, gain-real, gain-number}
-use Rattle.masks.specs.Gates.{zero, one, NARROW-CENTS, WIDE-RATIO, EMPHASIS-DECIBELS, smoothstep, widthPosition, emphasisGain, floorGain}
-use Rattle.masks.proofs.Smoothstep.{Unit, smoothstep-in-unit}
-
--- ---- the constants
-zero-is : zero ≡ plus-zero
-unfolding ofBits
-zero-is = refl
-
-one-is : one ≡ bounds.one
-unfolding ofBits
-one-is = refl
-
--- ---- a clamp to 0..1
-unit-clamp : (x : Float) → T (number binary32 x) → Unit (order.clamp plus-zero bounds.one x)
-unfolding fits
-unit-clamp x p =
-    let o = bounds.one-nonneg in
-    let a = order.clamp-low binary32 plus-zero bounds.one tt tt o x p in
-    let b = order.clamp-high binary32 plus-zero bounds.one tt tt o x p in
-    record { finite = real-between binary32 plus-zero (order.clamp plus-zero bounds.one x) bounds.one (order.clamp-number binary32 plus-zero bounds.one tt tt o x p) tt tt a b; low = a; high = b }
-
-pub clamp-unit : (x : Float) → T (number binary32 x) → Unit (clamp zero one x)
-clamp-unit x p = rw (zero-is, one-is, clamp-agrees) (unit-clamp x p)
+use Rattle.decibels.proofs.Gains.{six, two, gain-at-least-one, gain-at-most-one, gain-at-most-two, gain-nonneg, gain-real}
+use Rattle.masks.specs.Gates.{NARROW-CENTS, WIDE-RATIO, smoothstep, widthPosition, emphasisGain, floorGain}
+use Rattle.masks.proofs.InUnit.{InUnit, zero-is, clamp-in-unit, one-less}
+use Rattle.masks.proofs.Smoothstep.{smoothstep-in-unit}
 
 -- ---- log2 of 12 is at least that of 8, which is 3
 eight : Float
@@ -76,20 +55,12 @@ unfolding ofBits fits
 octaves-number true v = tt
 octaves-number false v = div-by-number binary32 (L2 WIDE-RATIO) log-12-positive (L2 v) (not-nan (L2 v) (L2-number v))
 
-pub position-in-unit : (width : Float) → Unit (widthPosition width)
+pub position-in-unit : (width : Float) → InUnit (widthPosition width)
 unfolding widthPosition
-position-in-unit width = clamp-unit _ (octaves-number (le width NARROW-CENTS) (div binary32 width NARROW-CENTS))
-
--- ---- 1 less what is in 0..1
-one-less : (s : Float) → Unit s → Unit (sub binary32 bounds.one s)
-unfolding sub neg add sum round size span climb units odd trailingZeros fits
-one-less s u =
-    let a = sub-nonneg binary32 bounds.one s (real-one binary32) (u .finite) (u .high) in
-    let b = sub-mono binary32 bounds.one bounds.one s plus-zero (real-one binary32) (real-one binary32) (u .finite) tt (le-refl-f binary32 bounds.one tt) (u .low) in
-    record { finite = real-between binary32 plus-zero (sub binary32 bounds.one s) bounds.one (sub-number binary32 bounds.one s (real-one binary32) (u .finite)) tt tt a b; low = a; high = b }
+position-in-unit width = clamp-in-unit _ (octaves-number (le width NARROW-CENTS) (div binary32 width NARROW-CENTS))
 
 -- ---- the emphasis, of every width
-module _ (s : Float) (u : Unit s) where
+module _ (s : Float) (u : InUnit s) where
   abbrev decibels : Float
   decibels = mul binary32 six (sub binary32 bounds.one s)
 
@@ -102,7 +73,7 @@ module _ (s : Float) (u : Unit s) where
   decibels-high = let n = one-less s u in mul-le-left binary32 six (sub binary32 bounds.one s) tt (n .finite) tt (n .low) (n .high)
 
 module _ (width : Float) where
-  step : Unit (smoothstep (widthPosition width))
+  step : InUnit (smoothstep (widthPosition width))
   step = smoothstep-in-unit (widthPosition width) (position-in-unit width)
 
   pub emphasis-at-least-one : T (le bounds.one (emphasisGain width))

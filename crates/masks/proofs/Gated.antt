@@ -1,6 +1,5 @@
 -- The gate: it never falls as the openness rises, is never below the floor and never negative, and is at most 3 up to an openness of 1. Each step keeps the order, the factor of the
 -- openness being never negative. Openness is taken up to 2 ^ 100, far beyond what any voice reaches, so that nothing overflows. Assumes nothing.
-use mathlib.Core.Path.{_≡_}
 use mathlib.Core.Bool.{false}
 use lib.Dec.{T}
 use lib.IntN.{pos}
@@ -12,11 +11,11 @@ use Rattle.float_laws.specs.Round.{plus-zero}
 use Rattle.float_laws.specs.Mono.{add-mono, add-number, mul-mono, mul-nonneg, mul-number}
 use Rattle.float_laws.specs.Bounds.{one, real-between, add-nonneg, add-zero-f, mul-le-left}
 use Rattle.float32.specs.Order.{clamp}
+use Rattle.float32.specs.Remainder as rem
 use Rattle.decibels.proofs.Gains.{two}
-use Rattle.masks.specs.Gates as gates
-use Rattle.masks.specs.Gates.{emphasisGain, floorGain, gateGain, noteGateGain}
-use Rattle.masks.proofs.Smoothstep.{Unit}
-use Rattle.masks.proofs.Emphasis.{clamp-unit, emphasis-real, floor-nonneg, floor-real, floor-at-most-one, lift-nonneg, lift-at-most-two, lift-real}
+use Rattle.masks.specs.Gates.{emphasisGain, floorGain, gateGain, limitedGateGain}
+use Rattle.masks.proofs.InUnit.{InUnit, clamp-in-unit}
+use Rattle.masks.proofs.Emphasis.{floor-nonneg, floor-real, floor-at-most-one, lift-nonneg, lift-at-most-two, lift-real}
 
 abbrev far : Float
 far = fin false 1 (pos 100)
@@ -27,7 +26,7 @@ pub record Openness (o : Float) : Type 0 where
   pub low : T (le plus-zero o)
   pub high : T (le o far)
 
-pub unit-openness : (o : Float) → Unit o → Openness o
+pub unit-openness : (o : Float) → InUnit o → Openness o
 unfolding fits le
 unit-openness o u = record { finite = u .finite; low = u .low; high = le-trans-f binary32 o one far (real-number binary32 o (u .finite)) tt tt (u .high) tt }
 
@@ -86,10 +85,7 @@ module _ (depth width : Float) (h : T (fits binary32 depth)) where
       (opened-mono o o' (u .finite) (v .finite) (u .low) k)
 
   -- up to 1
-  three : Float
-  three = fin false 3 (pos 0)
-
-  pub gate-at-most-three : (o : Float) → Unit o → T (le (gated o) (fin false 3 (pos 0)))
+  pub gate-at-most-three : (o : Float) → InUnit o → T (le (gated o) (fin false 3 (pos 0)))
   unfolding fits add sum round size span climb units odd trailingZeros
   gate-at-most-three o u =
       let s = mul binary32 lift o in
@@ -101,17 +97,17 @@ module _ (depth width : Float) (h : T (fits binary32 depth)) where
 
 -- ---- `note_gate_gain`: every finite openness is limited to 0..1
 module _ (depth width openness : Float) (h : T (fits binary32 depth)) (p : T (real binary32 openness)) where
-  limited : Unit (clamp gates.zero gates.one openness)
-  limited = clamp-unit openness (real-number binary32 openness p)
+  limited : InUnit (clamp rem.zero rem.one openness)
+  limited = clamp-in-unit openness (real-number binary32 openness p)
 
-  pub note-gate-at-least-floor : T (le (floorGain depth) (noteGateGain depth width openness))
-  unfolding noteGateGain
+  pub note-gate-at-least-floor : T (le (floorGain depth) (limitedGateGain depth width openness))
+  unfolding limitedGateGain
   note-gate-at-least-floor = gate-at-least-floor depth width h _ (unit-openness _ limited)
 
-  pub note-gate-at-most-three : T (le (noteGateGain depth width openness) (fin false 3 (pos 0)))
-  unfolding noteGateGain
+  pub note-gate-at-most-three : T (le (limitedGateGain depth width openness) (fin false 3 (pos 0)))
+  unfolding limitedGateGain
   note-gate-at-most-three = gate-at-most-three depth width h _ limited
 
-  pub note-gate-real : T (real binary32 (noteGateGain depth width openness))
-  unfolding noteGateGain
+  pub note-gate-real : T (real binary32 (limitedGateGain depth width openness))
+  unfolding limitedGateGain
   note-gate-real = gate-real depth width h _ (unit-openness _ limited)

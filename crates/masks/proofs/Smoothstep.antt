@@ -2,137 +2,25 @@
 -- is exact and p * p is off by at most one part in 2 ^ 24; the exact product is at most 1, so what is rounded last is at most 1 + 2 ^ -24, and that rounds to 1. Assumes nothing.
 use mathlib.Core.Path.{_≡_, refl, sym, ap, _∙_, subst}
 use mathlib.Core.Logic.{inl, inr}
-use mathlib.Core.Bool.{Bool, true, false}
+use mathlib.Core.Bool.{false}
 use Prim.Native.Nat.{ℕ, _+_, _-_, _*_, _^_, _≤_, _<_}
-use native.Mathlib.Nat.{mul-one, lt-of-le-of-lt, mul-add, add-mul, mul-comm, mul-assoc, mul-left-comm, mul-right-comm, mul-le-mul, mul-le-mul-left, mul-le-mul-right, le-of-mul-le-mul-left, le-of-mul-le-mul-right, le-trans, le-of-eq, le-refl, mul-pos}
+use native.Mathlib.Nat.{mul-one, lt-of-le-of-lt, mul-le-mul-right, le-trans, le-of-eq}
 use native.Mathlib.Omega.{arith}
 use lib.Dec.{T, lit≤, lit<}
 use lib.IntN.{pos, negsuc}
-use lib.Pow.{pow-pos}
 use lib.Count.{trailingZeros}
-use lib.Ieee.{Float, fin, Format, binary32, prec, low, le, sub, mul, ofBits, fits, neg, add, sum, round, size, span, climb, units, odd}
+use lib.Ieee.{Float, fin, binary32, low, le, sub, mul, ofBits, fits, neg, add, sum, round, size, span, climb, units, odd}
 use lib.Ieee.Scale.{overflow}
-use Rattle.float_laws.specs.Units.{mag, number, real, key, key→le, real-number, mag-below}
+use Rattle.float_laws.specs.Units.{mag, number, real, key, real-number}
 use Rattle.float_laws.specs.Order.{le-refl-f, le-trans-f, le-total-f}
-use Rattle.float_laws.specs.Round.{plus-zero, rnd, rnd-mono, real-zero, squared-pos}
+use Rattle.float_laws.specs.Round.{plus-zero, rnd}
 use Rattle.float_laws.specs.Ops.{mul-comm-f}
-use Rattle.float_laws.specs.Mono.{rndU, rndM, sub-mono, sub-number, mul-mono, mul-number, mul-key-nonneg, mul-nonneg, size-nonneg, sizes}
-use Rattle.float_laws.specs.Bounds.{one, real-one, mag-one, real-between, mul-le-left, mul-real}
+use Rattle.float_laws.specs.Mono.{rndU, sub-mono, sub-number, mul-mono, mul-number, mul-nonneg, size-nonneg, sizes}
+use Rattle.float_laws.specs.Bounds.{one, real-one, mag-one, real-between, mul-real}
 use Rattle.float_laws.specs.Exact.{mul-two, sub-near}
-use Rattle.float_laws.specs.Error.{Relative, rnd-relative}
 use Rattle.masks.specs.Gates.{two, three, smoothstep}
-
--- ---- whole numbers: m * m * (3 * L - 2 * m) ≤ L * L * L, with d = L - m
-first : (m d : ℕ) → m * (m + 3 * d) ≤ (m + d) * (m + 2 * d)
-first m d =
-    let a : m * (m + 3 * d) ≡ m * m + m * (3 * d) = mul-add m m (3 * d) in
-    let b : m * (3 * d) ≡ 3 * (m * d) = mul-left-comm m 3 d in
-    let c : (m + d) * (m + 2 * d) ≡ m * (m + 2 * d) + d * (m + 2 * d) = add-mul m d (m + 2 * d) in
-    let e : m * (m + 2 * d) ≡ m * m + m * (2 * d) = mul-add m m (2 * d) in
-    let g : m * (2 * d) ≡ 2 * (m * d) = mul-left-comm m 2 d in
-    let h : d * (m + 2 * d) ≡ d * m + d * (2 * d) = mul-add d m (2 * d) in
-    let i : d * m ≡ m * d = mul-comm d m in
-    omega arith
-
-second : (m d : ℕ) → m * (m + 2 * d) ≤ (m + d) * (m + d)
-second m d =
-    let e : m * (m + 2 * d) ≡ m * m + m * (2 * d) = mul-add m m (2 * d) in
-    let g : m * (2 * d) ≡ 2 * (m * d) = mul-left-comm m 2 d in
-    let c : (m + d) * (m + d) ≡ m * (m + d) + d * (m + d) = add-mul m d (m + d) in
-    let a : m * (m + d) ≡ m * m + m * d = mul-add m m d in
-    let h : d * (m + d) ≡ d * m + d * d = mul-add d m d in
-    let i : d * m ≡ m * d = mul-comm d m in
-    omega arith
-
-cubic : (m d : ℕ) → m * m * (m + 3 * d) ≤ (m + d) * ((m + d) * (m + d))
-cubic m d =
-    le-trans (le-of-eq (mul-assoc m m (m + 3 * d)))
-    (le-trans (mul-le-mul-left m (first m d))
-    (le-trans (le-of-eq (mul-left-comm m (m + d) (m + 2 * d))) (mul-le-mul-left (m + d) (second m d))))
-
-under-one : (m t L : ℕ) → m ≤ L → t + m * 2 ≡ 3 * L → m * m * t ≤ L * (L * L)
-under-one m t L h e =
-    let a : t ≡ m + 3 * (L - m) = omega arith in
-    let b : m + (L - m) ≡ L = omega arith in
-    subst (λ (z : ℕ). m * m * t ≤ z * (z * z)) b (subst (λ (z : ℕ). m * m * z ≤ (m + (L - m)) * ((m + (L - m)) * (m + (L - m)))) (sym a) (cubic m (L - m)))
-
--- q is m * m / L within one part in 2 ^ 24, and C is 1 + 2 ^ -24 of L
-strip : (q n L : ℕ) → 0 < L → 8388608 * (2 * (q * (L * L))) ≤ 8388608 * (2 * (n * L)) + n * L → 16777216 * (q * L) ≤ 16777217 * n
-strip q n L P h =
-    let a : q * (L * L) ≡ q * L * L = sym (mul-assoc q L L) in
-    let b : 16777216 * (q * L) * L ≡ 16777216 * (q * L * L) = mul-assoc 16777216 (q * L) L in
-    let c : 16777217 * n * L ≡ 16777217 * (n * L) = mul-assoc 16777217 n L in
-    le-of-mul-le-mul-right (omega arith) P
-
-scaled : (q n t L C N : ℕ) → 16777216 * (q * L) ≤ 16777217 * n → n * t ≤ L * N → 16777216 * C ≡ 16777217 * L → q * t * L ≤ C * N
-scaled q n t L C N h k e =
-    let a : 16777216 * (q * L) * t ≤ 16777217 * n * t = mul-le-mul-right t h in
-    let b : 16777216 * (q * L) * t ≡ 16777216 * (q * L * t) = mul-assoc 16777216 (q * L) t in
-    let c : q * L * t ≡ q * t * L = mul-right-comm q L t in
-    let g : 16777217 * n * t ≡ 16777217 * (n * t) = mul-assoc 16777217 n t in
-    let i : 16777216 * C * N ≡ 16777217 * L * N = ap (λ (z : ℕ). z * N) e in
-    let j : 16777216 * C * N ≡ 16777216 * (C * N) = mul-assoc 16777216 C N in
-    let l : 16777217 * L * N ≡ 16777217 * (L * N) = mul-assoc 16777217 L N in
-    omega arith
-
-enough : (m L : ℕ) → 4 * 8388608 ≤ L → L ≤ m * 2 → 8388608 * (L * L) ≤ m * m * L
-enough m L h k =
-    let a : L * L ≤ m * 2 * (m * 2) = mul-le-mul k k in
-    let b : m * 2 * (m * 2) ≡ 4 * (m * m) = omega (arith, mul-assoc m 2 (m * 2), mul-left-comm 2 m 2, mul-left-comm m m 4, mul-comm m 2) in
-    let c : 4 * 8388608 * (L * L) ≤ L * (L * L) = mul-le-mul-right (L * L) h in
-    let d : L * (L * L) ≤ L * (4 * (m * m)) = mul-le-mul-left L (le-trans a (le-of-eq b)) in
-    let e : L * (4 * (m * m)) ≡ 4 * (L * (m * m)) = mul-left-comm L 4 (m * m) in
-    let g : L * (m * m) ≡ m * m * L = mul-comm L (m * m) in
-    let i : 4 * 8388608 * (L * L) ≡ 4 * (8388608 * (L * L)) = mul-assoc 4 8388608 (L * L) in
-    omega arith
-
--- ---- where t is 3 - 2 * p exactly, and p is at least 1/2
-module _ (f : Format) (P : 2 ^ (prec f - 1) ≡ 8388608) (big : 4 * 8388608 ≤ 2 ^ low f) (C : ℕ) (eC : 16777216 * C ≡ 16777217 * 2 ^ low f) (rC : rndU f C ≤ 2 ^ low f)
-    (p t : Float) (r : T (real f p)) (q : T (real f t)) (p0 : T (le plus-zero p)) (p1 : T (le p one)) (t0 : T (le plus-zero t)) (from : 2 ^ low f ≤ mag f p * 2)
-    (exact : mag f t + mag f p * 2 ≡ 3 * 2 ^ low f) where
-  square-real : T (real f (mul f p p))
-  square-real = mul-real f p p r r p0 p0 p1
-
-  square-0 : T (le plus-zero (mul f p p))
-  square-0 = mul-nonneg f p p r r p0 p0
-
-  square-size : mag f (mul f p p) ≡ rndM f (mag f p) (mag f p)
-  square-size = omega (arith, mul-key-nonneg f p p r r p0 p0, size-nonneg f (mul f p p) square-real square-0)
-
-  p-size : mag f p ≤ 2 ^ low f
-  p-size = le-trans (sizes f p one r (real-one f) p0 p1 .0) (le-of-eq (mag-one f))
-
-  square-near : Relative 8388608 (mag f p * mag f p * 2 ^ low f) (2 ^ low f * 2 ^ low f) (mag f (mul f p p))
-  square-near =
-      let m = mag f p in
-      let L = 2 ^ low f in
-      let a : rndM f m m < overflow f = subst (λ (z : ℕ). z < overflow f) square-size (mag-below f (mul f p p) square-real) in
-      let b : 2 ^ (prec f - 1) * (L * L) ≤ m * m * L = subst (λ (z : ℕ). z * (L * L) ≤ m * m * L) (sym P) (enough m L big from) in
-      subst (λ (z : ℕ). Relative 8388608 (m * m * L) (L * L) z) (sym square-size)
-      (subst (λ (z : ℕ). Relative z (m * m * L) (L * L) (rndM f m m)) P (rnd-relative f (m * m) (L * L) (squared-pos f) a b))
-
-  product-size : rndM f (mag f (mul f p p)) (mag f t) ≤ 2 ^ low f
-  product-size =
-      let m = mag f p in
-      let L = 2 ^ low f in
-      let L0 = pow-pos (low f) in
-      let s = mag f (mul f p p) in
-      let n = strip s (m * m) L L0 (square-near .hi) in
-      le-trans (rnd-mono f (s * mag f t) (L * L) C L (squared-pos f) L0 (scaled s (m * m) (mag f t) L C (L * L) n (under-one m (mag f t) L p-size exact) eC)) rC
-
-  pub last-stretch : T (le (mul f (mul f p p) t) one)
-  last-stretch =
-      key→le f (mul f (mul f p p) t) one (mul-number f (mul f p p) t square-real q) (real-number f one (real-one f))
-      (omega (arith, mul-key-nonneg f (mul f p p) t square-real q square-0 t0, product-size, mag-one f))
-
--- ---- f32: a value in 0..1
-pub record Unit (p : Float) : Type 0 where
-  pub finite : T (real binary32 p)
-  pub low : T (le plus-zero p)
-  pub high : T (le p one)
-
-unit : (p : Float) → T (real binary32 p) → T (le plus-zero p) → T (le p one) → Unit p
-unit p r a b = record { finite = r; low = a; high = b }
+use Rattle.masks.proofs.InUnit.{InUnit, in-unit, zero-in-unit, one-in-unit}
+use Rattle.masks.proofs.LastStretch.{last-stretch}
 
 two-real : T (real binary32 two)
 unfolding ofBits fits
@@ -156,34 +44,26 @@ twice p = mul binary32 two p
 abbrev rest : Float → Float
 rest p = sub binary32 three (twice p)
 
-module _ (p : Float) (u : Unit p) where
+module _ (p : Float) (u : InUnit p) where
   twice-real : T (real binary32 (twice p))
   twice-real = mul-real binary32 two p two-real (u .finite) two-0 (u .low) (u .high)
 
   twice-0 : T (le plus-zero (twice p))
   twice-0 = mul-nonneg binary32 two p two-real (u .finite) two-0 (u .low)
 
-rest-turns : (p q : Float) → Unit p → Unit q → T (le p q) → T (le (rest q) (rest p))
+rest-turns : (p q : Float) → InUnit p → InUnit q → T (le p q) → T (le (rest q) (rest p))
 rest-turns p q u v h =
     sub-mono binary32 three three (twice q) (twice p) three-real three-real (twice-real q v) (twice-real p u) (le-refl-f binary32 three (real-number binary32 three three-real))
     (mul-mono binary32 two two p q two-real two-real (u .finite) (v .finite) two-0 (u .low) (le-refl-f binary32 two (real-number binary32 two two-real)) h)
 
-zero-unit : Unit plus-zero
-unfolding fits le
-zero-unit = record { finite = tt; low = tt; high = tt }
-
-one-unit : Unit one
-unfolding fits le
-one-unit = record { finite = tt; low = tt; high = tt }
-
-module _ (p : Float) (u : Unit p) where
+module _ (p : Float) (u : InUnit p) where
   rest-number : T (number binary32 (rest p))
   rest-number = sub-number binary32 three (twice p) three-real (twice-real p u)
 
   -- 1 ≤ 3 - 2 * p ≤ 3
   rest-real : T (real binary32 (rest p))
   unfolding ofBits fits mul sub neg add sum round size span climb units odd trailingZeros
-  rest-real = real-between binary32 (rest one) (rest p) (rest plus-zero) rest-number tt tt (rest-turns p one u one-unit (u .high)) (rest-turns plus-zero p zero-unit u (u .low))
+  rest-real = real-between binary32 (rest one) (rest p) (rest plus-zero) rest-number tt tt (rest-turns p one u one-in-unit (u .high)) (rest-turns plus-zero p zero-in-unit u (u .low))
 
   one-rest : T (le plus-zero (rest one))
   unfolding ofBits le mul sub neg add sum round size span climb units odd trailingZeros
@@ -191,7 +71,7 @@ module _ (p : Float) (u : Unit p) where
 
   rest-0 : T (le plus-zero (rest p))
   unfolding fits
-  rest-0 = le-trans-f binary32 plus-zero (rest one) (rest p) tt (sub-number binary32 three (twice one) three-real (twice-real one one-unit)) rest-number one-rest (rest-turns p one u one-unit (u .high))
+  rest-0 = le-trans-f binary32 plus-zero (rest one) (rest p) tt (sub-number binary32 three (twice one) three-real (twice-real one one-in-unit)) rest-number one-rest (rest-turns p one u one-in-unit (u .high))
 
   squared-real : T (real binary32 (mul binary32 p p))
   squared-real = mul-real binary32 p p (u .finite) (u .finite) (u .low) (u .low) (u .high)
@@ -203,7 +83,7 @@ module _ (p : Float) (u : Unit p) where
   unfolding smoothstep
   step-number = mul-number binary32 (mul binary32 p p) (rest p) squared-real rest-real
 
-  pub smoothstep-nonneg : T (le plus-zero (smoothstep p))
+  smoothstep-nonneg : T (le plus-zero (smoothstep p))
   unfolding smoothstep
   smoothstep-nonneg = mul-nonneg binary32 (mul binary32 p p) (rest p) squared-real rest-real squared-0 rest-0
 
@@ -211,7 +91,7 @@ module _ (p : Float) (u : Unit p) where
 abbrev corner : Float → Float → Float
 corner lo hi = mul binary32 (mul binary32 hi hi) (rest lo)
 
-stretch : (lo hi p : Float) → Unit lo → Unit hi → Unit p → T (le lo p) → T (le p hi) → T (le (corner lo hi) one) → T (le (smoothstep p) one)
+stretch : (lo hi p : Float) → InUnit lo → InUnit hi → InUnit p → T (le lo p) → T (le p hi) → T (le (corner lo hi) one) → T (le (smoothstep p) one)
 unfolding smoothstep fits
 stretch lo hi p l h u a b c =
     le-trans-f binary32 (smoothstep p) (corner lo hi) one (step-number p u) (mul-number binary32 (mul binary32 hi hi) (rest lo) (squared-real hi h) (rest-real lo l)) tt
@@ -229,15 +109,15 @@ five-eighths = fin false 5 (negsuc 2)
 abbrev three-quarters : Float
 three-quarters = fin false 3 (negsuc 1)
 
-half-unit : Unit half
+half-unit : InUnit half
 unfolding fits le
 half-unit = record { finite = tt; low = tt; high = tt }
 
-five-unit : Unit five-eighths
+five-unit : InUnit five-eighths
 unfolding fits le
 five-unit = record { finite = tt; low = tt; high = tt }
 
-three-unit : Unit three-quarters
+three-unit : InUnit three-quarters
 unfolding fits le
 three-unit = record { finite = tt; low = tt; high = tt }
 
@@ -282,7 +162,7 @@ at-least-half q m L e h = omega arith
 difference : (K kr kt k3 r t n : ℕ) → kr + kt ≡ k3 + K → kr ≡ K + r → kt ≡ K + t → k3 ≡ K + n → r + t ≡ n
 difference K kr kt k3 r t n e a b c = omega arith
 
-module _ (p : Float) (u : Unit p) (h : T (le three-quarters p)) where
+module _ (p : Float) (u : InUnit p) (h : T (le three-quarters p)) where
   p-most : mag binary32 p ≤ 2 ^ 149
   p-most = le-trans (sizes binary32 p one (u .finite) (real-one binary32) (u .low) (u .high) .0) (le-of-eq (mag-one binary32))
 
@@ -318,13 +198,13 @@ module _ (p : Float) (u : Unit p) (h : T (le three-quarters p)) where
       (at-least-half (mag binary32 three-quarters) (mag binary32 p) (2 ^ 149) quarters-size p-least) rest-exact
 
 -- ---- the whole of 0..1
-unit-number : (p : Float) → Unit p → T (number binary32 p)
+unit-number : (p : Float) → InUnit p → T (number binary32 p)
 unit-number p u = real-number binary32 p (u .finite)
 
-pub smoothstep-at-most-one : (p : Float) → Unit p → T (le (smoothstep p) one)
+smoothstep-at-most-one : (p : Float) → InUnit p → T (le (smoothstep p) one)
 smoothstep-at-most-one p u =
     elim (le-total-f binary32 p half (unit-number p u) (unit-number half half-unit)) [
-      | inl a ↦ stretch plus-zero half p zero-unit half-unit u (u .low) a corner-1
+      | inl a ↦ stretch plus-zero half p zero-in-unit half-unit u (u .low) a corner-1
       | inr a ↦
           elim (le-total-f binary32 p five-eighths (unit-number p u) (unit-number five-eighths five-unit)) [
             | inl b ↦ stretch half five-eighths p half-unit five-unit u a b corner-2
@@ -336,8 +216,5 @@ smoothstep-at-most-one p u =
           ]
     ]
 
-pub smoothstep-in-unit : (p : Float) → Unit p → Unit (smoothstep p)
-smoothstep-in-unit p u =
-    let a = smoothstep-nonneg p u in
-    let b = smoothstep-at-most-one p u in
-    unit (smoothstep p) (real-between binary32 plus-zero (smoothstep p) one (step-number p u) (real-zero binary32 false) (real-one binary32) a b) a b
+pub smoothstep-in-unit : (p : Float) → InUnit p → InUnit (smoothstep p)
+smoothstep-in-unit p u = in-unit (smoothstep p) (step-number p u) (smoothstep-nonneg p u) (smoothstep-at-most-one p u)

@@ -3,14 +3,9 @@
 use mathlib.Core.Bool.{cond}
 use lib.Ieee.{Float, binary32, ofBits, le, add, sub, mul, div, neg}
 use Rattle.float32.specs.Order.{maximum, clamp}
+use Rattle.float32.specs.Remainder.{zero, one}
 use Rattle.power.specs.Log.{L2}
 use Rattle.decibels.specs.Gain.{gainOf}
-
-abbrev pub zero : Float
-zero = ofBits binary32 0x00000000
-
-abbrev pub one : Float
-one = ofBits binary32 0x3f800000
 
 abbrev pub two : Float
 two = ofBits binary32 0x40000000
@@ -49,5 +44,5 @@ abbrev pub gateGain : Float → Float → Float → Float
 gateGain floor emphasis openness = add binary32 floor (mul binary32 (sub binary32 emphasis floor) openness)
 
 -- `note_gate_gain`, which limits the openness to 0..1
-unfoldable pub noteGateGain : Float → Float → Float → Float
-noteGateGain depth width openness = gateGain (floorGain depth) (emphasisGain width) (clamp zero one openness)
+unfoldable pub limitedGateGain : Float → Float → Float → Float
+limitedGateGain depth width openness = gateGain (floorGain depth) (emphasisGain width) (clamp zero one openness)

@@ -5,6 +5,7 @@ use Prim.Native.Nat.{ℕ, _+_, _*_, _/_, min}
 use lib.ListN.{getD}
 use lib.Ieee.{Float, nan, binary32, ofBits, le}
 use Rattle.float32.specs.Order.{minimum}
+use Rattle.float32.specs.Remainder.{zero}
 use Rattle.decibels.specs.Gain.{gainOf}
 
 -- the curve has the points 0..8,192, as many as the largest size has bins
@@ -21,9 +22,6 @@ curvePoint bin size = min ((min bin LAST-POINT * LAST-POINT + size / 4) / (size 
 -- "Curve values ≤ -144 give 0, values above 0 count as 0, NaN counts as 0."
 abbrev pub MANUAL-CURVE-MUTE-DB : Float
 MANUAL-CURVE-MUTE-DB = ofBits binary32 0xc3100000
-
-abbrev pub zero : Float
-zero = ofBits binary32 0x00000000
 
 unfoldable pub curveGain : Float → Float
 curveGain db = cond (le db MANUAL-CURVE-MUTE-DB) zero (gainOf (minimum db zero))

@@ -1,7 +1,7 @@
 // The gate of the note layer.
 ghost use mathlib.Core.Path.{_≡_};
 ghost use Rattle.power.specs.Table.{powerTable};
-ghost use Rattle.masks.specs.Gates.{smoothstep, widthPosition, emphasisGain, floorGain, gateGain, noteGateGain};
+ghost use Rattle.masks.specs.Gates.{smoothstep, widthPosition, emphasisGain, floorGain, gateGain, limitedGateGain};
 use float32::order::clamp;
 use float32::order::max;
 use power::table::PowerTable;
@@ -58,7 +58,7 @@ pub fn gate_gain(floor: f32, emphasis: f32, openness: f32) -> f32
 // The gain of the note layer at an openness, which is limited to 0..1.
 pub fn gate(powers: &PowerTable, depth: f32, width: f32, openness: f32) -> f32
     requires { ⌜ now powers ≡ powerTable ⌝ }
-    ensures { λ r. ⌜ r ≡ noteGateGain depth width openness ⌝ }
+    ensures { λ r. ⌜ r ≡ limitedGateGain depth width openness ⌝ }
 {
     let floor = floor_gain(powers, depth);
     gate_gain(floor, emphasis(powers, width), clamp(openness, 0.0, 1.0))

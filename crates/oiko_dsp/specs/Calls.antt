@@ -2,8 +2,9 @@
 use mathlib.Core.Bool.{cond}
 use mathlib.Core.List.{[], _∷_}
 use Prim.Native.Nat.{ℕ}
-use lib.Ieee.{Float, binary32, ofBits}
+use lib.Ieee.{Float}
 use Rattle.answer.specs.Reply.{Reply, done, refused}
+use Rattle.float32.specs.Remainder.{zero}
 use Rattle.limits.specs.Limits as limits
 use Rattle.decibels.specs.Gain.{gainOf}
 use Rattle.pitch.specs.Pitch.{noteHertz}
@@ -15,8 +16,5 @@ unfoldable pub noteFrequencyWithTuning : ℕ → Float → Reply
 noteFrequencyWithTuning note tuning = cond (limits.note note) (cond (limits.tuning tuning) (done (noteHertz note tuning ∷ [])) (refused 2 0)) (refused 2 0)
 
 -- a note at tuning 0
-abbrev pub zero : Float
-zero = ofBits binary32 0x00000000
-
 unfoldable pub noteFrequency : ℕ → Reply
 noteFrequency note = cond (limits.note note) (done (noteHertz note zero ∷ [])) (refused 2 0)

@@ -2,12 +2,11 @@
 use mathlib.Core.Path.{_≡_, refl}
 use mathlib.Core.Bool.{Bool, false, _&&_}
 use Prim.Native.Nat.{ℕ, _+_, _-_, _*_, _^_, _≤_}
-use native.Mathlib.Numerals.{lt-add-one}
 use native.Mathlib.Omega.{arith}
 use lib.Dec.{T, leb, leb→le}
 use lib.IntN.{pos}
 use lib.Count.{trailingZeros}
-use lib.Ieee.{Float, fin, binary32, ofBits, ofInt, add, sub, mul, div, neg, sum, round, size, span, climb, units, odd, isNan}
+use lib.Ieee.{Float, fin, ofBits, ofInt, add, sub, mul, div, neg, sum, round, size, span, climb, units, odd, isNan}
 use lib.Ieee.Fits.{and-l, and-r}
 use Rattle.float32.specs.Value.{above, below, moved}
 use Rattle.lists.specs.Interpolation.{interp}

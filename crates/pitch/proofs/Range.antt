@@ -1,9 +1,9 @@
 -- The frequency of a note never falls as the note or its tuning rises, since each operation keeps the order. So for the notes 0..127 and tunings -48..48 it lies between those of
 -- the two ends, which antt computes: it is finite and from 1/2 to 2 ^ 18 Hz, hence positive and normal, as L2 wants it. Assumes nothing.
-use mathlib.Core.Path.{_≡_, ap, subst₂}
+use mathlib.Core.Path.{_≡_, subst₂}
 use mathlib.Core.Bool.{true, false}
 use Prim.Native.Nat.{ℕ, _+_, _*_, _^_, _≤_}
-use native.Mathlib.Nat.{le-trans, le-refl, mul-le-mul-right}
+use native.Mathlib.Nat.{le-trans, mul-le-mul-right}
 use native.Mathlib.Omega.{arith}
 use lib.Dec.{T, lit≤}
 use lib.IntN.{pos, negsuc}
@@ -12,10 +12,10 @@ use lib.Ieee.{Float, fin, Format, binary32, prec, low, le, lt, ofBits, ofInt, ad
 use lib.Ieee.Fits.{and-i}
 use lib.Ieee.Positive.{positive}
 use lib.Ieee.Scale.{overflow}
-use Rattle.float_laws.specs.Units.{mag, sign, number, real, key, keyed, key→le, real-number}
+use Rattle.float_laws.specs.Units.{number, real, key, key→le, real-number}
 use Rattle.float_laws.specs.Order.{le-trans-f, le-refl-f, lt-of-lt-of-le-f}
 use Rattle.float_laws.specs.Ops.{mul-comm-f}
-use Rattle.float_laws.specs.Mono.{add-mono, add-number, sub-mono, sub-number, mul-number}
+use Rattle.float_laws.specs.Mono.{add-mono, add-number, sub-mono, mul-number}
 use Rattle.float_laws.specs.Bounds.{real-between}
 use Rattle.float_laws.specs.Exact.{mag-whole, sign-whole, real-whole}
 use Rattle.float_laws.specs.Inf.{mul-by, div-by}

@@ -8,16 +8,16 @@ use lib.Ieee.{Float}
 use Rattle.answer.specs.Reply.{Reply, done, refused}
 use Rattle.float32.specs.Order.{finite}
 use Rattle.limits.specs.Limits as limits
-use Rattle.masks.specs.Gates.{emphasisGain, noteGateGain}
+use Rattle.masks.specs.Gates.{emphasisGain, limitedGateGain}
 use Rattle.masks.specs.Manual.{MANUAL-MASK-POINTS, manualGain}
 
-unfoldable pub noteEmphasisGainOf : Float → Reply
-noteEmphasisGainOf width = cond (limits.width width) (done (emphasisGain width ∷ [])) (refused 2 0)
+unfoldable pub noteEmphasisGain : Float → Reply
+noteEmphasisGain width = cond (limits.width width) (done (emphasisGain width ∷ [])) (refused 2 0)
 
-unfoldable pub noteGateGainOf : Float → Float → Float → Reply
-noteGateGainOf depth width openness =
-    cond (limits.noteDepth depth) (cond (limits.width width) (cond (finite openness) (done (noteGateGain depth width openness ∷ [])) (refused 2 0)) (refused 2 0)) (refused 2 0)
+unfoldable pub noteGateGain : Float → Float → Float → Reply
+noteGateGain depth width openness =
+    cond (limits.noteDepth depth) (cond (limits.width width) (cond (finite openness) (done (limitedGateGain depth width openness ∷ [])) (refused 2 0)) (refused 2 0)) (refused 2 0)
 
-unfoldable pub manualGainAtBinOf : List Float → ℕ → ℕ → Reply
-manualGainAtBinOf curve bin size =
+unfoldable pub manualGainAtBin : List Float → ℕ → ℕ → Reply
+manualGainAtBin curve bin size =
     cond (limits.size size) (cond (limits.bin bin) (cond (eqb (length curve) MANUAL-MASK-POINTS) (done (manualGain curve bin size ∷ [])) (refused 4 0)) (refused 2 0)) (refused 1 0)

@@ -5,7 +5,7 @@ ghost use Rattle.lists.specs.Maps.{tabulate};
 ghost use Rattle.answer.specs.Reply.{ofAnswer, ofOutcome};
 ghost use Rattle.frequencies.specs.Frequency.{prepared};
 ghost use Rattle.spectral_dsp.specs.Advanced.{ofEnvelopes, advanceOf};
-ghost use Rattle.spectral_dsp.specs.Gates.{noteEmphasisGainOf, noteGateGainOf, manualGainAtBinOf};
+ghost use Rattle.spectral_dsp.specs.Gates.{noteEmphasisGain, noteGateGain, manualGainAtBin};
 ghost use Rattle.spectral_dsp.specs.Motion.{opennessReply, attenuationReply, compensationReply};
 ghost use Rattle.spectral_dsp.specs.Prepared.{prepareReply};
 ghost use Rattle.spectral_dsp.specs.Written.{written};
@@ -17,7 +17,7 @@ use scene::MotionConfig;
 
 // The lift of a fully open note centre: 6 dB for a narrow note, none for the widest.
 pub fn note_emphasis_gain(width_cents: f32) -> Answer
-    ensures { λ r. ⌜ ofAnswer r ≡ noteEmphasisGainOf «width_cents» ⌝ }
+    ensures { λ r. ⌜ ofAnswer r ≡ noteEmphasisGain «width_cents» ⌝ }
 {
     if !limits::width(width_cents) {
         return Answer::Refused(2, 0);
@@ -28,7 +28,7 @@ pub fn note_emphasis_gain(width_cents: f32) -> Answer
 
 // Gain of the complete note layer at one bin. Closed regions follow the note depth while fully open note centres retain their width-compensated lift.
 pub fn note_gate_gain(note_depth_db: f32, width_cents: f32, openness: f32) -> Answer
-    ensures { λ r. ⌜ ofAnswer r ≡ noteGateGainOf «note_depth_db» «width_cents» openness ⌝ }
+    ensures { λ r. ⌜ ofAnswer r ≡ noteGateGain «note_depth_db» «width_cents» openness ⌝ }
 {
     if !limits::note_depth(note_depth_db) {
         return Answer::Refused(2, 0);
@@ -45,7 +45,7 @@ pub fn note_gate_gain(note_depth_db: f32, width_cents: f32, openness: f32) -> An
 
 // Gain that the drawn curve gives a bin.
 pub fn manual_gain_at_bin(mask_db: &[f32], bin: usize, fft_size: usize) -> Answer
-    ensures { λ r. ⌜ ofAnswer r ≡ manualGainAtBinOf (now («mask_db» .entry)) bin «fft_size» ⌝ }
+    ensures { λ r. ⌜ ofAnswer r ≡ manualGainAtBin (now («mask_db» .entry)) bin «fft_size» ⌝ }
 {
     if !limits::size(fft_size) {
         return Answer::Refused(1, 0);

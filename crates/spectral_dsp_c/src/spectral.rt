@@ -4,7 +4,7 @@ ghost use Prim.Native.Nat.{_≤_};
 ghost use lib.ListN.{length};
 ghost use Rattle.lists.specs.Maps.{tabulate};
 ghost use Rattle.frequencies.specs.Frequency.{prepared};
-ghost use Rattle.spectral_dsp.specs.Gates.{noteEmphasisGainOf, noteGateGainOf, manualGainAtBinOf};
+ghost use Rattle.spectral_dsp.specs.Gates.{noteEmphasisGain, noteGateGain, manualGainAtBin};
 ghost use Rattle.spectral_dsp.specs.Motion.{opennessReply, attenuationReply, compensationReply};
 ghost use Rattle.spectral_dsp.specs.Prepared.{prepareReply};
 ghost use Rattle.spectral_dsp.specs.Written.{written};
@@ -22,7 +22,7 @@ pub extern "C" fn dovetable_note_emphasis_gain(
     gain: &mut f32,
     place: &mut usize,
 ) -> u32
-    ensures { λ r. ⌜ GivenValue (noteEmphasisGainOf «width_cents») r (now (place .entry)) (now (place .exit)) (now (gain .entry)) (now (gain .exit)) ⌝ }
+    ensures { λ r. ⌜ GivenValue (noteEmphasisGain «width_cents») r (now (place .entry)) (now (place .exit)) (now (gain .entry)) (now (gain .exit)) ⌝ }
 {
     give_answer(spectral_dsp::note_emphasis_gain(width_cents), gain, place)
 }
@@ -35,7 +35,7 @@ pub extern "C" fn dovetable_note_gate_gain(
     gain: &mut f32,
     place: &mut usize,
 ) -> u32
-    ensures { λ r. ⌜ GivenValue (noteGateGainOf «note_depth_db» «width_cents» openness) r (now (place .entry)) (now (place .exit)) (now (gain .entry)) (now (gain .exit)) ⌝ }
+    ensures { λ r. ⌜ GivenValue (noteGateGain «note_depth_db» «width_cents» openness) r (now (place .entry)) (now (place .exit)) (now (gain .entry)) (now (gain .exit)) ⌝ }
 {
     give_answer(
         spectral_dsp::note_gate_gain(note_depth_db, width_cents, openness),
@@ -52,7 +52,7 @@ pub extern "C" fn dovetable_manual_gain_at_bin(
     gain: &mut f32,
     place: &mut usize,
 ) -> u32
-    ensures { λ r. ⌜ GivenValue (manualGainAtBinOf (now («mask_db» .entry)) bin «fft_size») r (now (place .entry)) (now (place .exit)) (now (gain .entry)) (now (gain .exit)) ⌝ }
+    ensures { λ r. ⌜ GivenValue (manualGainAtBin (now («mask_db» .entry)) bin «fft_size») r (now (place .entry)) (now (place .exit)) (now (gain .entry)) (now (gain .exit)) ⌝ }
 {
     give_answer(
         spectral_dsp::manual_gain_at_bin(mask_db, bin, fft_size),

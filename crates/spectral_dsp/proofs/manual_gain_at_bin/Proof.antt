@@ -2,7 +2,7 @@
 use mathlib.Core.Path.{sym, _∙_}
 use borrow.Author.Needs.{needs}
 use borrow.Author.Tests.{not-true, not-false, eq-eqb, ne-eqb}
-use Rattle.spectral_dsp.specs.Gates.{manualGainAtBinOf}
+use Rattle.spectral_dsp.specs.Gates.{manualGainAtBin}
 use Rattle.spectral_dsp.proofs.manual_gain_at_bin.Statement.{statement}
 use Rattle.spectral_dsp.proofs.manual_gain_at_bin.Tie as tie
 
@@ -10,18 +10,18 @@ size-requires : tie.Need-size-requires
 size-requires c κs = search needs
 
 returns : tie.Need-returns
-unfolding manualGainAtBinOf
+unfolding manualGainAtBin
 returns c = simp (sym (c .before .size .ensures) ∙ not-true _ (c .if1 .taken))
 
 bin-requires : tie.Need-bin-requires
 bin-requires c κs = search needs
 
 returns-2 : tie.Need-returns-2
-unfolding manualGainAtBinOf
+unfolding manualGainAtBin
 returns-2 c = simp (sym (c .before .before .before .size .ensures) ∙ not-false _ (c .before .before .if1 .left), sym (c .before .bin .ensures) ∙ not-true _ (c .if2 .taken))
 
 returns-3 : tie.Need-returns-3
-unfolding manualGainAtBinOf
+unfolding manualGainAtBin
 returns-3 c = simp (sym (c .before .before .before .before .size .ensures) ∙ not-false _ (c .before .before .before .if1 .left), sym (c .before .before .bin .ensures) ∙ not-false _ (c .before .if2 .left), ne-eqb _ _ (c .if3 .taken))
 
 power-table-requires : tie.Need-power-table-requires
@@ -31,7 +31,7 @@ manual-gain-requires : tie.Need-manual-gain-requires
 manual-gain-requires c κs = search needs
 
 returns-4 : tie.Need-returns-4
-unfolding manualGainAtBinOf
+unfolding manualGainAtBin
 returns-4 c = rw (c .manual-gain .ensures, sym (c .before .before .before .before .before .before .before .size .ensures) ∙ not-false _ (c .before .before .before .before .before .before .if1 .left), sym (c .before .before .before .before .before .bin .ensures) ∙ not-false _ (c .before .before .before .before .if2 .left), eq-eqb _ _ (c .before .before .before .if3 .left))
 
 pub manual-gain-at-bin-spec : {M : Type 1} → statement M

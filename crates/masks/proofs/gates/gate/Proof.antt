@@ -1,6 +1,6 @@
--- `gate` is `noteGateGain`, by what its callees ensure. Assumes nothing.
+-- `gate` is `limitedGateGain`, by what its callees ensure. Assumes nothing.
 use borrow.Author.Needs.{needs}
-use Rattle.masks.specs.Gates.{noteGateGain}
+use Rattle.masks.specs.Gates.{limitedGateGain}
 use Rattle.masks.proofs.gates.gate.Statement.{statement}
 use Rattle.masks.proofs.gates.gate.Tie as tie
 
@@ -17,7 +17,7 @@ gate-gain-requires : tie.Need-gate-gain-requires
 gate-gain-requires c κs = search needs
 
 returns : tie.Need-returns
-unfolding noteGateGain
+unfolding limitedGateGain
 returns c = simp (c .gate-gain .ensures, c .before .clamp .ensures, c .before .before .emphasis .ensures, c .before .before .before .floor-gain .ensures)
 
 pub gate-spec : {M : Type 1} → statement M
