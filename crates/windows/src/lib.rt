@@ -2,9 +2,7 @@
 ghost use mathlib.Core.Path.{_≡_};
 ghost use Prim.Native.Nat.{_+_, _*_, _/_, _%_, _^_, _≤_, _<_};
 ghost use lib.ListN.{length};
-ghost use Rattle.lists.specs.Maps.{tabulate};
-ghost use Rattle.float_laws.specs.Classes.{dualAt};
-ghost use Rattle.windows.specs.Windows.{denominatorAt, sumOf, coherentGain};
+ghost use Rattle.windows.specs.Windows.{denominatorAt, dualOf, sumOf, coherentGain};
 
 // A sum of squares below this counts as this.
 const LEAST_DIVISOR: f32 = 1.0e-12;
@@ -37,7 +35,7 @@ pub fn denominator(analysis: &[f32], hop: usize, overlap: usize, index: usize) -
 // The dual of a window: at each index the value over its denominator.
 pub fn dual_window(analysis: &[f32], synthesis: &mut [f32], overlap: usize)
     requires { ⌜ (length (now analysis) ≡ length (now synthesis)) × (0 < overlap) ⌝ }
-    ensures { λ _. ⌜ now (synthesis .exit) ≡ tabulate (length (now (analysis .entry))) (dualAt (now (analysis .entry)) (length (now (analysis .entry)) / overlap) overlap) ⌝ }
+    ensures { λ _. ⌜ now (synthesis .exit) ≡ dualOf (now (analysis .entry)) overlap ⌝ }
 {
     let hop = analysis.len() / overlap;
     let mut index: usize = 0;

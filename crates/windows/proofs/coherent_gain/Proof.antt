@@ -8,9 +8,6 @@ use Rattle.float32.proofs.Sums.{in-float}
 use borrow.Author.Needs.{needs}
 use Rattle.windows.proofs.coherent_gain.Statement.{statement}
 use Rattle.windows.proofs.coherent_gain.Tie as tie
-use Rattle.windows.proofs.coherent_gain.Reads as reads
-use Rattle.windows.proofs.coherent_gain.Lts as lts
-use Rattle.windows.proofs.sum.Reads as sum-reads
 
 sum-requires : tie.Need-sum-requires
 sum-requires c κs = search needs

@@ -13,8 +13,6 @@ use Rattle.float_laws.specs.Classes.{energyAt, least-divisor}
 use Rattle.float32.proofs.OrderAgrees.{maximum-agrees}
 use Rattle.windows.proofs.denominator.Statement.{statement}
 use Rattle.windows.proofs.denominator.Tie as tie
-use Rattle.windows.proofs.denominator.Reads as reads
-use Rattle.windows.proofs.denominator.Lts as lts
 
 abbrev Inv-loop : tie.InvT-loop
 Inv-loop analysis hop overlap index sum₀ at₀ offset₀ sum at offset =

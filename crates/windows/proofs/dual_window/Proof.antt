@@ -11,9 +11,6 @@ use Rattle.lists.specs.Turned.{Turned, turned-none, turned-more, turned-fill}
 use Rattle.float_laws.specs.Classes.{dualAt}
 use Rattle.windows.proofs.dual_window.Statement.{statement}
 use Rattle.windows.proofs.dual_window.Tie as tie
-use Rattle.windows.proofs.dual_window.Reads as reads
-use Rattle.windows.proofs.dual_window.Lts as lts
-use Rattle.windows.proofs.denominator.Reads as denominator-reads
 
 abbrev Inv-loop : tie.InvT-loop
 Inv-loop analysis synthesis₀ overlap hop index₀ synthesis index = Turned (λ i x. dualAt analysis hop overlap i) 0 synthesis₀ synthesis index

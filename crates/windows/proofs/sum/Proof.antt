@@ -12,8 +12,6 @@ use Rattle.lists.specs.Folds.{fold, fold-step, fold-end}
 use Rattle.windows.specs.Windows.{sumOf}
 use Rattle.windows.proofs.sum.Statement.{statement}
 use Rattle.windows.proofs.sum.Tie as tie
-use Rattle.windows.proofs.sum.Reads as reads
-use Rattle.windows.proofs.sum.Lts as lts
 
 abbrev Inv-loop : tie.InvT-loop
 Inv-loop window sum₀ index₀ sum index = fold (λ s x. add binary32 s x) sum (drop index window) ≡ sumOf window
