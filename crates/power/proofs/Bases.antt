@@ -13,7 +13,8 @@ use Rattle.float32.specs.Constants.{LOG2-10, LOG2-E, LOG10-2}
 use Rattle.power.specs.Decimal.{pow10, exp, log10}
 use Rattle.power.proofs.Rising.{E2-mono}
 use Rattle.power.proofs.LogRising.{L2-mono}
-use Rattle.power.proofs.Range.{E2-at-most-one, E2-at-least-one}
+use Rattle.float_laws.specs.Units.{real}
+use Rattle.power.proofs.Range.{E2-real, E2-nonneg, E2-at-most-one, E2-at-least-one}
 
 -- ---- the constants are positive
 record Factor (c : Float) : Type 0 where
@@ -55,6 +56,12 @@ pow10-at-most-one = at-most-one factor-10
 pub pow10-at-least-one : (y : Float) → T (le positiveZero y) → T (le one (pow10 y))
 pow10-at-least-one = at-least-one factor-10
 
+pub pow10-real : (y : Float) → T (real binary32 (pow10 y))
+pow10-real y = E2-real _
+
+pub pow10-nonneg : (y : Float) → T (le positiveZero (pow10 y))
+pow10-nonneg y = E2-nonneg _
+
 pub exp-mono : (x y : Float) → T (le x y) → T (le (exp x) (exp y))
 exp-mono = power-mono factor-e
 
@@ -63,6 +70,12 @@ exp-at-most-one = at-most-one factor-e
 
 pub exp-at-least-one : (y : Float) → T (le positiveZero y) → T (le one (exp y))
 exp-at-least-one = at-least-one factor-e
+
+pub exp-real : (y : Float) → T (real binary32 (exp y))
+exp-real y = E2-real _
+
+pub exp-nonneg : (y : Float) → T (le positiveZero (exp y))
+exp-nonneg y = E2-nonneg _
 
 pub log10-mono : (v v' : Float) → T (positiveNormal v) → T (positiveNormal v') → T (le v v') → T (le (log10 v) (log10 v'))
 log10-mono v v' t t' h = times-mono factor-2 _ _ (L2-mono v v' t t' h)

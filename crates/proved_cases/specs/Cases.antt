@@ -1,0 +1,41 @@
+-- Document 01's 'Proved cases', in its order: a list of equations. Assumes nothing.
+use mathlib.Core.Path.{_≡_}
+use mathlib.Core.Bool.{true, false}
+use mathlib.Core.List.{List, [], _∷_}
+use Prim.Native.Nat.{ℕ}
+use lib.IntN.{pos, negsuc}
+use lib.Ieee.{Float, fin}
+use Rattle.power.specs.Power.{E2}
+use Rattle.power.specs.Log.{L2}
+use Rattle.sine.specs.Table.{K, R}
+
+-- the first is the second
+pub data Case : Type 1 where
+  case : {A : Type 0} → A → A → Case
+
+abbrev pub Holds : List Case → Type 0
+Holds [] = Unit {0}
+Holds (case a b ∷ cs) = (a ≡ b) × Holds cs
+
+-- whole numbers and halves as floats: `fin s m e` is m * 2 ^ e, negative where s is true, and `negsuc n` is -(n + 1)
+abbrev zero : Float
+zero = fin false 0 (pos 0)
+
+abbrev one : Float
+one = fin false 1 (pos 0)
+
+abbrev half : Float
+half = fin false 1 (negsuc 0)
+
+abbrev pub cases : List Case
+cases =
+    case (E2 zero) one
+    ∷ case (E2 (fin true 1 (pos 0))) half
+    -- 11863283/2^23
+    ∷ case (E2 half) (fin false 11863283 (negsuc 22))
+    ∷ case (E2 (fin true 127 (pos 0))) zero
+    ∷ case (L2 one) zero
+    ∷ case (L2 (fin false 1 (pos 3))) (fin false 3 (pos 0))
+    ∷ case (K 1) 759250124
+    ∷ case (R 128) 759250125
+    ∷ []
