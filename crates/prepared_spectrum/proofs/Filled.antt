@@ -16,3 +16,14 @@ module _ {A : Type 0} (n : ℕ) (a xs b : List A) (h : length a ≡ n) where
   fill-last =
       let rest : drop (length (a ++ xs) - n) xs ≡ [] = drop-of-length-le xs {i = length (a ++ xs) - n} (omega (arith, length-append a xs)) in
       fill-next (length (a ++ xs) - n) ∙ ap (λ (l : List A). (a ++ b) ++ l) rest ∙ append-nil (a ++ b)
+
+-- three parts in a row, the last up to the end
+module _ {A : Type 0} (m t : ℕ) (a b d xs : List A) (h : length a ≡ m) (k : length (a ++ b) ≡ t) where
+  abbrev once : List A
+  once = a ++ xs
+
+  abbrev twice : List A
+  twice = take m once ++ (b ++ drop (t - m) (drop m once))
+
+  pub fill-three : take t twice ++ (d ++ drop (length twice - t) (drop t twice)) ≡ (a ++ b) ++ d
+  fill-three = rw (fill-next m a xs b h (t - m)) (fill-last t (a ++ b) (drop (t - m) xs) d k)
