@@ -3,3 +3,5 @@ pub mod Gates
 pub mod Motion
 pub mod Advanced
 pub mod Prepared
+pub mod Processing
+pub mod DualWindow

@@ -1,0 +1,15 @@
+// Rust's slice methods, as functions.
+ghost use mathlib.Core.Path.{_≡_};
+ghost use lib.ListN.{length};
+
+// Rust's `output.copy_from_slice(source)`.
+pub fn copy(source: &[f32], output: &mut [f32])
+    requires { ⌜ length (now source) ≡ length (now output) ⌝ }
+    ensures { λ _. ⌜ now (output .exit) ≡ now (source .entry) ⌝ }
+{
+    let mut index: usize = 0;
+    while index < output.len() {
+        output[index] = source[index];
+        index += 1;
+    }
+}
