@@ -2,3 +2,4 @@ pub mod Between
 pub mod Openings
 pub mod Gains
 pub mod Compensated
+pub mod Accepted

@@ -38,7 +38,7 @@ use Rattle.motion.specs.Shapes.{RESET-START, half, two, three, ripple, h
 use Rattle.motion.specs.Field.{shapeAt, resting, openness}
 use Rattle.motion.proofs.Between.{Between, between, wider, between-add, between-sub, between-mul, between-times, between-over}
 
-abbrev Level : Float → Type 0
+abbrev pub Level : Float → Type 0
 Level x = Between plus-zero one x
 
 -- ---- the constants of the shapes as values, and 0 and 1
@@ -64,7 +64,7 @@ pub one-same : T (le one one)
 unfolding le
 one-same = tt
 
-one-level : Level one
+pub one-level : Level one
 unfolding le
 one-level = between plus-zero one one one-number zero-real (real-one binary32) tt tt
 
@@ -262,7 +262,7 @@ remainder-fits v f =
     let r = rem binary32 v remainder.one in
     cond-fits binary32 (lt r remainder.zero) (add binary32 r remainder.one) r (add-fits binary32 r remainder.one) (rem-fits binary32 v remainder.one f)
 
-in-unit : (v : Float) → T (real binary32 v) → T (fits binary32 v) → Level (remEuclidOne v)
+pub in-unit : (v : Float) → T (real binary32 v) → T (fits binary32 v) → Level (remEuclidOne v)
 in-unit v p f =
     let r = remEuclidOne v in
     let w = rw (zero-is, one-is) at (remainder-in-unit v p) in
@@ -371,13 +371,13 @@ step-between p a =
     wider plus-zero three zero-real (e .three-real) (e .step-from) (e .step-to)
     (between-mul (product a a) (wider plus-zero three zero-real (e .three-real) (e .slope-from) (e .slope-to) slope) zero-nonneg zero-nonneg (e .step-low) (e .step-high))
 
-abbrev Opened : Float → Type 0
+abbrev pub Opened : Float → Type 0
 Opened o = Between (neg two) one o
 
-opened : {o : Float} → Level o → Opened o
+pub opened : {o : Float} → Level o → Opened o
 opened a = let e = step-ends in wider (neg two) one (e .minus-two-real) (real-one binary32) (e .minus-two-low) one-same a
 
-saw-opened : (cycle : Float) → Level cycle → Opened (sawAt cycle)
+pub saw-opened : (cycle : Float) → Level cycle → Opened (sawAt cycle)
 unfolding sawAt
 saw-opened cycle a =
     rw one-is
