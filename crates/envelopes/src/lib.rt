@@ -36,7 +36,7 @@ pub fn smoothing_alpha(powers: &PowerTable, elapsed_seconds: f32, time_seconds: 
 }
 
 // The bit itself as a number: a choice by it would be a branch that no processor can foresee.
-fn target(held: [u8; 16], note: usize) -> f32
+fn target_of(held: [u8; 16], note: usize) -> f32
     ensures { λ r. ⌜ r ≡ targetOf (isHeld held note) ⌝ }
 {
     held_bit(held, note) as f32
@@ -65,7 +65,7 @@ fn step(levels: [f32; 128], held: [u8; 16], alpha: f32) -> [f32; 128]
     let mut bank = levels;
     let mut note: usize = 0;
     while note < NOTES {
-        bank[note] = next_level(target(held, note), alpha, bank[note]);
+        bank[note] = next_level(target_of(held, note), alpha, bank[note]);
         note += 1;
     }
     bank

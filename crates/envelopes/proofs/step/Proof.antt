@@ -19,8 +19,8 @@ abbrev μ-loop : tie.MeasureT-loop
 loop-holds : tie.Need-loop-holds Inv-loop μ-loop
 loop-holds c = (turned-none _ _ _, search needs)
 
-target-requires : tie.Need-target-requires Inv-loop μ-loop
-target-requires c κs = search needs
+target-of-requires : tie.Need-target-of-requires Inv-loop μ-loop
+target-of-requires c κs = search needs
 
 mul-next-level : tie.Need-mul-next-level Inv-loop μ-loop
 mul-next-level c = search needs
@@ -47,7 +47,7 @@ loop-again : tie.Need-loop-again Inv-loop μ-loop
 loop-again c =
     let l = c .before .before .before in
     let t = l .loop .inv .0 in
-    (turned-more nan t (omega arith) (c .next-level .ensures ∙ cc (c .before .target .ensures, turned-read nan t (omega arith))), l .loop .inv .1)
+    (turned-more nan t (omega arith) (c .next-level .ensures ∙ cc (c .before .target-of .ensures, turned-read nan t (omega arith))), l .loop .inv .1)
 
 returns : tie.Need-returns Inv-loop μ-loop
 returns c = turned-all (c .before .loop .inv .0) (omega arith)
@@ -59,7 +59,7 @@ step-spec =
     Inv-loop
     μ-loop
     loop-holds
-    target-requires
+    target-of-requires
     mul-next-level
     array-read-next-level
     next-level-requires
