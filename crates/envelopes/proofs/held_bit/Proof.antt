@@ -1,13 +1,11 @@
 -- `envelopes::held_bit` meets its contract: a shift and a mask of one bit are a division and a remainder; past the last byte there is no bit. Assumes nothing.
-use mathlib.Core.Path.{_≡_, refl, sym}
-use mathlib.Core.Bool.{false}
+use mathlib.Core.Path.{_≡_}
 use native.Mathlib.Nat.{zero-div}
 use native.Mathlib.Omega.{arith}
 use lib.Bits.{and-mask}
-use lib.ListN.{length, getD, List·getD-eq-default}
+use lib.ListN.{length, List·getD-eq-default}
 use Prim.Native.Nat.{_-_, _/_, _%_, _^_}
 use borrow.Author.Needs.{needs}
-use Rattle.envelopes.specs.Envelope.{heldBit}
 use Rattle.envelopes.proofs.held_bit.Statement.{statement}
 use Rattle.envelopes.proofs.held_bit.Tie as tie
 

@@ -1,6 +1,6 @@
 -- `envelopes::step` meets its contract: after n turns the levels of the first n notes have made their step, and the others are as they were. Assumes nothing.
 use mathlib.Core.Path.{_≡_, _∙_}
-use Prim.Native.Nat.{_≤_, _<_, _-_}
+use Prim.Native.Nat.{_-_}
 use native.Mathlib.Omega.{arith}
 use lib.ListN.{length}
 use lib.Ieee.{nan}
