@@ -1,6 +1,6 @@
 -- The part of the way that a level goes lies in 0..1, for every elapsed time and fade within their limits: -elapsed / time is at most 0, so its exponential is in 0..1, and so is 1 less that.
 -- Assumes nothing.
-use mathlib.Core.Path.{_≡_, refl, ap, _∙_, subst}
+use mathlib.Core.Path.{_≡_, refl, ap, _∙_}
 use mathlib.Core.Bool.{Bool, true, false, not, cond}
 use Prim.Native.Nat.{ℕ, _+_}
 use native.Mathlib.Omega.{arith}

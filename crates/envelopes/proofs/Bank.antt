@@ -1,13 +1,13 @@
 -- The laws of one level, for each note of the bank: a frame within its limits keeps every level in 0..1 and moves none away from its target. Assumes nothing.
-use mathlib.Core.Path.{_≡_, refl, sym, ap, _∙_, subst}
+use mathlib.Core.Path.{_≡_, refl, sym, subst}
 use mathlib.Core.Logic.{_⊎_, inl, inr}
 use mathlib.Core.Bool.{Bool, true, false}
 use mathlib.Core.List.{List}
 use Prim.Native.Nat.{ℕ, _<_}
 use lib.Dec.{T}
 use lib.ListN.{length, getD}
-use lib.Ieee.{Float, nan, binary32, le, lt}
-use Rattle.lists.specs.Maps.{mapAt, getD-mapAt, length-mapFrom}
+use lib.Ieee.{Float, nan, le, lt}
+use Rattle.lists.specs.Maps.{getD-mapAt, length-mapFrom}
 use Rattle.float32.specs.Order.{magnitude}
 use Rattle.float32.specs.Remainder.{zero}
 use Rattle.envelopes.specs.Envelope.{isHeld, fadeAlpha, SILENCE, nextLevel, advanced}

@@ -7,12 +7,12 @@ use native.Mathlib.Nat.{lt-of-le-of-lt}
 use lib.Dec.{T, T-not}
 use lib.Ieee.{Float, Format, binary32, ofBits, fits, add, sub, mul, le, lt}
 use lib.Ieee.Scale.{overflow}
-use Rattle.float_laws.specs.Units.{number, real, mag, sign, key, keyed, keyed-le, real-number, lt→key, key→lt}
+use Rattle.float_laws.specs.Units.{number, mag, sign, key, keyed, keyed-le, real-number, lt→key, key→lt}
 use Rattle.float_laws.specs.Order.{le-trans-f, lt-of-le-of-lt-f, le→not-lt-f, le-refl-f}
 use Rattle.float_laws.specs.Round.{plus-zero, real-zero}
 use Rattle.float_laws.specs.Bounds as bounds
 use Rattle.float_laws.specs.Bounds.{real-one}
-use Rattle.float_laws.specs.Range.{toward, toward-lower-nonneg, toward-lower-most, toward-lower-real, toward-one-least, toward-one-most, toward-one-real}
+use Rattle.float_laws.specs.Range.{toward-lower-nonneg, toward-lower-most, toward-lower-real, toward-one-least, toward-one-most, toward-one-real}
 use Rattle.float32.specs.Order.{magnitude}
 use Rattle.float32.specs.Remainder.{zero, one}
 use Rattle.float32.proofs.Magnitude.{magnitude-clear, magnitude-size, magnitude-is-number}

@@ -12,8 +12,11 @@ use Rattle.float32.specs.Remainder.{zero, one}
 use Rattle.power.specs.Decimal.{exp}
 
 -- "Held notes are 16 bytes, most significant bit first: note 0 is the top bit of byte 0." A note past the last byte is not held.
+abbrev pub heldBit : List ℕ → ℕ → ℕ
+heldBit held note = getD held (note / 8) 0 / 2 ^ (7 - note % 8) % 2
+
 abbrev pub isHeld : List ℕ → ℕ → Bool
-isHeld held note = eqb (getD held (note / 8) 0 / 2 ^ (7 - note % 8) % 2) 1
+isHeld held note = eqb (heldBit held note) 1
 
 -- The part of the way to its target that a level goes in the seconds elapsed: 1 - exp(-elapsed / time), and all of it where the time is not above 0.
 unfoldable pub smoothingAlpha : Float → Float → Float
@@ -36,9 +39,12 @@ SILENCE = ofBits binary32 0x3586_37bd
 unfoldable pub settled : Float → Float
 settled level = cond (lt (magnitude level) SILENCE) zero level
 
--- one level's step
+-- one level's step toward a target
+abbrev pub levelToward : Float → Float → Float → Float
+levelToward target alpha level = settled (add binary32 level (mul binary32 (sub binary32 target level) alpha))
+
 abbrev pub nextLevel : Bool → Float → Float → Float
-nextLevel held alpha level = settled (add binary32 level (mul binary32 (sub binary32 (targetOf held) level) alpha))
+nextLevel held alpha level = levelToward (targetOf held) alpha level
 
 -- the bank after one step: entry n is the level of note n
 abbrev pub advanced : List ℕ → Float → Float → List Float → List Float

@@ -2,7 +2,7 @@
 ghost use mathlib.Core.Path.{_≡_};
 ghost use Rattle.lists.specs.Maps.{mapAt};
 ghost use Rattle.power.specs.Table.{powerTable};
-ghost use Rattle.envelopes.specs.Envelope.{isHeld, smoothingAlpha, targetOf, settled, nextLevel, advanced};
+ghost use Rattle.envelopes.specs.Envelope.{heldBit, isHeld, smoothingAlpha, targetOf, settled, levelToward, nextLevel, advanced};
 use power::table::PowerTable;
 
 const NOTES: usize = 128;
@@ -12,16 +12,16 @@ const SECONDS_PER_MS: f32 = 0.001;
 // A level below this in magnitude is silence.
 const SILENCE: f32 = 1.0e-6;
 
-// Whether the note is held: 16 bytes have a bit for each note, and note 0 is the top bit of byte 0.
-pub fn is_held(held: [u8; 16], note: usize) -> bool
-    ensures { λ r. ⌜ r ≡ isHeld held note ⌝ }
+// 1 where the note is held and 0 where it is not: 16 bytes have a bit for each note, and note 0 is the top bit of byte 0.
+fn held_bit(held: [u8; 16], note: usize) -> u8
+    ensures { λ r. ⌜ r ≡ heldBit held note ⌝ }
 {
     if note < NOTES {
         let byte = held[note / 8];
         let place = (7 - note % 8) as u8;
-        return (byte >> place) & 1 == 1;
+        return (byte >> place) & 1;
     }
-    false
+    0
 }
 
 // The part of the way to its target that a level goes in the seconds elapsed, where a time of 0 or less is no time at all.
@@ -35,10 +35,11 @@ pub fn smoothing_alpha(powers: &PowerTable, elapsed_seconds: f32, time_seconds: 
     1.0 - power::decimal::exp(powers, -elapsed_seconds / time_seconds)
 }
 
-fn target(held: bool) -> f32
-    ensures { λ r. ⌜ r ≡ targetOf held ⌝ }
+// The bit itself as a number: a choice by it would be a branch that no processor can foresee.
+fn target_of(held: [u8; 16], note: usize) -> f32
+    ensures { λ r. ⌜ r ≡ targetOf (isHeld held note) ⌝ }
 {
-    if held { 1.0 } else { 0.0 }
+    held_bit(held, note) as f32
 }
 
 // Silence becomes 0, so that a released level comes to rest.
@@ -52,10 +53,10 @@ fn settle(level: f32) -> f32
     }
 }
 
-pub fn next_level(held: bool, alpha: f32, level: f32) -> f32
-    ensures { λ r. ⌜ r ≡ nextLevel held alpha level ⌝ }
+fn next_level(target: f32, alpha: f32, level: f32) -> f32
+    ensures { λ r. ⌜ r ≡ levelToward target alpha level ⌝ }
 {
-    settle(level + (target(held) - level) * alpha)
+    settle(level + (target - level) * alpha)
 }
 
 fn step(levels: [f32; 128], held: [u8; 16], alpha: f32) -> [f32; 128]
@@ -64,7 +65,7 @@ fn step(levels: [f32; 128], held: [u8; 16], alpha: f32) -> [f32; 128]
     let mut bank = levels;
     let mut note: usize = 0;
     while note < NOTES {
-        bank[note] = next_level(is_held(held, note), alpha, bank[note]);
+        bank[note] = next_level(target_of(held, note), alpha, bank[note]);
         note += 1;
     }
     bank

@@ -1,8 +1,8 @@
 -- A prepared table is accepted: for every accepted rate and size each entry from 1 on lies in -2..17. The frequency of a bin from 1 to size/2 lies between a quarter of a hertz and 2 ^ 17, as
 -- rounding keeps the order and the ends are computed for each of the nine sizes; so it is a positive normal number, and L2, which never falls, is -2 and 17 at those ends. Assumes nothing.
-use mathlib.Core.Path.{_≡_, refl, sym, ap, _∙_, subst}
-use mathlib.Core.Bool.{Bool, true, false, not, cond, _&&_}
-use Prim.Native.Nat.{ℕ, suc, _+_, _-_, _*_, _/_, _^_, _≤_, _<_}
+use mathlib.Core.Path.{_≡_, refl, ap, _∙_, subst}
+use mathlib.Core.Bool.{Bool, true, false}
+use Prim.Native.Nat.{ℕ, _+_, _-_, _*_, _/_, _^_, _≤_}
 use native.Mathlib.Nat.{le-trans, mul-le-mul-right}
 use native.Mathlib.Omega.{arith}
 use borrow.Author.Tests.{ne-eqb}
@@ -10,18 +10,17 @@ use lib.Dec.{T, lit≤}
 use lib.Count.{trailingZeros}
 use lib.IntN.{pos, negsuc}
 use lib.Pow.{pow-mono}
-use lib.Ieee.{Float, fin, Format, binary32, prec, low, div, mul, le, lt, ofInt, fits, ofBits, round, size, span, climb, units, odd}
-use lib.Ieee.Fits.{and-i, and-l, and-r}
+use lib.Ieee.{Float, fin, Format, binary32, prec, low, div, mul, le, lt, ofInt, fits, round, size, span, climb, units, odd}
+use lib.Ieee.Fits.{and-i}
 use lib.Ieee.Scale.{overflow}
 use Rattle.float_laws.specs.Units.{mag, number, real, key, keyed, real-number, key→le}
 use Rattle.float_laws.specs.Order.{le-trans-f, le-refl-f}
-use Rattle.float_laws.specs.Round.{plus-zero, real-zero}
+use Rattle.float_laws.specs.Round.{plus-zero}
 use Rattle.float_laws.specs.Ops.{mul-comm-f}
 use Rattle.float_laws.specs.Mono.{div-mono, div-number, above-zero, mul-mono, mul-number, key-nonneg}
 use Rattle.float_laws.specs.Bounds as bounds
 use Rattle.float_laws.specs.Bounds.{real-between, mul-one-f}
 use Rattle.float_laws.specs.Exact.{mag-whole, sign-whole, real-whole}
-use Rattle.float_laws.specs.Power.{power}
 use Rattle.lists.specs.Tested.{allBelow, below-at}
 use Rattle.power.specs.Log.{leastNormal, positiveNormal, rounded, L2}
 use Rattle.power.specs.Power.{largest}

@@ -1,17 +1,17 @@
 -- The hertz between two bins are exact: a rate of 8,000 or more has so many units that a power of two up to 2 ^ 14 divides their number, and the quotient is an f32. Assumes nothing.
-use mathlib.Core.Path.{_≡_, sym, ap, _∙_, subst}
+use mathlib.Core.Path.{_≡_, sym, ap, _∙_}
 use mathlib.Core.Bool.{false}
-use Prim.Native.Nat.{ℕ, _+_, _*_, _^_, _≤_, _<_}
+use Prim.Native.Nat.{ℕ, _+_, _*_, _^_, _≤_}
 use native.Mathlib.Nat.{le-trans, le-of-eq, lt-of-le-of-lt, mul-one, mul-le-mul-left, mul-le-mul-right}
 use native.Mathlib.Omega.{arith}
 use lib.Dec.{T, lit≤}
 use lib.IntN.{pos}
 use lib.Pow.{pow-pos, pow-mono}
-use lib.Ieee.{Float, fin, binary32, div, le, ofInt, fits}
+use lib.Ieee.{Float, fin, binary32, div, le, fits}
 use Rattle.float_laws.specs.Units.{mag, real, mag-below}
-use Rattle.float_laws.specs.Round.{plus-zero, held-real}
+use Rattle.float_laws.specs.Round.{held-real}
 use Rattle.float_laws.specs.Mono.{sizes}
-use Rattle.float_laws.specs.Power.{power, real-power}
+use Rattle.float_laws.specs.Power.{real-power}
 use Rattle.float_laws.specs.Exact.{held-multiple, div-two, whole-power}
 use Rattle.frequencies.specs.Frequency.{binHz}
 

@@ -1,6 +1,6 @@
 -- Whole runs of `advance_note_envelopes`: for every list of calls, refused ones among them, each on the bank that the one before handed back, levels that start in 0..1 stay there,
 -- no call refuses a level, and no call moves a level away from its target. Assumes nothing.
-use mathlib.Core.Path.{_≡_, refl, sym, ap, _∙_, subst}
+use mathlib.Core.Path.{_≡_}
 use mathlib.Core.Bool.{Bool, true, false, not, cond}
 use mathlib.Core.List.{List, []}
 use mathlib.Core.Logic.{inl}
@@ -9,14 +9,13 @@ use native.Mathlib.Nat.{le-refl}
 use borrow.Author.Tests.{le-ltb}
 use lib.Dec.{T, ltb}
 use lib.ListN.{length, getD}
-use lib.Ieee.{Float, nan, binary32, ofBits, fits, le}
+use lib.Ieee.{Float, nan, binary32, ofBits, fits}
 use lib.Ieee.Bits.{is-true}
-use Rattle.float_laws.specs.Units.{real, real-number}
+use Rattle.float_laws.specs.Units.{real-number}
 use Rattle.float_laws.specs.Order.{le-refl-f}
-use Rattle.float_laws.specs.Round.{real-zero}
 use Rattle.lists.specs.Folds.{fold, fold-keeps, firstBad, bad-none}
 use Rattle.float32.proofs.Limits.{within-low, within-real}
-use Rattle.answer.specs.Reply.{Reply, done, refused}
+use Rattle.answer.specs.Reply.{done, refused}
 use Rattle.limits.specs.Limits as limits
 use Rattle.limits.specs.Limits.{LEAST-ELAPSED, MOST-ELAPSED, LEAST-FADE, MOST-FADE}
 use Rattle.envelopes.specs.Envelope.{isHeld, fadeAlpha, advanced}

@@ -1,6 +1,6 @@
 -- `envelopes::step` meets its contract: after n turns the levels of the first n notes have made their step, and the others are as they were. Assumes nothing.
 use mathlib.Core.Path.{_≡_, _∙_}
-use Prim.Native.Nat.{_≤_, _<_, _-_}
+use Prim.Native.Nat.{_-_}
 use native.Mathlib.Omega.{arith}
 use lib.ListN.{length}
 use lib.Ieee.{nan}
@@ -19,8 +19,8 @@ abbrev μ-loop : tie.MeasureT-loop
 loop-holds : tie.Need-loop-holds Inv-loop μ-loop
 loop-holds c = (turned-none _ _ _, search needs)
 
-is-held-requires : tie.Need-is-held-requires Inv-loop μ-loop
-is-held-requires c κs = search needs
+target-of-requires : tie.Need-target-of-requires Inv-loop μ-loop
+target-of-requires c κs = search needs
 
 mul-next-level : tie.Need-mul-next-level Inv-loop μ-loop
 mul-next-level c = search needs
@@ -47,7 +47,7 @@ loop-again : tie.Need-loop-again Inv-loop μ-loop
 loop-again c =
     let l = c .before .before .before in
     let t = l .loop .inv .0 in
-    (turned-more nan t (omega arith) (c .next-level .ensures ∙ cc (c .before .is-held .ensures, turned-read nan t (omega arith))), l .loop .inv .1)
+    (turned-more nan t (omega arith) (c .next-level .ensures ∙ cc (c .before .target-of .ensures, turned-read nan t (omega arith))), l .loop .inv .1)
 
 returns : tie.Need-returns Inv-loop μ-loop
 returns c = turned-all (c .before .loop .inv .0) (omega arith)
@@ -59,7 +59,7 @@ step-spec =
     Inv-loop
     μ-loop
     loop-holds
-    is-held-requires
+    target-of-requires
     mul-next-level
     array-read-next-level
     next-level-requires

@@ -1,15 +1,13 @@
--- `envelopes::is_held` meets its contract: a shift and a mask of one bit are a division and a remainder; past the last byte there is no bit. Assumes nothing.
-use mathlib.Core.Path.{_≡_, refl, sym}
-use mathlib.Core.Bool.{false}
+-- `envelopes::held_bit` meets its contract: a shift and a mask of one bit are a division and a remainder; past the last byte there is no bit. Assumes nothing.
+use mathlib.Core.Path.{_≡_}
 use native.Mathlib.Nat.{zero-div}
 use native.Mathlib.Omega.{arith}
 use lib.Bits.{and-mask}
-use lib.ListN.{length, getD, List·getD-eq-default}
+use lib.ListN.{length, List·getD-eq-default}
 use Prim.Native.Nat.{_-_, _/_, _%_, _^_}
 use borrow.Author.Needs.{needs}
-use Rattle.envelopes.specs.Envelope.{isHeld}
-use Rattle.envelopes.proofs.is_held.Statement.{statement}
-use Rattle.envelopes.proofs.is_held.Tie as tie
+use Rattle.envelopes.proofs.held_bit.Statement.{statement}
+use Rattle.envelopes.proofs.held_bit.Tie as tie
 
 array-read-byte : tie.Need-array-read-byte
 array-read-byte c = search needs
@@ -33,5 +31,5 @@ returns-2 c =
     let l : length held ≡ 16 = search needs in
     rw (List·getD-eq-default held 0 {n = note / 8} (omega arith), zero-div (2 ^ (7 - note % 8)))
 
-pub is-held-spec : {M : Type 1} → statement M
-is-held-spec = tie.close (tie.spec array-read-byte sub-place cast-place shr-result returns returns-2)
+pub held-bit-spec : {M : Type 1} → statement M
+held-bit-spec = tie.close (tie.spec array-read-byte sub-place cast-place shr-result returns returns-2)
