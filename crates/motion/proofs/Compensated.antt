@@ -32,7 +32,8 @@ use Rattle.float32.proofs.RootOrder.{root-number, root-keeps-plus, root-at-most
 use Rattle.power.specs.Table.{powerTable}
 use Rattle.power.specs.Power.{powerAt, powerOf, E2}
 use Rattle.scene.specs.declared.MotionConfig.{MotionConfig}
-use Rattle.motion.specs.Field.{RESTING-DEPTH-DB, gain, motionGain}
+use Rattle.decibels.specs.Gain.{gainOf}
+use Rattle.motion.specs.Field.{RESTING-DEPTH-DB, motionGain}
 use Rattle.motion.specs.Compensation.{MAX-MOTION-COMPENSATION-DB, sampleFrequency, samplePower, meanSquare, compensation}
 use Rattle.motion.proofs.Between.{Between, between, wider}
 use Rattle.motion.proofs.Openings.{product, zero-real, zero-number, one-is, one-number, one-same}
@@ -85,7 +86,7 @@ samples-ends = record { above = tt; is-real = tt; some = lit≤ tt; plus = refl;
 
 -- 12 dB
 abbrev cap : Float
-cap = gain MAX-MOTION-COMPENSATION-DB
+cap = gainOf MAX-MOTION-COMPENSATION-DB
 
 record CapEnds : Type 0 where
   is-real : T (real binary32 cap)
@@ -194,7 +195,7 @@ module _ (config : MotionConfig) (depth : T (real binary32 (config .«depth_db»
       (between one cap (smaller inverse cap) (smaller-number binary32 inverse cap n c) (real-one binary32) (cap-ends .is-real)
       (smaller-greatest binary32 inverse cap n c one one-number (inverse-least .1) (cap-ends .least)) (smaller-right binary32 inverse cap n c))
 
-  pub compensation-between : Between one (gain MAX-MOTION-COMPENSATION-DB) (compensation config)
+  pub compensation-between : Between one (gainOf MAX-MOTION-COMPENSATION-DB) (compensation config)
   unfolding compensation
   compensation-between = rw one-is (go (le (config .«depth_db») RESTING-DEPTH-DB))
     where

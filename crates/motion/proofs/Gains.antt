@@ -31,7 +31,8 @@ use Rattle.power.proofs.Range.{E2-number, E2-nonneg}
 use Rattle.power.proofs.Bases.{pow10-at-most-one}
 use Rattle.scene.specs.declared.MotionConfig.{MotionConfig}
 use Rattle.motion.specs.Shapes.{two}
-use Rattle.motion.specs.Field.{openness, attenuation, gain, motionGain}
+use Rattle.decibels.specs.Gain.{gainOf}
+use Rattle.motion.specs.Field.{openness, attenuation, motionGain}
 use Rattle.motion.proofs.Between.{Between, between, between-sub, level}
 use Rattle.motion.proofs.Openings.{Opening, openness-open, zero-real, zero-number, zero-is, one-is, one-between, minus-zero-number, minus-zero-low}
 
@@ -116,14 +117,14 @@ exponent-of-nan : mul binary32 (div binary32 (neg nan) twenty) LOG2-10 ≡ nan
 unfolding neg div mul
 exponent-of-nan = refl
 
-gain-of-nan : gain (neg nan) ≡ plus-zero
+gain-of-nan : gainOf (neg nan) ≡ plus-zero
 gain-of-nan = ap E2 exponent-of-nan ∙ E2-nan
 
-gain-between : (a : Float) → Shut a → Between plus-zero one (gain (neg a))
-gain-between a s = between plus-zero one (gain (neg a)) (E2-number _) zero-real (real-one binary32) (E2-nonneg _) (go s)
+gain-between : (a : Float) → Shut a → Between plus-zero one (gainOf (neg a))
+gain-between a s = between plus-zero one (gainOf (neg a)) (E2-number _) zero-real (real-one binary32) (E2-nonneg _) (go s)
   where
-    go : Shut a → T (le (gain (neg a)) one)
-    go (inl e) = subst (λ z. T (le z one)) (sym (ap (λ z. gain (neg z)) e ∙ gain-of-nan)) (unfold le in tt)
+    go : Shut a → T (le (gainOf (neg a)) one)
+    go (inl e) = subst (λ z. T (le z one)) (sym (ap (λ z. gainOf (neg z)) e ∙ gain-of-nan)) (unfold le in tt)
     go (inr h) =
         let n = number-neg binary32 a (h .0) in
         let below = le-trans-f binary32 (neg a) (fin true 0 (pos 0)) plus-zero n minus-zero-number zero-number (unfold neg in le-neg binary32 plus-zero a zero-number (h .0) (h .1)) minus-zero-low in

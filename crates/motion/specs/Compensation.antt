@@ -11,7 +11,8 @@ use Rattle.float32.specs.Root.{squareRoot}
 use Rattle.power.specs.Power.{E2}
 use Rattle.scene.specs.declared.MotionConfig.{MotionConfig}
 use Rattle.motion.specs.Shapes.{DISPLAY-OCTAVES, half}
-use Rattle.motion.specs.Field.{MIN-DISPLAY-FREQUENCY-HZ, RESTING-DEPTH-DB, gain, motionGain}
+use Rattle.decibels.specs.Gain.{gainOf}
+use Rattle.motion.specs.Field.{MIN-DISPLAY-FREQUENCY-HZ, RESTING-DEPTH-DB, motionGain}
 
 abbrev pub MOTION-COMPENSATION-SAMPLES : ℕ
 MOTION-COMPENSATION-SAMPLES = 256
@@ -40,4 +41,4 @@ meanSquare config = div binary32 (fold (λ sum index. add binary32 sum (samplePo
 unfoldable pub compensation : MotionConfig → Float
 compensation config =
     cond (le (config .«depth_db») RESTING-DEPTH-DB) one
-    (minimum (div binary32 one (squareRoot binary32 (meanSquare config))) (gain MAX-MOTION-COMPENSATION-DB))
+    (minimum (div binary32 one (squareRoot binary32 (meanSquare config))) (gainOf MAX-MOTION-COMPENSATION-DB))

@@ -4,7 +4,7 @@ use lib.Ieee.{Float, binary32, ofBits, sub, mul, div, neg, lt, le}
 use Rattle.float32.specs.Order.{maximum}
 use Rattle.float32.specs.Remainder.{zero, one, remEuclidOne}
 use Rattle.power.specs.Log.{L2}
-use Rattle.power.specs.Decimal.{pow10}
+use Rattle.decibels.specs.Gain.{gainOf}
 use Rattle.scene.specs.declared.MotionShape.{MotionShape}
 use Rattle.scene.specs.declared.MotionShape.the-variants.{Ripple, Harmonic, Drift, Scan, Notch, Saw, Sprinkle, Cloud}
 use Rattle.scene.specs.declared.MotionConfig.{MotionConfig}
@@ -47,10 +47,6 @@ openness frequency config =
 unfoldable pub attenuation : Float → MotionConfig → Float
 attenuation frequency config = mul binary32 (maximum (config .«depth_db») zero) (sub binary32 one (openness frequency config))
 
--- decibels as a gain: powf(10, db / 20)
-abbrev pub gain : Float → Float
-gain db = pow10 (div binary32 db (ofBits binary32 0x41a0_0000))
-
 -- what the field leaves of a frequency
 unfoldable pub motionGain : Float → MotionConfig → Float
-motionGain frequency config = gain (neg (attenuation frequency config))
+motionGain frequency config = gainOf (neg (attenuation frequency config))

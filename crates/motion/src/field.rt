@@ -2,15 +2,15 @@
 ghost use mathlib.Core.Path.{_≡_};
 ghost use Rattle.power.specs.Table.{powerTable};
 ghost use Rattle.sine.specs.Table.{sineTable};
-ghost use Rattle.motion.specs.Field.{shapeAt, openness, attenuation, gain, motionGain};
+ghost use Rattle.motion.specs.Field.{shapeAt, openness, attenuation, motionGain};
 use crate::shapes::drift;
 use crate::shapes::harmonic;
 use crate::shapes::ripple;
 use crate::shapes::saw;
 use crate::shapes::window;
+use decibels::gain;
 use float32::order::max;
 use float32::remainder::rem_euclid_one;
-use power::decimal::pow10;
 use power::log2::log2;
 use power::table::PowerTable;
 use scene::MotionConfig;
@@ -78,14 +78,6 @@ pub fn attenuation_db(
 {
     let depth = max(config.depth_db, 0.0);
     depth * (1.0 - openness(powers, sines, frequency, config))
-}
-
-// Decibels as a gain.
-pub(crate) fn gain(powers: &PowerTable, db: f32) -> f32
-    requires { ⌜ now powers ≡ powerTable ⌝ }
-    ensures { λ r. ⌜ r ≡ gain db ⌝ }
-{
-    pow10(powers, db / 20.0)
 }
 
 // What the field leaves of a frequency.
