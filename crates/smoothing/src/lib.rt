@@ -84,11 +84,8 @@ fn blend(powers: &PowerTable, elapsed_seconds: f32) -> f32
     requires { ⌜ now powers ≡ powerTable ⌝ }
     ensures { λ r. ⌜ r ≡ blendOf «elapsed_seconds» ⌝ }
 {
-    float32::order::clamp(
-        1.0 - exp(powers, -elapsed_seconds / SMOOTH_MASK_TIME_SECONDS),
-        0.0,
-        1.0,
-    )
+    let way = 1.0 - exp(powers, -elapsed_seconds / SMOOTH_MASK_TIME_SECONDS);
+    float32::order::clamp(way, 0.0, 1.0)
 }
 
 // A gain moved toward its target by that part of the way, in decibels.
