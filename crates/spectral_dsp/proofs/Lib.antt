@@ -1,3 +1,5 @@
+pub mod Frames
+pub mod GateAnswers
 pub mod Tests
 pub mod Accepted
 pub mod DualWindow

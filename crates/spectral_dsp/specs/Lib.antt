@@ -1,3 +1,7 @@
 pub mod Written
+pub mod Gates
+pub mod Motion
+pub mod Advanced
+pub mod Prepared
 pub mod Processing
 pub mod DualWindow

@@ -1,0 +1,15 @@
+// Decibels as gains.
+ghost use mathlib.Core.Path.{_≡_};
+ghost use Rattle.power.specs.Table.{powerTable};
+ghost use Rattle.decibels.specs.Gain.{gainOf};
+use power::table::PowerTable;
+
+pub const DECIBELS_PER_DECADE: f32 = 20.0;
+
+// 10^(db / 20).
+pub fn gain(powers: &PowerTable, db: f32) -> f32
+    requires { ⌜ now powers ≡ powerTable ⌝ }
+    ensures { λ r. ⌜ r ≡ gainOf db ⌝ }
+{
+    power::decimal::pow10(powers, db / DECIBELS_PER_DECADE)
+}

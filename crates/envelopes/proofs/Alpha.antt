@@ -1,0 +1,71 @@
+-- The part of the way that a level goes lies in 0..1, for every elapsed time and fade within their limits: -elapsed / time is at most 0, so its exponential is in 0..1, and so is 1 less that.
+-- Assumes nothing.
+use mathlib.Core.Path.{_≡_, refl, ap, _∙_, subst}
+use mathlib.Core.Bool.{Bool, true, false, not, cond}
+use Prim.Native.Nat.{ℕ, _+_}
+use native.Mathlib.Omega.{arith}
+use lib.Dec.{T}
+use lib.Count.{trailingZeros}
+use lib.IntN.{pos}
+use lib.Ieee.{Float, Format, binary32, ofBits, fits, sub, mul, div, neg, le, lt, add, sum, round, size, span, climb, units, odd}
+use lib.Ieee.Scale.{overflow}
+use Rattle.float_laws.specs.Units.{mag, sign, real, key, keyed, real-number, key→le, le→key}
+use Rattle.float_laws.specs.Order.{not-le-f, le-refl-f}
+use Rattle.float_laws.specs.Round.{plus-zero, real-zero, key-zero, mag-zero, rnd, rnd-zero}
+use Rattle.float_laws.specs.Mono.{real-neg, key-neg, nonneg-key, above-zero, div-number, div-key, div-mono, sub-number, sub-mono}
+use Rattle.float_laws.specs.Bounds as bounds
+use Rattle.float_laws.specs.Bounds.{real-one, real-between, sub-nonneg, mul-real}
+use Rattle.float32.specs.Constants.{LOG2-E}
+use Rattle.power.specs.Decimal.{exp}
+use Rattle.power.proofs.Range.{E2-nonneg, E2-real}
+use Rattle.power.proofs.Bases.{exp-at-most-one}
+use Rattle.envelopes.specs.Envelope.{smoothingAlpha, SECONDS-PER-MS, fadeAlpha}
+use Rattle.envelopes.proofs.Unit.{Unit, unit-one}
+
+-- ---- -elapsed / time is at most 0
+module _ (f : Format) (elapsed time : Float) (p : T (real f elapsed)) (h : T (le plus-zero elapsed)) (q : T (real f time)) (l : T (lt plus-zero time)) where
+  ratio-low : T (le (div f (neg elapsed) time) plus-zero)
+  ratio-low =
+      let z = real-zero f false in
+      let nz = real-number f plus-zero z in
+      let n = real-neg f elapsed p in
+      let pn = real-number f elapsed p in
+      let a = above-zero f time (real-number f time q) l .1 in
+      let below : T (le (neg elapsed) plus-zero) = key→le f (neg elapsed) plus-zero (real-number f (neg elapsed) n) nz (omega (arith, key-neg f elapsed pn, nonneg-key f elapsed pn h, key-zero f)) in
+      let at-zero : key f (div f plus-zero time) ≡ overflow f + 0 = div-key f plus-zero time z q l ∙ ap (keyed (overflow f) (sign plus-zero)) (ap (λ (m : ℕ). rnd f m (mag f time)) (mag-zero f false (pos 0)) ∙ rnd-zero f (mag f time) a) in
+      let dn = div-number f (neg elapsed) time n q a in
+      let zn = div-number f plus-zero time z q a in
+      key→le f (div f (neg elapsed) time) plus-zero dn nz
+      (omega (arith, le→key f (div f (neg elapsed) time) (div f plus-zero time) dn zn (div-mono f (neg elapsed) plus-zero time n z q l below), key-zero f))
+
+-- ---- 1 less a number in 0..1
+less-nothing : sub binary32 bounds.one plus-zero ≡ bounds.one
+unfolding sub add neg sum round size span climb units odd trailingZeros
+less-nothing = refl
+
+rest : (e : Float) → Unit e → Unit (sub binary32 bounds.one e)
+rest e u =
+    let f = binary32 in
+    let r = real-one f in
+    let z = real-zero f false in
+    let n = sub-number f bounds.one e r (u .is-real) in
+    let low = sub-nonneg f bounds.one e r (u .is-real) (u .high) in
+    let high = rw less-nothing at (sub-mono f bounds.one bounds.one e plus-zero r r (u .is-real) z (le-refl-f f bounds.one (real-number f bounds.one r)) (u .low)) in
+    record { is-real = real-between f plus-zero (sub f bounds.one e) bounds.one n z r low high; low = low; high = high }
+
+-- ---- the part of the way
+exp-unit : (y : Float) → T (le y plus-zero) → Unit (exp y)
+exp-unit y h = record { is-real = E2-real (mul binary32 y LOG2-E); low = E2-nonneg (mul binary32 y LOG2-E); high = exp-at-most-one y h }
+
+pub alpha-unit : (elapsed time : Float) → T (real binary32 elapsed) → T (le plus-zero elapsed) → T (real binary32 time) → Unit (smoothingAlpha elapsed time)
+unfolding smoothingAlpha ofBits
+alpha-unit elapsed time p h q = go (le time plus-zero) (not-le-f binary32 time plus-zero (real-number binary32 time q) (real-number binary32 plus-zero (real-zero binary32 false)))
+  where
+    go : (b : Bool) → (T (not b) → T (lt plus-zero time)) → Unit (cond b bounds.one (sub binary32 bounds.one (exp (div binary32 (neg elapsed) time))))
+    go true l = unit-one
+    go false l = rest (exp (div binary32 (neg elapsed) time)) (exp-unit (div binary32 (neg elapsed) time) (ratio-low binary32 elapsed time p h q (l tt)))
+
+-- ---- of a fade in milliseconds, within its limits
+pub fade-alpha-unit : (elapsed fade : Float) → T (real binary32 elapsed) → T (le plus-zero elapsed) → T (real binary32 fade) → T (le plus-zero fade) → Unit (fadeAlpha elapsed fade)
+unfolding ofBits le fits
+fade-alpha-unit elapsed fade p h q l = alpha-unit elapsed (mul binary32 fade SECONDS-PER-MS) p h (mul-real binary32 fade SECONDS-PER-MS q tt l tt tt)

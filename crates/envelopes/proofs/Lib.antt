@@ -1,0 +1,5 @@
+pub mod Unit
+pub mod Alpha
+pub mod Levels
+pub mod Bank
+pub mod Rest

@@ -1,0 +1,71 @@
+-- `envelopes::step` meets its contract: after n turns the levels of the first n notes have made their step, and the others are as they were. Assumes nothing.
+use mathlib.Core.Path.{_≡_, _∙_}
+use Prim.Native.Nat.{_≤_, _<_, _-_}
+use native.Mathlib.Omega.{arith}
+use lib.ListN.{length}
+use lib.Ieee.{nan}
+use borrow.Author.Needs.{needs}
+use Rattle.lists.specs.Turned.{Turned, turned-none, turned-more, turned-read, turned-all}
+use Rattle.envelopes.specs.Envelope.{isHeld, nextLevel}
+use Rattle.envelopes.proofs.step.Statement.{statement}
+use Rattle.envelopes.proofs.step.Tie as tie
+
+abbrev Inv-loop : tie.InvT-loop
+Inv-loop held alpha bank₀ note₀ bank note = Turned (λ n level. nextLevel (isHeld held n) alpha level) 0 bank₀ bank note × (length bank₀ ≡ 128)
+
+abbrev μ-loop : tie.MeasureT-loop
+μ-loop held alpha bank₀ note₀ bank note = 128 - note
+
+loop-holds : tie.Need-loop-holds Inv-loop μ-loop
+loop-holds c = (turned-none _ _ _, search needs)
+
+is-held-requires : tie.Need-is-held-requires Inv-loop μ-loop
+is-held-requires c κs = search needs
+
+mul-next-level : tie.Need-mul-next-level Inv-loop μ-loop
+mul-next-level c = search needs
+
+array-read-next-level : tie.Need-array-read-next-level Inv-loop μ-loop
+array-read-next-level c = search needs
+
+next-level-requires : tie.Need-next-level-requires Inv-loop μ-loop
+next-level-requires c κs = search needs
+
+mul-bank : tie.Need-mul-bank Inv-loop μ-loop
+mul-bank c = search needs
+
+array-write-bank : tie.Need-array-write-bank Inv-loop μ-loop
+array-write-bank c = search needs
+
+add-note : tie.Need-add-note Inv-loop μ-loop
+add-note c = search needs
+
+loop-less : tie.Need-loop-less Inv-loop μ-loop
+loop-less c = search needs
+
+loop-again : tie.Need-loop-again Inv-loop μ-loop
+loop-again c =
+    let l = c .before .before .before in
+    let t = l .loop .inv .0 in
+    (turned-more nan t (omega arith) (c .next-level .ensures ∙ cc (c .before .is-held .ensures, turned-read nan t (omega arith))), l .loop .inv .1)
+
+returns : tie.Need-returns Inv-loop μ-loop
+returns c = turned-all (c .before .loop .inv .0) (omega arith)
+
+pub step-spec : {M : Type 1} → statement M
+step-spec =
+    tie.close
+    (tie.spec
+    Inv-loop
+    μ-loop
+    loop-holds
+    is-held-requires
+    mul-next-level
+    array-read-next-level
+    next-level-requires
+    mul-bank
+    array-write-bank
+    add-note
+    loop-less
+    loop-again
+    returns)

@@ -1,0 +1,4 @@
+pub mod Sizes
+pub mod Spacing
+pub mod Entries
+pub mod Accepted

@@ -1,0 +1,40 @@
+// The frequencies of the bins of a spectrum, and the table of their logarithms.
+ghost use mathlib.Core.Path.{_≡_};
+ghost use Prim.Native.Nat.{_^_, _≤_};
+ghost use lib.ListN.{length};
+ghost use Rattle.lists.specs.Maps.{tabulate};
+ghost use Rattle.power.specs.Table.{powerTable};
+ghost use Rattle.frequencies.specs.Frequency.{binHz, log2Hz, prepared};
+use power::table::PowerTable;
+
+// The hertz between two bins that stand side by side. Up to 2^24 an f32 counts without a gap.
+pub fn bin_hz(sample_rate: f32, fft_size: usize) -> f32
+    requires { ⌜ «fft_size» ≤ 2 ^ 24 ⌝ }
+    ensures { λ r. ⌜ r ≡ binHz «sample_rate» «fft_size» ⌝ }
+{
+    sample_rate / fft_size as f32
+}
+
+// The logarithm to base 2 of a bin's frequency; bin 0, whose frequency has none, has 0.
+pub fn log2_hz(powers: &PowerTable, bin: usize, bin_hz: f32) -> f32
+    requires { ⌜ (now powers ≡ powerTable) × (bin ≤ 2 ^ 24) ⌝ }
+    ensures { λ r. ⌜ r ≡ log2Hz «bin_hz» bin ⌝ }
+{
+    if bin == 0 {
+        return 0.0;
+    }
+    power::log2::log2(powers, bin as f32 * bin_hz)
+}
+
+// Fills the table, from bin 0 on.
+pub fn fill(powers: &PowerTable, table: &mut [f32], sample_rate: f32, fft_size: usize)
+    requires { ⌜ (now powers ≡ powerTable) × («fft_size» ≤ 2 ^ 24) × (length (now table) ≤ 2 ^ 24) ⌝ }
+    ensures { λ _. ⌜ now (table .exit) ≡ tabulate (length (now (table .entry))) (prepared «sample_rate» «fft_size») ⌝ }
+{
+    let spacing = bin_hz(sample_rate, fft_size);
+    let mut bin: usize = 0;
+    while bin < table.len() {
+        table[bin] = log2_hz(powers, bin, spacing);
+        bin += 1;
+    }
+}

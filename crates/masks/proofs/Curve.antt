@@ -1,0 +1,79 @@
+-- The gain of a curve value: it is in 0..1 whatever the value, NaN too, and never falls as the value rises; and document 01's two proved cases. At -144 and below it is 0, which is
+-- the least gain there is, and above that gains of at most 0 dB never fall. Assumes nothing.
+use mathlib.Core.Path.{_≡_, refl}
+use mathlib.Core.Bool.{Bool, true, false, cond}
+use lib.Dec.{T}
+use lib.IntN.{pos}
+use lib.Count.{trailingZeros}
+use lib.Ieee.{Float, nan, inf, fin, binary32, le, lt, isNan, ofBits, fits, mul, div, round, size, span, climb, units, odd}
+use Rattle.float_laws.specs.Units.{number}
+use Rattle.float_laws.specs.Order as order
+use Rattle.float_laws.specs.Order.{le-trans-f}
+use Rattle.float_laws.specs.Round.{plus-zero}
+use Rattle.float_laws.specs.Bounds.{one}
+use Rattle.float32.specs.Order.{minimum}
+use Rattle.float32.specs.Remainder.{zero}
+use Rattle.float32.specs.Value.{moved}
+use Rattle.float32.proofs.OrderAgrees.{minimum-nan-first, minimum-smaller}
+use Rattle.lists.specs.Interpolation.{interp}
+use Rattle.power.specs.Table.{powerTable}
+use Rattle.power.specs.Power.{powerAt, powerOf, E2}
+use Rattle.decibels.specs.Gain.{gainOf}
+use Rattle.decibels.proofs.Gains.{gain-nonneg, gain-number, gain-at-most-one, gain-never-falls}
+use Rattle.masks.specs.Manual.{MANUAL-CURVE-MUTE-DB, curveGain}
+use Rattle.masks.proofs.InUnit.{InUnit, in-unit, zero-in-unit, zero-is}
+
+-- ---- "curve -144 gives 0, +6 gives 1"
+pub curve-mute : curveGain MANUAL-CURVE-MUTE-DB ≡ plus-zero
+unfolding curveGain minimum ofBits le
+curve-mute = refl
+
+pub curve-six : curveGain (fin false 3 (pos 1)) ≡ one
+unfolding curveGain minimum ofBits le lt isNan E2 powerOf powerAt moved interp powerTable odd trailingZeros div mul round size span climb units
+curve-six = refl
+
+-- NaN counts as 0 dB
+pub curve-nan : curveGain nan ≡ one
+unfolding curveGain minimum ofBits le lt isNan E2 powerOf powerAt moved interp powerTable odd trailingZeros div mul round size span climb units
+curve-nan = refl
+
+-- ---- the range
+at-most-zero : (db : Float) → T (fits binary32 db) → T (le (minimum db zero) plus-zero)
+unfolding fits le
+at-most-zero nan h = rw (minimum-nan-first, zero-is) tt
+at-most-zero (inf s) h = rw (minimum-smaller binary32 (inf s) zero tt, zero-is) (order.smaller-right binary32 (inf s) plus-zero tt tt)
+at-most-zero (fin s m e) h = rw (minimum-smaller binary32 (fin s m e) zero h, zero-is) (order.smaller-right binary32 (fin s m e) plus-zero h tt)
+
+chosen : (b : Bool) (g : Float) → T (number binary32 g) → T (le plus-zero g) → T (le g one) → InUnit (cond b zero g)
+unfolding ofBits
+chosen true g p l h = zero-in-unit
+chosen false g p l h = in-unit g p l h
+
+pub curve-gain-in-unit : (db : Float) → T (fits binary32 db) → InUnit (curveGain db)
+unfolding curveGain
+curve-gain-in-unit db h = chosen (le db MANUAL-CURVE-MUTE-DB) (gainOf (minimum db zero)) (gain-number _) (gain-nonneg _) (gain-at-most-one _ (at-most-zero db h))
+
+-- ---- the order, of two numbers
+mute-number : T (number binary32 MANUAL-CURVE-MUTE-DB)
+unfolding ofBits fits
+mute-number = tt
+
+limited-mono : (a b : Float) → T (number binary32 a) → T (number binary32 b) → T (le a b) → T (le (minimum a zero) (minimum b zero))
+unfolding fits le
+limited-mono a b p q h =
+    rw (minimum-smaller binary32 a zero p, minimum-smaller binary32 b zero q, zero-is) (order.smaller-mono binary32 a b plus-zero plus-zero p q tt tt h tt)
+
+ordered : (s t : Bool) (g k : Float) → (T t → T s) → T (le plus-zero k) → T (le g k) → T (le (cond s zero g) (cond t zero k))
+unfolding ofBits le
+ordered true true g k i l h = tt
+ordered true false g k i l h = l
+ordered false true g k i l h = absurd (i tt)
+ordered false false g k i l h = h
+
+pub curve-gain-never-falls : (a b : Float) → T (number binary32 a) → T (number binary32 b) → T (le a b) → T (le (curveGain a) (curveGain b))
+unfolding curveGain
+curve-gain-never-falls a b p q h =
+    ordered (le a MANUAL-CURVE-MUTE-DB) (le b MANUAL-CURVE-MUTE-DB) (gainOf (minimum a zero)) (gainOf (minimum b zero))
+    (λ (m : T (le b MANUAL-CURVE-MUTE-DB)). le-trans-f binary32 a b MANUAL-CURVE-MUTE-DB p q mute-number h m)
+    (gain-nonneg _)
+    (gain-never-falls _ _ (limited-mono a b p q h))

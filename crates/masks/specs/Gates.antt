@@ -1,0 +1,48 @@
+-- The gate of the note layer: how far a note's centre is lifted, how far the closed regions are lowered, and the gain at an openness between the two. The definitions follow the
+-- Rust's `note_emphasis_gain`, `smoothstep` and `note_gate_gain`, rounded at each operation in its order. Assumes nothing.
+use mathlib.Core.Bool.{cond}
+use lib.Ieee.{Float, binary32, ofBits, le, add, sub, mul, div, neg}
+use Rattle.float32.specs.Order.{maximum, clamp}
+use Rattle.float32.specs.Remainder.{zero, one}
+use Rattle.power.specs.Log.{L2}
+use Rattle.decibels.specs.Gain.{gainOf}
+
+abbrev pub two : Float
+two = ofBits binary32 0x40000000
+
+abbrev pub three : Float
+three = ofBits binary32 0x40400000
+
+-- a note up to 100 cents wide is lifted by 6 dB, one of 12 times that not at all
+abbrev pub NARROW-CENTS : Float
+NARROW-CENTS = ofBits binary32 0x42c80000
+
+abbrev pub WIDE-RATIO : Float
+WIDE-RATIO = ofBits binary32 0x41400000
+
+abbrev pub EMPHASIS-DECIBELS : Float
+EMPHASIS-DECIBELS = ofBits binary32 0x40c00000
+
+-- p * p * (3 - 2 * p)
+unfoldable pub smoothstep : Float → Float
+smoothstep p = mul binary32 (mul binary32 p p) (sub binary32 three (mul binary32 two p))
+
+-- where a width lies between the two, in octaves of width, from 0 to 1
+unfoldable pub widthPosition : Float → Float
+widthPosition width = clamp zero one (cond (le width NARROW-CENTS) zero (div binary32 (L2 (div binary32 width NARROW-CENTS)) (L2 WIDE-RATIO)))
+
+-- the gain of a fully open note centre
+unfoldable pub emphasisGain : Float → Float
+emphasisGain width = gainOf (mul binary32 EMPHASIS-DECIBELS (sub binary32 one (smoothstep (widthPosition width))))
+
+-- the gain of a closed region
+unfoldable pub floorGain : Float → Float
+floorGain depth = gainOf (neg (maximum depth zero))
+
+-- the gain at an openness: the floor at 0, the emphasis at 1
+abbrev pub gateGain : Float → Float → Float → Float
+gateGain floor emphasis openness = add binary32 floor (mul binary32 (sub binary32 emphasis floor) openness)
+
+-- `note_gate_gain`, which limits the openness to 0..1
+unfoldable pub limitedGateGain : Float → Float → Float → Float
+limitedGateGain depth width openness = gateGain (floorGain depth) (emphasisGain width) (clamp zero one openness)

@@ -1,0 +1,30 @@
+-- The gain that the drawn curve gives a bin: the curve point that the bin reads, and the gain of a curve value. Assumes nothing.
+use mathlib.Core.Bool.{cond}
+use mathlib.Core.List.{List}
+use Prim.Native.Nat.{ℕ, _+_, _*_, _/_, min}
+use lib.ListN.{getD}
+use lib.Ieee.{Float, nan, binary32, ofBits, le}
+use Rattle.float32.specs.Order.{minimum}
+use Rattle.float32.specs.Remainder.{zero}
+use Rattle.decibels.specs.Gain.{gainOf}
+
+-- the curve has the points 0..8,192, as many as the largest size has bins
+abbrev pub MANUAL-MASK-POINTS : ℕ
+MANUAL-MASK-POINTS = 8193
+
+abbrev pub LAST-POINT : ℕ
+LAST-POINT = 8192
+
+-- "Bin b reads curve point floor((b * 8192 + size / 4) / (size / 2)), at most 8,192." A bin is at most 8,192; one above it would count as that.
+unfoldable pub curvePoint : ℕ → ℕ → ℕ
+curvePoint bin size = min ((min bin LAST-POINT * LAST-POINT + size / 4) / (size / 2)) LAST-POINT
+
+-- "Curve values ≤ -144 give 0, values above 0 count as 0, NaN counts as 0."
+abbrev pub MANUAL-CURVE-MUTE-DB : Float
+MANUAL-CURVE-MUTE-DB = ofBits binary32 0xc3100000
+
+unfoldable pub curveGain : Float → Float
+curveGain db = cond (le db MANUAL-CURVE-MUTE-DB) zero (gainOf (minimum db zero))
+
+unfoldable pub manualGain : List Float → ℕ → ℕ → Float
+manualGain curve bin size = curveGain (getD curve (curvePoint bin size) nan)

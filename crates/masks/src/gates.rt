@@ -1,0 +1,65 @@
+// The gate of the note layer.
+ghost use mathlib.Core.Path.{_≡_};
+ghost use Rattle.power.specs.Table.{powerTable};
+ghost use Rattle.masks.specs.Gates.{smoothstep, widthPosition, emphasisGain, floorGain, gateGain, limitedGateGain};
+use float32::order::clamp;
+use float32::order::max;
+use power::table::PowerTable;
+
+// A note up to 100 cents wide is lifted by 6 dB, one of 12 times that not at all.
+pub const NARROW_CENTS: f32 = 100.0;
+
+pub const WIDE_RATIO: f32 = 12.0;
+
+pub const EMPHASIS_DECIBELS: f32 = 6.0;
+
+fn smoothstep(position: f32) -> f32
+    ensures { λ r. ⌜ r ≡ smoothstep position ⌝ }
+{
+    position * position * (3.0 - 2.0 * position)
+}
+
+// Where a width lies between narrow and wide, in octaves of width, from 0 to 1.
+fn width_position(powers: &PowerTable, width: f32) -> f32
+    requires { ⌜ now powers ≡ powerTable ⌝ }
+    ensures { λ r. ⌜ r ≡ widthPosition width ⌝ }
+{
+    if width <= NARROW_CENTS {
+        return 0.0;
+    }
+    let octaves = power::log2::log2(powers, width / NARROW_CENTS);
+    clamp(octaves / power::log2::log2(powers, WIDE_RATIO), 0.0, 1.0)
+}
+
+// The gain of a fully open note centre: the narrower the note, the more it is lifted.
+pub fn emphasis(powers: &PowerTable, width: f32) -> f32
+    requires { ⌜ now powers ≡ powerTable ⌝ }
+    ensures { λ r. ⌜ r ≡ emphasisGain width ⌝ }
+{
+    let narrowness = 1.0 - smoothstep(width_position(powers, width));
+    decibels::gain(powers, EMPHASIS_DECIBELS * narrowness)
+}
+
+// The gain of a closed region.
+pub fn floor_gain(powers: &PowerTable, depth: f32) -> f32
+    requires { ⌜ now powers ≡ powerTable ⌝ }
+    ensures { λ r. ⌜ r ≡ floorGain depth ⌝ }
+{
+    decibels::gain(powers, -max(depth, 0.0))
+}
+
+// The gain at an openness: the floor at 0, the emphasis at 1.
+pub fn gate_gain(floor: f32, emphasis: f32, openness: f32) -> f32
+    ensures { λ r. ⌜ r ≡ gateGain floor emphasis openness ⌝ }
+{
+    floor + (emphasis - floor) * openness
+}
+
+// The gain of the note layer at an openness, which is limited to 0..1.
+pub fn gate(powers: &PowerTable, depth: f32, width: f32, openness: f32) -> f32
+    requires { ⌜ now powers ≡ powerTable ⌝ }
+    ensures { λ r. ⌜ r ≡ limitedGateGain depth width openness ⌝ }
+{
+    let floor = floor_gain(powers, depth);
+    gate_gain(floor, emphasis(powers, width), clamp(openness, 0.0, 1.0))
+}

@@ -1,0 +1,53 @@
+// The gain that the drawn curve gives a bin.
+ghost use mathlib.Core.Path.{_≡_};
+ghost use Prim.Native.Nat.{min};
+ghost use lib.ListN.{length};
+ghost use Rattle.power.specs.Table.{powerTable};
+ghost use Rattle.masks.specs.Manual.{MANUAL-MASK-POINTS, curvePoint, curveGain, manualGain};
+use float32::order::min;
+use power::table::PowerTable;
+
+// The curve has the points 0..8,192, as many as the largest size has bins.
+pub const MANUAL_MASK_POINTS: usize = 8193;
+
+pub const LAST_POINT: usize = 8192;
+
+pub const MANUAL_CURVE_MUTE_DB: f32 = -144.0;
+
+fn lesser(a: usize, b: usize) -> usize
+    ensures { λ r. ⌜ r ≡ min a b ⌝ }
+{
+    if b < a { b } else { a }
+}
+
+// The curve point nearest to a bin. Below size 2 there are no bins to divide by, and it is the first.
+pub fn curve_point(bin: usize, size: usize) -> usize
+    ensures { λ r. ⌜ r ≡ curvePoint bin size ⌝ }
+{
+    let source_bins = size / 2;
+    if source_bins == 0 {
+        return 0;
+    }
+    lesser(
+        (lesser(bin, LAST_POINT) * LAST_POINT + source_bins / 2) / source_bins,
+        LAST_POINT,
+    )
+}
+
+// The gain of a curve value.
+pub fn curve_gain(powers: &PowerTable, db: f32) -> f32
+    requires { ⌜ now powers ≡ powerTable ⌝ }
+    ensures { λ r. ⌜ r ≡ curveGain db ⌝ }
+{
+    if db <= MANUAL_CURVE_MUTE_DB {
+        return 0.0;
+    }
+    decibels::gain(powers, min(db, 0.0))
+}
+
+pub fn manual_gain(powers: &PowerTable, curve: &[f32], bin: usize, size: usize) -> f32
+    requires { ⌜ (now powers ≡ powerTable) × (length (now curve) ≡ MANUAL-MASK-POINTS) ⌝ }
+    ensures { λ r. ⌜ r ≡ manualGain (now (curve .entry)) bin size ⌝ }
+{
+    curve_gain(powers, curve[curve_point(bin, size)])
+}

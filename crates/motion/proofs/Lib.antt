@@ -1,0 +1,4 @@
+pub mod Between
+pub mod Openings
+pub mod Gains
+pub mod Compensated

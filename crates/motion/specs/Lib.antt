@@ -1,0 +1,3 @@
+pub mod Shapes
+pub mod Field
+pub mod Compensation

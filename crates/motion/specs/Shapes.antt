@@ -1,0 +1,84 @@
+-- The shapes of the moving field, in the Rust's order: `motion_openness` of document 01 away from its resting states. Each is a function of x, the octaves above
+-- the lowest frequency shown, of the size of its cycle in octaves, and of its phase. Every operation is rounded, in the order the Rust writes. Assumes nothing.
+use mathlib.Core.Bool.{cond}
+use lib.Ieee.{Float, binary32, ofBits, add, sub, mul, div, neg, lt}
+use Rattle.float32.specs.Constants.{TAU}
+use Rattle.float32.specs.Order.{clamp, minimum, magnitude}
+use Rattle.float32.specs.Powers.{square, fifth}
+use Rattle.float32.specs.Remainder.{zero, one, remEuclidOne}
+use Rattle.power.specs.Decimal.{exp}
+use Rattle.sine.specs.Sine.{sinOf, cosOf}
+
+-- the octaves from 20 to 20,000 Hz: 9.965784
+abbrev pub DISPLAY-OCTAVES : Float
+DISPLAY-OCTAVES = ofBits binary32 0x411f_73da
+
+-- where in its cycle the saw begins to fall: 0.9
+abbrev pub RESET-START : Float
+RESET-START = ofBits binary32 0x3f66_6666
+
+abbrev pub half : Float
+half = ofBits binary32 0x3f00_0000
+
+abbrev pub two : Float
+two = ofBits binary32 0x4000_0000
+
+abbrev pub three : Float
+three = ofBits binary32 0x4040_0000
+
+-- 0.5 + 0.5 cos(τ (x / size - phase)), clamped to 0..1
+unfoldable pub ripple : Float → Float → Float → Float
+ripple x size phase = clamp zero one (add binary32 half (mul binary32 half (cosOf (mul binary32 TAU (sub binary32 (div binary32 x size) phase)))))
+
+-- its fifth power
+unfoldable pub harmonic : Float → Float → Float → Float
+harmonic x size phase = fifth (ripple x size phase)
+
+-- Three layers. The sizes are 2.7, 1.13 and 0.53 times that of the field, and the phase runs once, twice the other way, and three times.
+unfoldable pub broad : Float → Float → Float → Float
+broad x size phase = sinOf (mul binary32 TAU (sub binary32 (div binary32 x (mul binary32 size (ofBits binary32 0x402c_cccd))) phase))
+
+-- the sum begins 0.19 of a turn ahead
+unfoldable pub middle : Float → Float → Float → Float
+middle x size phase =
+    sinOf
+    (mul binary32 TAU
+    (add binary32 (add binary32 (div binary32 x (mul binary32 size (ofBits binary32 0x3f90_a3d7))) (mul binary32 phase two)) (ofBits binary32 0x3e42_8f5c)))
+
+-- and here 0.61
+unfoldable pub detail : Float → Float → Float → Float
+detail x size phase =
+    sinOf
+    (mul binary32 TAU
+    (add binary32 (sub binary32 (div binary32 x (mul binary32 size (ofBits binary32 0x3f07_ae14))) (mul binary32 phase three)) (ofBits binary32 0x3f1c_28f6)))
+
+-- 0.5 + 0.25 broad + 0.17 middle + 0.08 detail, clamped to 0..1
+unfoldable pub drift : Float → Float → Float → Float
+drift x size phase =
+    clamp zero one
+    (add binary32
+    (add binary32 (add binary32 half (mul binary32 (ofBits binary32 0x3e80_0000) (broad x size phase))) (mul binary32 (ofBits binary32 0x3e2e_147b) (middle x size phase)))
+    (mul binary32 (ofBits binary32 0x3da3_d70a) (detail x size phase)))
+
+-- how far x is from the place that the phase names, round the ends of the display
+unfoldable pub wrapped : Float → Float → Float
+wrapped x phase =
+    let distance = magnitude (sub binary32 x (mul binary32 phase DISPLAY-OCTAVES)) in
+    minimum distance (sub binary32 DISPLAY-OCTAVES distance)
+
+-- exp(-0.5 (wrapped / (0.42 size))²): Scan, and 1 less it: Notch
+unfoldable pub window : Float → Float → Float → Float
+window x size phase = exp (mul binary32 (neg half) (square (div binary32 (wrapped x phase) (mul binary32 size (ofBits binary32 0x3ed7_0a3d)))))
+
+-- p² (3 - 2 p)
+unfoldable pub smoothstep : Float → Float
+smoothstep p = mul binary32 (square p) (sub binary32 three (mul binary32 two p))
+
+-- a straight rise up to RESET-START, and from there on a smooth fall; 1 - RESET-START is rounded, and is not the f32 nearest to 0.1
+unfoldable pub sawAt : Float → Float
+sawAt cycle =
+    cond (lt cycle RESET-START) (div binary32 cycle RESET-START)
+    (sub binary32 one (smoothstep (div binary32 (sub binary32 cycle RESET-START) (sub binary32 one RESET-START))))
+
+unfoldable pub saw : Float → Float → Float → Float
+saw x size phase = sawAt (remEuclidOne (sub binary32 (div binary32 x size) phase))

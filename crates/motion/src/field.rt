@@ -1,0 +1,102 @@
+// The moving field at a frequency: its openness, the attenuation in decibels, and that attenuation as a gain.
+ghost use mathlib.Core.Path.{_≡_};
+ghost use Rattle.power.specs.Table.{powerTable};
+ghost use Rattle.sine.specs.Table.{sineTable};
+ghost use Rattle.motion.specs.Field.{shapeAt, openness, attenuation, gain, motionGain};
+use crate::shapes::drift;
+use crate::shapes::harmonic;
+use crate::shapes::ripple;
+use crate::shapes::saw;
+use crate::shapes::window;
+use float32::order::max;
+use float32::remainder::rem_euclid_one;
+use power::decimal::pow10;
+use power::log2::log2;
+use power::table::PowerTable;
+use scene::MotionConfig;
+use scene::MotionShape;
+use sine::table::SineTable;
+
+// The lowest frequency shown. Below it the field is open.
+pub const MIN_DISPLAY_FREQUENCY_HZ: f32 = 20.0;
+
+// Up to this depth the field rests, open everywhere.
+pub const RESTING_DEPTH_DB: f32 = 0.001;
+
+const MIN_SIZE_OCTAVES: f32 = 0.05;
+
+// The shape's openness x octaves above the lowest frequency shown. Sprinkle and Cloud are made of events and have no field, so theirs is open.
+fn shape_at(
+    powers: &PowerTable,
+    sines: &SineTable,
+    shape: MotionShape,
+    x: f32,
+    size: f32,
+    phase: f32,
+) -> f32
+    requires { ⌜ (now powers ≡ powerTable) × (now sines ≡ sineTable) ⌝ }
+    ensures { λ r. ⌜ r ≡ shapeAt shape x size phase ⌝ }
+{
+    match shape {
+        MotionShape::Ripple => ripple(sines, x, size, phase),
+        MotionShape::Harmonic => harmonic(sines, x, size, phase),
+        MotionShape::Drift => drift(sines, x, size, phase),
+        MotionShape::Scan => window(powers, x, size, phase),
+        MotionShape::Notch => 1.0 - window(powers, x, size, phase),
+        MotionShape::Saw => saw(x, size, phase),
+        MotionShape::Sprinkle => 1.0,
+        MotionShape::Cloud => 1.0,
+    }
+}
+
+// 1 is the crest, where the drawn ceiling is unchanged, and 0 receives the whole attenuation.
+pub fn openness(powers: &PowerTable, sines: &SineTable, frequency: f32, config: MotionConfig) -> f32
+    requires { ⌜ (now powers ≡ powerTable) × (now sines ≡ sineTable) ⌝ }
+    ensures { λ r. ⌜ r ≡ openness frequency config ⌝ }
+{
+    if config.depth_db <= RESTING_DEPTH_DB {
+        return 1.0;
+    }
+    if frequency < MIN_DISPLAY_FREQUENCY_HZ {
+        return 1.0;
+    }
+    let x = log2(powers, frequency / MIN_DISPLAY_FREQUENCY_HZ);
+    let size = max(config.size_octaves, MIN_SIZE_OCTAVES);
+    let phase = rem_euclid_one(config.phase);
+    let shape = config.shape;
+    shape_at(powers, sines, shape, x, size, phase)
+}
+
+pub fn attenuation_db(
+    powers: &PowerTable,
+    sines: &SineTable,
+    frequency: f32,
+    config: MotionConfig,
+) -> f32
+    requires { ⌜ (now powers ≡ powerTable) × (now sines ≡ sineTable) ⌝ }
+    ensures { λ r. ⌜ r ≡ attenuation frequency config ⌝ }
+{
+    let depth = max(config.depth_db, 0.0);
+    depth * (1.0 - openness(powers, sines, frequency, config))
+}
+
+// Decibels as a gain.
+pub(crate) fn gain(powers: &PowerTable, db: f32) -> f32
+    requires { ⌜ now powers ≡ powerTable ⌝ }
+    ensures { λ r. ⌜ r ≡ gain db ⌝ }
+{
+    pow10(powers, db / 20.0)
+}
+
+// What the field leaves of a frequency.
+pub fn motion_gain(
+    powers: &PowerTable,
+    sines: &SineTable,
+    frequency: f32,
+    config: MotionConfig,
+) -> f32
+    requires { ⌜ (now powers ≡ powerTable) × (now sines ≡ sineTable) ⌝ }
+    ensures { λ r. ⌜ r ≡ motionGain frequency config ⌝ }
+{
+    gain(powers, -attenuation_db(powers, sines, frequency, config))
+}

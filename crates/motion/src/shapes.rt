@@ -1,0 +1,82 @@
+// The shapes of the moving field. Each is a function of x, the octaves above the lowest frequency shown, of the size of
+// its cycle in octaves, and of its phase, from 0 to 1. 1 is open, and 0 receives the whole depth.
+ghost use mathlib.Core.Path.{_≡_};
+ghost use Rattle.power.specs.Table.{powerTable};
+ghost use Rattle.sine.specs.Table.{sineTable};
+ghost use Rattle.motion.specs.Shapes.{ripple, harmonic, drift, window, smoothstep, saw};
+use float32::constants::TAU;
+use float32::order::abs;
+use float32::order::clamp;
+use float32::order::min;
+use float32::powers::powi2;
+use float32::powers::powi5;
+use float32::remainder::rem_euclid_one;
+use power::decimal::exp;
+use power::table::PowerTable;
+use sine::cos;
+use sine::sin;
+use sine::table::SineTable;
+
+// The octaves from 20 to 20,000 Hz.
+pub const DISPLAY_OCTAVES: f32 = 9.965_784;
+
+// Where in its cycle the saw begins to fall.
+const RESET_START: f32 = 0.9;
+
+// A cosine wave.
+pub(crate) fn ripple(sines: &SineTable, x: f32, size: f32, phase: f32) -> f32
+    requires { ⌜ now sines ≡ sineTable ⌝ }
+    ensures { λ r. ⌜ r ≡ ripple x size phase ⌝ }
+{
+    let wave = cos(sines, TAU * (x / size - phase));
+    clamp(0.5 + 0.5 * wave, 0.0, 1.0)
+}
+
+// The ripple with narrow crests.
+pub(crate) fn harmonic(sines: &SineTable, x: f32, size: f32, phase: f32) -> f32
+    requires { ⌜ now sines ≡ sineTable ⌝ }
+    ensures { λ r. ⌜ r ≡ harmonic x size phase ⌝ }
+{
+    powi5(ripple(sines, x, size, phase))
+}
+
+// Three waves. Whole multiples of the phase keep the field continuous where the phase begins anew, and the unrelated
+// sizes keep the waves from looking like one repeating comb.
+pub(crate) fn drift(sines: &SineTable, x: f32, size: f32, phase: f32) -> f32
+    requires { ⌜ now sines ≡ sineTable ⌝ }
+    ensures { λ r. ⌜ r ≡ drift x size phase ⌝ }
+{
+    let broad = sin(sines, TAU * (x / (size * 2.7) - phase));
+    let middle = sin(sines, TAU * (x / (size * 1.13) + phase * 2.0 + 0.19));
+    let detail = sin(sines, TAU * (x / (size * 0.53) - phase * 3.0 + 0.61));
+    clamp(0.5 + 0.25 * broad + 0.17 * middle + 0.08 * detail, 0.0, 1.0)
+}
+
+// A bell around the place that the phase names, the ends of the display being joined: what Scan opens and Notch shuts.
+pub(crate) fn window(powers: &PowerTable, x: f32, size: f32, phase: f32) -> f32
+    requires { ⌜ now powers ≡ powerTable ⌝ }
+    ensures { λ r. ⌜ r ≡ window x size phase ⌝ }
+{
+    let center = phase * DISPLAY_OCTAVES;
+    let distance = abs(x - center);
+    let wrapped = min(distance, DISPLAY_OCTAVES - distance);
+    exp(powers, -0.5 * powi2(wrapped / (size * 0.42)))
+}
+
+// From 0 to 1, level at both ends.
+pub(crate) fn smoothstep(position: f32) -> f32
+    ensures { λ r. ⌜ r ≡ smoothstep position ⌝ }
+{
+    position * position * (3.0 - 2.0 * position)
+}
+
+// A straight rise, and a smooth fall in the last tenth of the cycle.
+pub(crate) fn saw(x: f32, size: f32, phase: f32) -> f32
+    ensures { λ r. ⌜ r ≡ saw x size phase ⌝ }
+{
+    let cycle = rem_euclid_one(x / size - phase);
+    if cycle < RESET_START {
+        return cycle / RESET_START;
+    }
+    1.0 - smoothstep((cycle - RESET_START) / (1.0 - RESET_START))
+}

@@ -1,0 +1,2 @@
+pub mod InTune
+pub mod Range

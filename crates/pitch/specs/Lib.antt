@@ -1,0 +1,2 @@
+pub mod Pitch
+pub mod Tune

@@ -1,0 +1,20 @@
+// The pitch of a note.
+ghost use mathlib.Core.Path.{_≡_};
+ghost use Rattle.power.specs.Table.{powerTable};
+ghost use Rattle.pitch.specs.Pitch.{noteHertz};
+use power::table::PowerTable;
+
+// A4, the note that a tuning fork sounds, and its frequency.
+pub const A4_NOTE: f32 = 69.0;
+
+pub const A4_HERTZ: f32 = 440.0;
+
+pub const NOTES_PER_OCTAVE: f32 = 12.0;
+
+// The frequency of a note in twelve-tone equal temperament, raised by `tuning` semitones.
+pub fn note_hertz(powers: &PowerTable, note: u8, tuning: f32) -> f32
+    requires { ⌜ now powers ≡ powerTable ⌝ }
+    ensures { λ r. ⌜ r ≡ noteHertz note tuning ⌝ }
+{
+    A4_HERTZ * power::exp2::exp2(powers, (note as f32 + tuning - A4_NOTE) / NOTES_PER_OCTAVE)
+}

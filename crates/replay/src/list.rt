@@ -1,0 +1,58 @@
+// A list of calls: words of 32 bits, most significant byte first.
+ghost use Prim.Native.Nat.{_<_};
+ghost use Rattle.io.specs.Counts.{Counts};
+
+fn wide(byte: u8) -> u32
+    ensures { λ r. ⌜ r < 256 ⌝ }
+{
+    byte as u32
+}
+
+// The word that begins at a byte; 0 past the list's end.
+fn word_from(bytes: &[u8], at: usize) -> u32 {
+    if bytes.len() < 4 {
+        return 0;
+    }
+    if bytes.len() - 4 < at {
+        return 0;
+    }
+    let b0 = wide(bytes[at]);
+    let b1 = wide(bytes[at + 1]);
+    let b2 = wide(bytes[at + 2]);
+    let b3 = wide(bytes[at + 3]);
+    ((b0 * 256 + b1) * 256 + b2) * 256 + b3
+}
+
+// The number of whole words.
+pub fn words(bytes: &[u8]) -> usize {
+    bytes.len() / 4
+}
+
+// The word with this number past another; 0 past the list's end.
+pub fn word(bytes: &[u8], at: usize, past: usize) -> u32 {
+    let index = std::num::wrapping_add_usize(at, past);
+    if bytes.len() / 4 <= index {
+        return 0;
+    }
+    word_from(bytes, index * 4)
+}
+
+pub fn float(bytes: &[u8], at: usize, past: usize) -> f32 {
+    float32::bits::of_bits(word(bytes, at, past))
+}
+
+pub fn count(bytes: &[u8], at: usize, past: usize) -> usize {
+    word(bytes, at, past) as usize
+}
+
+// Reads the file that the first argument names, and answers how many bytes it put at the start.
+pub fn read(bytes: &mut [u8; 65536]) -> usize
+    ensures { λ r. ⌜ Counts r (now (bytes .exit)) ⌝ }
+{
+    let mut path = io::buffer();
+    let n = os::arg(1, &mut path);
+    let fd = os::open_read(&path[..n]);
+    let m = io::read_full(fd, bytes);
+    libc::close(fd);
+    m
+}

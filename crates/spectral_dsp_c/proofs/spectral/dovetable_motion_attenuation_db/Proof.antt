@@ -1,0 +1,40 @@
+-- `spectral_dsp_c::spectral::dovetable_motion_attenuation_db` gives what the open call answers for a shape of 0..7, and else refusal 2. Assumes nothing.
+use mathlib.Core.Path.{sym, ap, _∙_}
+use borrow.Author.Needs.{needs}
+use Rattle.spectral_dsp.specs.Motion.{attenuationReply}
+use Rattle.spectral_dsp_c.proofs.Replies.{given-value}
+use Rattle.spectral_dsp_c.proofs.Shapes.{with-known, with-unknown}
+use Rattle.spectral_dsp_c.proofs.spectral.dovetable_motion_attenuation_db.Statement.{statement}
+use Rattle.spectral_dsp_c.proofs.spectral.dovetable_motion_attenuation_db.Tie as tie
+
+give-answer-requires : tie.Need-give-answer-requires
+give-answer-requires c κs = search needs
+
+returns : tie.Need-returns
+returns c = given-value (sym (with-unknown _ _ (c .before .before .before .if1 .taken))) (c .give-answer .ensures)
+
+motion-of-requires : tie.Need-motion-of-requires
+motion-of-requires c κs = search needs
+
+motion-attenuation-db-requires : tie.Need-motion-attenuation-db-requires
+motion-attenuation-db-requires c κs = search needs
+
+give-answer-requires-2 : tie.Need-give-answer-requires-2
+give-answer-requires-2 c κs = search needs
+
+returns-2 : tie.Need-returns-2
+returns-2 c =
+    let called = c .before .before .before in
+    let known = with-known _ _ (called .before .before .if1 .left) in
+    given-value (called .motion-attenuation-db .ensures ∙ ap (λ motion. attenuationReply (called .before .before .before .args .frequency) motion) (called .before .motion-of .ensures) ∙ sym known) (c .give-answer2 .ensures)
+
+pub dovetable-motion-attenuation-db-spec : {M : Type 1} → statement M
+dovetable-motion-attenuation-db-spec =
+    tie.close
+    (tie.spec
+    give-answer-requires
+    returns
+    motion-of-requires
+    motion-attenuation-db-requires
+    give-answer-requires-2
+    returns-2)

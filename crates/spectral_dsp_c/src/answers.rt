@@ -1,0 +1,32 @@
+// An open call's answer, given to a C caller: the number comes back, the values or the place are written.
+ghost use Rattle.answer.specs.Reply.{ofAnswer, ofOutcome};
+ghost use Rattle.spectral_dsp_c.specs.Given.{Given, GivenValue};
+use answer::Answer;
+use answer::Outcome;
+
+pub fn give_answer(answer: Answer, value: &mut f32, place: &mut usize) -> u32
+    ensures { λ r. ⌜ GivenValue (ofAnswer answer) r (now (place .entry)) (now (place .exit)) (now (value .entry)) (now (value .exit)) ⌝ }
+{
+    match answer {
+        Answer::Gain(x) => {
+            *value = x;
+            return 0;
+        }
+        Answer::Refused(number, at) => {
+            *place = at;
+            return number as u32;
+        }
+    }
+}
+
+pub fn give_outcome(outcome: Outcome, place: &mut usize) -> u32
+    ensures { λ r. ⌜ Given (ofOutcome outcome) r (now (place .entry)) (now (place .exit)) ⌝ }
+{
+    match outcome {
+        Outcome::Done => return 0,
+        Outcome::Refused(number, at) => {
+            *place = at;
+            return number as u32;
+        }
+    }
+}

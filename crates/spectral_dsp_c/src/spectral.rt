@@ -1,0 +1,167 @@
+// The open calls of spectral-dsp's lib but the mask builders.
+ghost use mathlib.Core.Path.{_≡_};
+ghost use Prim.Native.Nat.{_≤_};
+ghost use lib.ListN.{length};
+ghost use Rattle.lists.specs.Maps.{tabulate};
+ghost use Rattle.frequencies.specs.Frequency.{prepared};
+ghost use Rattle.spectral_dsp.specs.Gates.{noteEmphasisGain, noteGateGain, manualGainAtBin};
+ghost use Rattle.spectral_dsp.specs.Motion.{opennessReply, attenuationReply, compensationReply};
+ghost use Rattle.spectral_dsp.specs.Prepared.{prepareReply};
+ghost use Rattle.spectral_dsp.specs.Written.{written};
+ghost use Rattle.spectral_dsp_c.specs.Given.{Given, GivenValue};
+ghost use Rattle.spectral_dsp_c.specs.Settings.{shapeOf, motionOf, withShape};
+use crate::answers::give_answer;
+use crate::answers::give_outcome;
+use answer::Answer;
+use scene::MotionConfig;
+use scene::MotionShape;
+
+#[no_mangle]
+pub extern "C" fn dovetable_note_emphasis_gain(
+    width_cents: f32,
+    gain: &mut f32,
+    place: &mut usize,
+) -> u32
+    ensures { λ r. ⌜ GivenValue (noteEmphasisGain «width_cents») r (now (place .entry)) (now (place .exit)) (now (gain .entry)) (now (gain .exit)) ⌝ }
+{
+    give_answer(spectral_dsp::note_emphasis_gain(width_cents), gain, place)
+}
+
+#[no_mangle]
+pub extern "C" fn dovetable_note_gate_gain(
+    note_depth_db: f32,
+    width_cents: f32,
+    openness: f32,
+    gain: &mut f32,
+    place: &mut usize,
+) -> u32
+    ensures { λ r. ⌜ GivenValue (noteGateGain «note_depth_db» «width_cents» openness) r (now (place .entry)) (now (place .exit)) (now (gain .entry)) (now (gain .exit)) ⌝ }
+{
+    give_answer(
+        spectral_dsp::note_gate_gain(note_depth_db, width_cents, openness),
+        gain,
+        place,
+    )
+}
+
+#[no_mangle]
+pub extern "C" fn dovetable_manual_gain_at_bin(
+    mask_db: &[f32],
+    bin: usize,
+    fft_size: usize,
+    gain: &mut f32,
+    place: &mut usize,
+) -> u32
+    ensures { λ r. ⌜ GivenValue (manualGainAtBin (now («mask_db» .entry)) bin «fft_size») r (now (place .entry)) (now (place .exit)) (now (gain .entry)) (now (gain .exit)) ⌝ }
+{
+    give_answer(
+        spectral_dsp::manual_gain_at_bin(mask_db, bin, fft_size),
+        gain,
+        place,
+    )
+}
+
+fn shape_of(number: u32) -> MotionShape
+    ensures { λ r. ⌜ r ≡ shapeOf number ⌝ }
+{
+    match number {
+        0 => MotionShape::Ripple,
+        1 => MotionShape::Harmonic,
+        2 => MotionShape::Drift,
+        3 => MotionShape::Scan,
+        4 => MotionShape::Notch,
+        5 => MotionShape::Saw,
+        6 => MotionShape::Sprinkle,
+        _ => MotionShape::Cloud,
+    }
+}
+
+fn motion_of(shape: u32, depth_db: f32, phase: f32, size_octaves: f32) -> MotionConfig
+    ensures { λ r. ⌜ r ≡ motionOf shape «depth_db» phase «size_octaves» ⌝ }
+{
+    MotionConfig {
+        shape: shape_of(shape),
+        depth_db: depth_db,
+        phase: phase,
+        size_octaves: size_octaves,
+    }
+}
+
+#[no_mangle]
+pub extern "C" fn dovetable_motion_openness(
+    frequency: f32,
+    shape: u32,
+    depth_db: f32,
+    phase: f32,
+    size_octaves: f32,
+    openness: &mut f32,
+    place: &mut usize,
+) -> u32
+    ensures { λ r. ⌜ GivenValue (withShape shape (opennessReply frequency (motionOf shape «depth_db» phase «size_octaves»))) r (now (place .entry)) (now (place .exit)) (now (openness .entry)) (now (openness .exit)) ⌝ }
+{
+    if 7 < shape {
+        return give_answer(Answer::Refused(2, 0), openness, place);
+    }
+    let motion = motion_of(shape, depth_db, phase, size_octaves);
+    give_answer(
+        spectral_dsp::motion_openness(frequency, motion),
+        openness,
+        place,
+    )
+}
+
+#[no_mangle]
+pub extern "C" fn dovetable_motion_attenuation_db(
+    frequency: f32,
+    shape: u32,
+    depth_db: f32,
+    phase: f32,
+    size_octaves: f32,
+    attenuation_db: &mut f32,
+    place: &mut usize,
+) -> u32
+    ensures { λ r. ⌜ GivenValue (withShape shape (attenuationReply frequency (motionOf shape «depth_db» phase «size_octaves»))) r (now (place .entry)) (now (place .exit)) (now («attenuation_db» .entry)) (now («attenuation_db» .exit)) ⌝ }
+{
+    if 7 < shape {
+        return give_answer(Answer::Refused(2, 0), attenuation_db, place);
+    }
+    let motion = motion_of(shape, depth_db, phase, size_octaves);
+    give_answer(
+        spectral_dsp::motion_attenuation_db(frequency, motion),
+        attenuation_db,
+        place,
+    )
+}
+
+#[no_mangle]
+pub extern "C" fn dovetable_motion_compensation_gain(
+    shape: u32,
+    depth_db: f32,
+    phase: f32,
+    size_octaves: f32,
+    gain: &mut f32,
+    place: &mut usize,
+) -> u32
+    ensures { λ r. ⌜ GivenValue (withShape shape (compensationReply (motionOf shape «depth_db» phase «size_octaves»))) r (now (place .entry)) (now (place .exit)) (now (gain .entry)) (now (gain .exit)) ⌝ }
+{
+    if 7 < shape {
+        return give_answer(Answer::Refused(2, 0), gain, place);
+    }
+    let motion = motion_of(shape, depth_db, phase, size_octaves);
+    give_answer(spectral_dsp::motion_compensation_gain(motion), gain, place)
+}
+
+// `MaskWorkspace::prepare` on a lent table.
+#[no_mangle]
+pub extern "C" fn dovetable_prepare(
+    table: &mut [f32],
+    sample_rate: f32,
+    fft_size: usize,
+    place: &mut usize,
+) -> u32
+    ensures { λ r. ⌜ Given (prepareReply (length (now (table .entry))) «sample_rate» «fft_size») r (now (place .entry)) (now (place .exit)) ⌝ }
+    ensures { λ _. ⌜ now (table .exit) ≡ written (prepareReply (length (now (table .entry))) «sample_rate» «fft_size») (tabulate (length (now (table .entry))) (prepared «sample_rate» «fft_size»)) (now (table .entry)) ⌝ }
+{
+    let outcome = spectral_dsp::MaskWorkspace::prepare(table, sample_rate, fft_size);
+    give_outcome(outcome, place)
+}
