@@ -5,7 +5,7 @@ use lib.ListN.{length}
 use lib.Ieee.{Float}
 use Rattle.lists.specs.Maps.{tabulate}
 use Rattle.windows.specs.Windows.{dualOf}
-use Rattle.prepared_spectrum.specs.Frequency.{prepared}
+use Rattle.frequencies.specs.Frequency.{prepared}
 
 -- "Block length: 4·size + size/2 + 1"
 abbrev pub blockLength : ℕ → ℕ

@@ -1,2 +1,1 @@
-pub mod Frequency
 pub mod Block

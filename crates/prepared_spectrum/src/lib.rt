@@ -6,8 +6,6 @@ ghost use Rattle.power.specs.Table.{powerTable};
 ghost use Rattle.prepared_spectrum.specs.Block.{blockLength, pairOf, blockOf};
 use power::table::PowerTable;
 
-mod frequencies;
-
 // A window and, after it, its dual.
 fn fill_pair(window: &[f32], overlap: usize, block: &mut [f32])
     requires { ⌜ (length (now block) ≡ 2 * length (now window)) × (0 < overlap) ⌝ }
@@ -35,5 +33,5 @@ pub fn fill_block(
     let table = 4 * size;
     fill_pair(window, overlap, &mut block[..middle]);
     fill_pair(smooth, overlap, &mut block[middle..table]);
-    crate::frequencies::fill(powers, &mut block[table..], sample_rate, size);
+    frequencies::fill(powers, &mut block[table..], sample_rate, size);
 }

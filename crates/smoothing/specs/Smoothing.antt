@@ -5,11 +5,8 @@ use lib.ListN.{length, getD}
 use lib.Ieee.{Float, nan, binary32, add, sub, mul, div, neg, ofBits}
 use Rattle.lists.specs.Maps.{mapAt, mapRange}
 use Rattle.float32.specs.Order.{maximum, clamp}
-use Rattle.power.specs.Decimal.{pow10, exp, log10}
-
--- 20
-abbrev pub DECIBELS-PER-DECADE : Float
-DECIBELS-PER-DECADE = ofBits binary32 0x41a00000
+use Rattle.power.specs.Decimal.{exp, log10}
+use Rattle.decibels.specs.Gain.{DECIBELS-PER-DECADE, gainOf}
 
 -- 1.0e-6
 abbrev pub LEAST-GAIN : Float
@@ -34,10 +31,6 @@ abbrev pub ONE : Float
 ONE = ofBits binary32 0x3f800000
 
 -- ---- decibels
-
--- powf(10, db / 20)
-abbrev pub gainOf : Float → Float
-gainOf db = pow10 (div binary32 db DECIBELS-PER-DECADE)
 
 -- 20 · log10(max(x, 1.0e-6))
 abbrev pub decibelsOf : Float → Float

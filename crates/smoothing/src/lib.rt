@@ -5,13 +5,12 @@ ghost use lib.Ieee.{nan};
 ghost use lib.ListN.{length, getD};
 ghost use Rattle.lists.specs.Maps.{mapAt, mapRange};
 ghost use Rattle.power.specs.Table.{powerTable};
-ghost use Rattle.smoothing.specs.Smoothing.{gainOf, decibelsOf, softened, softenedAt, softenedOf, blendOf, toward, smoothedOf};
+ghost use Rattle.smoothing.specs.Smoothing.{decibelsOf, softened, softenedAt, softenedOf, blendOf, toward, smoothedOf};
+use decibels::DECIBELS_PER_DECADE;
+use decibels::gain;
 use power::decimal::exp;
 use power::decimal::log10;
-use power::decimal::pow10;
 use power::table::PowerTable;
-
-const DECIBELS_PER_DECADE: f32 = 20.0;
 
 // A gain below this counts as this, so that silence has decibels too.
 const LEAST_GAIN: f32 = 1.0e-6;
@@ -23,15 +22,8 @@ const CENTER_SHARE: f32 = 0.6;
 
 const SMOOTH_MASK_TIME_SECONDS: f32 = 0.03;
 
-fn gain(powers: &PowerTable, db: f32) -> f32
-    requires { ⌜ now powers ≡ powerTable ⌝ }
-    ensures { λ r. ⌜ r ≡ gainOf db ⌝ }
-{
-    pow10(powers, db / DECIBELS_PER_DECADE)
-}
-
 // The decibels of a gain.
-pub fn decibels(powers: &PowerTable, gain: f32) -> f32
+pub fn in_decibels(powers: &PowerTable, gain: f32) -> f32
     requires { ⌜ now powers ≡ powerTable ⌝ }
     ensures { λ r. ⌜ r ≡ decibelsOf gain ⌝ }
 {
@@ -55,11 +47,11 @@ fn soften_inside(powers: &PowerTable, source: &[f32], output: &mut [f32])
     ensures { λ _. ⌜ now (output .exit) ≡ mapRange (λ b x. softenedAt (now (source .entry)) b) 1 (length (now (source .entry)) - 1) (now (output .entry)) ⌝ }
 {
     let last = source.len() - 1;
-    let mut left_db = decibels(powers, source[0]);
-    let mut center_db = decibels(powers, source[1]);
+    let mut left_db = in_decibels(powers, source[0]);
+    let mut center_db = in_decibels(powers, source[1]);
     let mut bin: usize = 1;
     while bin < last {
-        let right_db = decibels(powers, source[bin + 1]);
+        let right_db = in_decibels(powers, source[bin + 1]);
         output[bin] = softened(powers, left_db, center_db, right_db);
         left_db = center_db;
         center_db = right_db;
@@ -84,11 +76,8 @@ fn blend(powers: &PowerTable, elapsed_seconds: f32) -> f32
     requires { ⌜ now powers ≡ powerTable ⌝ }
     ensures { λ r. ⌜ r ≡ blendOf «elapsed_seconds» ⌝ }
 {
-    float32::order::clamp(
-        1.0 - exp(powers, -elapsed_seconds / SMOOTH_MASK_TIME_SECONDS),
-        0.0,
-        1.0,
-    )
+    let way = 1.0 - exp(powers, -elapsed_seconds / SMOOTH_MASK_TIME_SECONDS);
+    float32::order::clamp(way, 0.0, 1.0)
 }
 
 // A gain moved toward its target by that part of the way, in decibels.
@@ -96,8 +85,8 @@ fn toward(powers: &PowerTable, current: f32, target: f32, blend: f32) -> f32
     requires { ⌜ now powers ≡ powerTable ⌝ }
     ensures { λ r. ⌜ r ≡ toward blend current target ⌝ }
 {
-    let current_db = decibels(powers, current);
-    let target_db = decibels(powers, target);
+    let current_db = in_decibels(powers, current);
+    let target_db = in_decibels(powers, target);
     gain(powers, current_db + (target_db - current_db) * blend)
 }
 

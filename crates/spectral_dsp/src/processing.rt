@@ -53,9 +53,9 @@ pub fn build_dual_synthesis_window(
     if length != synthesis.len() {
         return Outcome::Refused(4, 0);
     }
-    let outside = limits::first_outside(analysis, LEAST_WINDOW_VALUE, MOST_WINDOW_VALUE);
-    if outside < length {
-        return Outcome::Refused(7, outside);
+    let index = limits::first_outside(analysis, LEAST_WINDOW_VALUE, MOST_WINDOW_VALUE);
+    if index < length {
+        return Outcome::Refused(7, index);
     }
     if !limits::overlap(overlap, length) {
         return Outcome::Refused(8, 0);
@@ -76,9 +76,9 @@ pub fn soften_spectral_edges(source: &[f32], output: &mut [f32]) -> Outcome
     if length != output.len() {
         return Outcome::Refused(4, 0);
     }
-    let outside = limits::first_outside(source, LEAST_GAIN, MOST_GAIN);
-    if outside < length {
-        return Outcome::Refused(7, outside);
+    let bin = limits::first_outside(source, LEAST_GAIN, MOST_GAIN);
+    if bin < length {
+        return Outcome::Refused(7, bin);
     }
     let powers = power::table::power_table();
     smoothing::soften(&powers, source, output);
@@ -100,9 +100,9 @@ pub fn smooth_mask_in_db(current: &mut [f32], target: &[f32], elapsed_seconds: f
     if length != target.len() {
         return Outcome::Refused(4, 0);
     }
-    let outside = limits::first_pair_outside(current, target, LEAST_GAIN, MOST_GAIN);
-    if outside < length {
-        return Outcome::Refused(7, outside);
+    let place = limits::first_pair_outside(current, target, LEAST_GAIN, MOST_GAIN);
+    if place < length {
+        return Outcome::Refused(7, place);
     }
     let powers = power::table::power_table();
     smoothing::smooth(&powers, current, target, elapsed_seconds);
@@ -137,14 +137,14 @@ impl PreparedSpectrum {
         if block.len() != block_length(size) {
             return Prepared::Refused(4, 0);
         }
-        let outside = limits::first_pair_outside(
+        let index = limits::first_pair_outside(
             window,
             smooth_analysis_window,
             LEAST_WINDOW_VALUE,
             MOST_WINDOW_VALUE,
         );
-        if outside < size {
-            return Prepared::Refused(7, outside);
+        if index < size {
+            return Prepared::Refused(7, index);
         }
         if !limits::overlap(overlap, size) {
             return Prepared::Refused(8, 0);

@@ -49,13 +49,13 @@ pub fn dual_window(analysis: &[f32], synthesis: &mut [f32], overlap: usize)
 fn sum(window: &[f32]) -> f32
     ensures { λ r. ⌜ r ≡ sumOf (now (window .entry)) ⌝ }
 {
-    let mut sum: f32 = 0.0;
+    let mut total: f32 = 0.0;
     let mut index: usize = 0;
     while index < window.len() {
-        sum = sum + window[index];
+        total = total + window[index];
         index += 1;
     }
-    sum
+    total
 }
 
 // The mean of a window's values: what it does to a steady tone's level.

@@ -9,7 +9,7 @@ use lib.Ieee.{Float}
 use Rattle.lists.specs.Maps.{tabulate, length-tab}
 use Rattle.float_laws.specs.Classes.{dualAt}
 use Rattle.windows.specs.Windows.{dualOf}
-use Rattle.prepared_spectrum.specs.Frequency.{prepared}
+use Rattle.frequencies.specs.Frequency.{prepared}
 use Rattle.prepared_spectrum.specs.Block.{pairOf, logarithms, blockOf}
 use Rattle.prepared_spectrum.proofs.Filled.{fill-three}
 use borrow.Author.Needs.{needs}

@@ -21,32 +21,32 @@ abbrev μ-loop : tie.MeasureT-loop
 sub-last : tie.Need-sub-last Inv-loop μ-loop
 sub-last c = search needs
 
-shared-slice-read-decibels : tie.Need-shared-slice-read-decibels Inv-loop μ-loop
-shared-slice-read-decibels c = search needs
+shared-slice-read-in-decibels : tie.Need-shared-slice-read-in-decibels Inv-loop μ-loop
+shared-slice-read-in-decibels c = search needs
 
-decibels-requires : tie.Need-decibels-requires Inv-loop μ-loop
-decibels-requires c κs = search needs
+in-decibels-requires : tie.Need-in-decibels-requires Inv-loop μ-loop
+in-decibels-requires c κs = search needs
 
-shared-slice-read-decibels-2 : tie.Need-shared-slice-read-decibels-2 Inv-loop μ-loop
-shared-slice-read-decibels-2 c = search needs
+shared-slice-read-in-decibels-2 : tie.Need-shared-slice-read-in-decibels-2 Inv-loop μ-loop
+shared-slice-read-in-decibels-2 c = search needs
 
-decibels-requires-2 : tie.Need-decibels-requires-2 Inv-loop μ-loop
-decibels-requires-2 c κs = search needs
+in-decibels-requires-2 : tie.Need-in-decibels-requires-2 Inv-loop μ-loop
+in-decibels-requires-2 c κs = search needs
 
 loop-holds : tie.Need-loop-holds Inv-loop μ-loop
-loop-holds c = (omega arith, c .before .before .decibels .ensures, c .decibels2 .ensures, turned-none _ _ _)
+loop-holds c = (omega arith, c .before .before .in-decibels .ensures, c .in-decibels2 .ensures, turned-none _ _ _)
 
-add-decibels : tie.Need-add-decibels Inv-loop μ-loop
-add-decibels c = search needs
+add-in-decibels : tie.Need-add-in-decibels Inv-loop μ-loop
+add-in-decibels c = search needs
 
-mul-decibels : tie.Need-mul-decibels Inv-loop μ-loop
-mul-decibels c = search needs
+mul-in-decibels : tie.Need-mul-in-decibels Inv-loop μ-loop
+mul-in-decibels c = search needs
 
-shared-slice-read-decibels-3 : tie.Need-shared-slice-read-decibels-3 Inv-loop μ-loop
-shared-slice-read-decibels-3 c = omega arith
+shared-slice-read-in-decibels-3 : tie.Need-shared-slice-read-in-decibels-3 Inv-loop μ-loop
+shared-slice-read-in-decibels-3 c = omega arith
 
-decibels-requires-3 : tie.Need-decibels-requires-3 Inv-loop μ-loop
-decibels-requires-3 c κs = search needs
+in-decibels-requires-3 : tie.Need-in-decibels-requires-3 Inv-loop μ-loop
+in-decibels-requires-3 c κs = search needs
 
 softened-requires : tie.Need-softened-requires Inv-loop μ-loop
 softened-requires c κs = search needs
@@ -68,7 +68,7 @@ loop-again c =
     let l = c .before .before .before .before .loop in
     let s = c .before .before .before .before .before .before .before .before .before .before .before .args .source .now in
     let own : l .bin + 1 - 1 ≡ l .bin = omega arith in
-    let right = c .before .decibels3 .ensures in (
+    let right = c .before .in-decibels3 .ensures in (
       omega arith,
       rw own (l .inv .2),
       right,
@@ -88,15 +88,15 @@ soften-inside-spec =
     Inv-loop
     μ-loop
     sub-last
-    shared-slice-read-decibels
-    decibels-requires
-    shared-slice-read-decibels-2
-    decibels-requires-2
+    shared-slice-read-in-decibels
+    in-decibels-requires
+    shared-slice-read-in-decibels-2
+    in-decibels-requires-2
     loop-holds
-    add-decibels
-    mul-decibels
-    shared-slice-read-decibels-3
-    decibels-requires-3
+    add-in-decibels
+    mul-in-decibels
+    shared-slice-read-in-decibels-3
+    in-decibels-requires-3
     softened-requires
     mul-output
     slice-write-output

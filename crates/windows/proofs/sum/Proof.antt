@@ -14,20 +14,20 @@ use Rattle.windows.proofs.sum.Statement.{statement}
 use Rattle.windows.proofs.sum.Tie as tie
 
 abbrev Inv-loop : tie.InvT-loop
-Inv-loop window sum₀ index₀ sum index = fold (λ s x. add binary32 s x) sum (drop index window) ≡ sumOf window
+Inv-loop window total₀ index₀ total index = fold (λ s x. add binary32 s x) total (drop index window) ≡ sumOf window
 
 abbrev μ-loop : tie.MeasureT-loop
-μ-loop window sum₀ index₀ sum index = length window - index
+μ-loop window total₀ index₀ total index = length window - index
 
 loop-holds : tie.Need-loop-holds Inv-loop μ-loop
 unfolding ofBits ofFields
 loop-holds c = refl
 
-mul-sum : tie.Need-mul-sum Inv-loop μ-loop
-mul-sum c = search needs
+mul-total : tie.Need-mul-total Inv-loop μ-loop
+mul-total c = search needs
 
-shared-slice-read-sum : tie.Need-shared-slice-read-sum Inv-loop μ-loop
-shared-slice-read-sum c = search needs
+shared-slice-read-total : tie.Need-shared-slice-read-total Inv-loop μ-loop
+shared-slice-read-total c = search needs
 
 add-index : tie.Need-add-index Inv-loop μ-loop
 add-index c = search needs
@@ -39,12 +39,12 @@ loop-again : tie.Need-loop-again Inv-loop μ-loop
 loop-again c =
     let l = c .before .before .loop in
     let w = c .before .before .before .args .window .now in
-    sym (fold-step (λ s x. add binary32 s x) (l .sum) (drop-cons w (l .index) nan (omega arith) ∙ ap (λ (i : ℕ). getD w (l .index) nan ∷ drop i w) (sym (add-one (l .index))))) ∙ l .inv
+    sym (fold-step (λ s x. add binary32 s x) (l .total) (drop-cons w (l .index) nan (omega arith) ∙ ap (λ (i : ℕ). getD w (l .index) nan ∷ drop i w) (sym (add-one (l .index))))) ∙ l .inv
 
 returns : tie.Need-returns Inv-loop μ-loop
 returns c =
     let l = c .before .loop in
-    sym (fold-end (λ s x. add binary32 s x) (l .sum) (drop-of-length-le (c .before .before .args .window .now) {i = l .index} (omega arith))) ∙ l .inv
+    sym (fold-end (λ s x. add binary32 s x) (l .total) (drop-of-length-le (c .before .before .args .window .now) {i = l .index} (omega arith))) ∙ l .inv
 
 pub sum-spec : {M : Type 1} → statement M
 sum-spec =
@@ -53,8 +53,8 @@ sum-spec =
     Inv-loop
     μ-loop
     loop-holds
-    mul-sum
-    shared-slice-read-sum
+    mul-total
+    shared-slice-read-total
     add-index
     loop-less
     loop-again
