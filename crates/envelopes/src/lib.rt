@@ -1,8 +1,10 @@
 // The envelopes of the 128 notes: each level moves toward 1 while its note is held and toward 0 while it is not.
 ghost use mathlib.Core.Path.{_≡_};
-ghost use Rattle.lists.specs.Maps.{mapAt};
+ghost use lib.Ieee.{nan};
+ghost use lib.ListN.{getD};
+ghost use Rattle.lists.specs.Maps.{mapAt, tabulate};
 ghost use Rattle.power.specs.Table.{powerTable};
-ghost use Rattle.envelopes.specs.Envelope.{heldBit, isHeld, smoothingAlpha, targetOf, settled, levelToward, nextLevel, advanced};
+ghost use Rattle.envelopes.specs.Envelope.{heldBit, isHeld, smoothingAlpha, targetOf, settled, levelToward, advanced};
 use power::table::PowerTable;
 
 const NOTES: usize = 128;
@@ -59,13 +61,26 @@ fn next_level(target: f32, alpha: f32, level: f32) -> f32
     settle(level + (target - level) * alpha)
 }
 
-fn step(levels: [f32; 128], held: [u8; 16], alpha: f32) -> [f32; 128]
-    ensures { λ r. ⌜ r ≡ mapAt (λ note level. nextLevel (isHeld held note) alpha level) levels ⌝ }
+// The targets of all notes. They are read bit by bit here, so that the loop over the levels is plain arithmetic, done for several levels at once.
+fn targets(held: [u8; 16]) -> [f32; 128]
+    ensures { λ r. ⌜ r ≡ tabulate 128 (λ note. targetOf (isHeld held note)) ⌝ }
+{
+    let mut all = [0.0f32; 128];
+    let mut note: usize = 0;
+    while note < NOTES {
+        all[note] = target_of(held, note);
+        note += 1;
+    }
+    all
+}
+
+fn step(levels: [f32; 128], targets: [f32; 128], alpha: f32) -> [f32; 128]
+    ensures { λ r. ⌜ r ≡ mapAt (λ note level. levelToward (getD targets note nan) alpha level) levels ⌝ }
 {
     let mut bank = levels;
     let mut note: usize = 0;
     while note < NOTES {
-        bank[note] = next_level(target_of(held, note), alpha, bank[note]);
+        bank[note] = next_level(targets[note], alpha, bank[note]);
         note += 1;
     }
     bank
@@ -83,5 +98,5 @@ pub fn advance(
     ensures { λ r. ⌜ r ≡ advanced held «elapsed_seconds» «fade_ms» levels ⌝ }
 {
     let alpha = smoothing_alpha(powers, elapsed_seconds, fade_ms * SECONDS_PER_MS);
-    step(levels, held, alpha)
+    step(levels, targets(held), alpha)
 }

@@ -2,31 +2,34 @@
 use mathlib.Core.Path.{_≡_, _∙_}
 use Prim.Native.Nat.{_-_}
 use native.Mathlib.Omega.{arith}
-use lib.ListN.{length}
+use lib.ListN.{length, getD}
 use lib.Ieee.{nan}
 use borrow.Author.Needs.{needs}
 use Rattle.lists.specs.Turned.{Turned, turned-none, turned-more, turned-read, turned-all}
-use Rattle.envelopes.specs.Envelope.{isHeld, nextLevel}
+use Rattle.envelopes.specs.Envelope.{levelToward}
 use Rattle.envelopes.proofs.step.Statement.{statement}
 use Rattle.envelopes.proofs.step.Tie as tie
 
 abbrev Inv-loop : tie.InvT-loop
-Inv-loop held alpha bank₀ note₀ bank note = Turned (λ n level. nextLevel (isHeld held n) alpha level) 0 bank₀ bank note × (length bank₀ ≡ 128)
+Inv-loop alpha targets bank₀ note₀ bank note = Turned (λ n level. levelToward (getD targets n nan) alpha level) 0 bank₀ bank note × (length bank₀ ≡ 128)
 
 abbrev μ-loop : tie.MeasureT-loop
-μ-loop held alpha bank₀ note₀ bank note = 128 - note
+μ-loop alpha targets bank₀ note₀ bank note = 128 - note
 
 loop-holds : tie.Need-loop-holds Inv-loop μ-loop
 loop-holds c = (turned-none _ _ _, search needs)
-
-target-of-requires : tie.Need-target-of-requires Inv-loop μ-loop
-target-of-requires c κs = search needs
 
 mul-next-level : tie.Need-mul-next-level Inv-loop μ-loop
 mul-next-level c = search needs
 
 array-read-next-level : tie.Need-array-read-next-level Inv-loop μ-loop
 array-read-next-level c = search needs
+
+mul-next-level-2 : tie.Need-mul-next-level-2 Inv-loop μ-loop
+mul-next-level-2 c = search needs
+
+array-read-next-level-2 : tie.Need-array-read-next-level-2 Inv-loop μ-loop
+array-read-next-level-2 c = search needs
 
 next-level-requires : tie.Need-next-level-requires Inv-loop μ-loop
 next-level-requires c κs = search needs
@@ -45,9 +48,9 @@ loop-less c = search needs
 
 loop-again : tie.Need-loop-again Inv-loop μ-loop
 loop-again c =
-    let l = c .before .before .before in
+    let l = c .before .before in
     let t = l .loop .inv .0 in
-    (turned-more nan t (omega arith) (c .next-level .ensures ∙ cc (c .before .target-of .ensures, turned-read nan t (omega arith))), l .loop .inv .1)
+    (turned-more nan t (omega arith) (c .next-level .ensures ∙ cc (turned-read nan t (omega arith))), l .loop .inv .1)
 
 returns : tie.Need-returns Inv-loop μ-loop
 returns c = turned-all (c .before .loop .inv .0) (omega arith)
@@ -59,9 +62,10 @@ step-spec =
     Inv-loop
     μ-loop
     loop-holds
-    target-of-requires
     mul-next-level
     array-read-next-level
+    mul-next-level-2
+    array-read-next-level-2
     next-level-requires
     mul-bank
     array-write-bank
