@@ -1,9 +1,8 @@
 -- A list that is filled part by part from its front: after the front a stands what the parts have not reached yet. The next part, `&mut s[n..e]` with n the length of a, puts b after a; the last, `&mut s[n..]`,
 -- leaves nothing of what stood there. Assumes nothing.
-use mathlib.Core.Path.{_≡_, refl, sym, ap, _∙_}
+use mathlib.Core.Path.{_≡_, sym, ap, _∙_}
 use mathlib.Core.List.{List, [], _++_, append-assoc, append-nil}
 use Prim.Native.Nat.{ℕ, _-_}
-use native.Mathlib.Nat.{le-refl}
 use native.Mathlib.Omega.{arith}
 use lib.ListN.{length, take, drop, length-append, drop-of-length-le}
 use lib.Seq.{take-at, drop-at}

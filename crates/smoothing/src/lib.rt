@@ -1,9 +1,8 @@
 // Gains of neighbouring bins brought closer to each other, and gains that approach a target with time: both in decibels.
 ghost use mathlib.Core.Path.{_≡_};
 ghost use Prim.Native.Nat.{_-_, _≤_};
-ghost use lib.Ieee.{nan};
-ghost use lib.ListN.{length, getD};
-ghost use Rattle.lists.specs.Maps.{mapAt, mapRange};
+ghost use lib.ListN.{length};
+ghost use Rattle.lists.specs.Maps.{mapRange};
 ghost use Rattle.power.specs.Table.{powerTable};
 ghost use Rattle.smoothing.specs.Smoothing.{decibelsOf, softened, softenedAt, softenedOf, blendOf, toward, smoothedOf};
 use decibels::DECIBELS_PER_DECADE;

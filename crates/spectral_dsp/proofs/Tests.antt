@@ -1,5 +1,5 @@
 -- A reply is a chain of tests in the order of their numbers. Each law takes one test of the chain, as the code makes it, and either ends there with that test's refusal or goes on to what follows. Assumes nothing.
-use mathlib.Core.Path.{_≡_, refl, sym, ap, _∙_}
+use mathlib.Core.Path.{_≡_, sym, _∙_}
 use mathlib.Core.Bool.{Bool, true, false, cond, not}
 use mathlib.Core.List.{List}
 use Prim.Native.Nat.{ℕ, _≤_, _<_}

@@ -1,4 +1,4 @@
--- The windows of document 01.
+-- The dual window and the coherent gain of document 01, in the Rust's order of operations: "sums run left to right from 0". Assumes nothing.
 use mathlib.Core.List.{List}
 use Prim.Native.Nat.{ℕ, _/_}
 use lib.IntN.{pos}

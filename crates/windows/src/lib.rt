@@ -1,6 +1,6 @@
 // The dual window and the coherent gain.
 ghost use mathlib.Core.Path.{_≡_};
-ghost use Prim.Native.Nat.{_+_, _*_, _/_, _%_, _^_, _≤_, _<_};
+ghost use Prim.Native.Nat.{_+_, _/_, _%_, _^_, _≤_, _<_};
 ghost use lib.ListN.{length};
 ghost use Rattle.windows.specs.Windows.{denominatorAt, dualOf, sumOf, coherentGain};
 

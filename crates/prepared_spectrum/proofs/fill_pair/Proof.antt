@@ -1,10 +1,8 @@
 -- `fill_pair` leaves the window and then its dual: the copy fills the front, and the dual the rest. Assumes nothing.
-use mathlib.Core.Path.{_≡_, refl, sym, ap, _∙_}
-use mathlib.Core.List.{List, _++_}
+use mathlib.Core.Path.{refl, sym}
 use native.Mathlib.Omega.{arith}
-use lib.ListN.{length, take, drop}
+use lib.ListN.{length, drop}
 use lib.Seq.{length-take-le}
-use lib.Ieee.{Float}
 use Rattle.windows.specs.Windows.{dualOf}
 use Rattle.prepared_spectrum.proofs.Filled.{fill-last}
 use borrow.Author.Needs.{needs}

@@ -1,5 +1,5 @@
 -- `blend` is the definition's clamp, of what `exp` ensures. Assumes nothing.
-use mathlib.Core.Path.{_≡_, ap, _∙_}
+use mathlib.Core.Path.{ap, _∙_}
 use lib.Ieee.{Float, binary32, sub}
 use Rattle.float32.specs.Order.{clamp}
 use Rattle.smoothing.specs.Smoothing.{ZERO, ONE}

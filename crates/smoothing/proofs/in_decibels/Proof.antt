@@ -1,5 +1,5 @@
 -- `in_decibels` is the definition's product: what `log10` ensures, of what `max` ensures. Assumes nothing.
-use mathlib.Core.Path.{_≡_, ap, _∙_}
+use mathlib.Core.Path.{ap, _∙_}
 use lib.Ieee.{Float, binary32, mul}
 use Rattle.power.specs.Decimal.{log10}
 use Rattle.decibels.specs.Gain.{DECIBELS-PER-DECADE}

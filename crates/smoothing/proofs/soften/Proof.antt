@@ -1,5 +1,5 @@
 -- `soften` keeps the copy where there are fewer than three bins, which have no inside, and else the softened inside of it. Assumes nothing.
-use mathlib.Core.Path.{_≡_, refl, sym, ap, _∙_}
+use mathlib.Core.Path.{refl, ap, _∙_}
 use mathlib.Core.Logic.{inr}
 use mathlib.Core.List.{List}
 use Prim.Native.Nat.{_-_}

@@ -1,11 +1,11 @@
 -- `soften_inside` softens every bin with two neighbours: of the bins below the one at hand each is done, and the decibels carried along are its own and its left neighbour's. Assumes nothing.
-use mathlib.Core.Path.{_≡_, refl, sym, ap, _∙_}
+use mathlib.Core.Path.{_≡_}
 use mathlib.Core.Logic.{inl}
-use Prim.Native.Nat.{ℕ, _+_, _-_, _≤_}
+use Prim.Native.Nat.{_+_, _-_, _≤_}
 use native.Mathlib.Omega.{arith}
 use borrow.Author.Needs.{needs}
-use lib.ListN.{length, getD}
-use lib.Ieee.{Float, nan}
+use lib.ListN.{getD}
+use lib.Ieee.{nan}
 use Rattle.lists.specs.Turned.{Turned, turned-none, turned-more, turned-to}
 use Rattle.smoothing.specs.Smoothing.{decibelsOf, softened, softenedAt}
 use Rattle.smoothing.proofs.soften_inside.Statement.{statement}

@@ -1,5 +1,4 @@
 -- `toward` is the definition's gain, of what `in_decibels` ensures of both. Assumes nothing.
-use mathlib.Core.Path.{_≡_, ap, _∙_}
 use borrow.Author.Needs.{needs}
 use Rattle.smoothing.proofs.toward.Statement.{statement}
 use Rattle.smoothing.proofs.toward.Tie as tie

@@ -1,6 +1,5 @@
 -- `a_hop_on` is the remainder: below the size a number is its own, and from the size up, where it is below twice the size, it is less by the size. Assumes nothing.
-use mathlib.Core.Path.{_≡_, sym, _∙_}
-use Prim.Native.Nat.{_+_, _-_, _%_}
+use mathlib.Core.Path.{sym, _∙_}
 use native.Mathlib.Nat.{mod-eq-of-lt, mod-eq-sub-mod}
 use native.Mathlib.Omega.{arith}
 use borrow.Author.Needs.{needs}

@@ -1,5 +1,5 @@
 -- `build_dual_synthesis_window` answers as the chain of its tests says, leaves the synthesis window as it was where it refuses, and where it is done leaves the dual, which is one in document 01's sense. Assumes nothing.
-use mathlib.Core.Path.{_≡_, refl, sym, ap, _∙_, subst}
+use mathlib.Core.Path.{refl, subst}
 use Prim.Native.Nat.{ℕ, _≤_}
 use borrow.Author.Needs.{needs}
 use lib.ListN.{length}

@@ -1,5 +1,5 @@
 -- `smooth_mask_in_db` answers as the chain of its tests says, leaves the gains as they were where it refuses, and moves them where it is done. Assumes nothing.
-use mathlib.Core.Path.{_≡_, refl}
+use mathlib.Core.Path.{refl}
 use borrow.Author.Needs.{needs}
 use Rattle.spectral_dsp.specs.Processing.{smoothReply}
 use Rattle.spectral_dsp.proofs.Tests.{fails, passes, differ, agree, found, none-found}

@@ -1,5 +1,5 @@
 -- `soften_spectral_edges` answers as the chain of its tests says, leaves the output as it was where it refuses, and softens where it is done. Assumes nothing.
-use mathlib.Core.Path.{_≡_, refl}
+use mathlib.Core.Path.{refl}
 use borrow.Author.Needs.{needs}
 use Rattle.spectral_dsp.specs.Processing.{softenReply}
 use Rattle.spectral_dsp.proofs.Tests.{fails, passes, differ, agree, found, none-found}

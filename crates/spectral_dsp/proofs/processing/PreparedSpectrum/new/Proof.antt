@@ -1,12 +1,9 @@
 -- `PreparedSpectrum::new` answers as the chain of its tests says, leaves the block as it was where it refuses, and fills it where it is done. Assumes nothing.
-use mathlib.Core.Path.{_≡_, refl, sym, ap, _∙_}
-use mathlib.Core.List.{[], _∷_}
+use mathlib.Core.Path.{refl, sym, _∙_}
 use Prim.Native.Nat.{_≤_}
 use native.Mathlib.Omega.{arith}
 use borrow.Author.Needs.{needs}
 use lib.ListN.{length}
-use lib.Ieee.{Float}
-use Rattle.answer.specs.Reply.{Reply, done}
 use Rattle.spectral_dsp.specs.Processing.{preparedReply}
 use Rattle.spectral_dsp.proofs.Tests.{fails, passes, differ, agree, found, none-found}
 use Rattle.spectral_dsp.proofs.Accepted.{passed, size-at-most, overlap-positive}
