@@ -1,2 +1,3 @@
+pub mod Banks
 pub mod Replies
 pub mod Shapes

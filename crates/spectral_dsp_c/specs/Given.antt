@@ -26,3 +26,10 @@ pub record GivenValue (reply : Reply) (r p q : ℕ) (x y : Float) : Type 0 where
   pub answer : r ≡ number reply
   pub place : q ≡ placeAfter reply p
   pub value : y ≡ valueAfter 0 reply x
+
+-- A call for two numbers answers r, and leaves q where the place p was, y where the first number x was and w where the second v was.
+pub record GivenValues (reply : Reply) (r p q : ℕ) (x y v w : Float) : Type 0 where
+  pub answer : r ≡ number reply
+  pub place : q ≡ placeAfter reply p
+  pub first : y ≡ valueAfter 0 reply x
+  pub second : w ≡ valueAfter 1 reply v

@@ -1,12 +1,17 @@
--- How the motion's settings cross: the shape is a number, 0..7 in the Rust's order; another is refusal 2. Assumes nothing.
-use mathlib.Core.Bool.{cond}
+-- How the motion's settings and the envelope bank cross: the shape is a number, 0..7 in the Rust's order, and another is refusal 2; the bank is a slice of
+-- 128 levels and the held notes one of 16 bytes, and other lengths are refusal 4. Assumes nothing.
+use mathlib.Core.Bool.{cond, not}
+use mathlib.Core.List.{List}
 use Prim.Native.Nat.{ℕ}
 use lib.Dec.{leb, eqb}
+use lib.ListN.{length}
 use lib.Ieee.{Float}
 use Rattle.answer.specs.Reply.{Reply, refused}
+use Rattle.limits.specs.Limits as limits
 use Rattle.scene.specs.declared.MotionConfig.{MotionConfig}
 use Rattle.scene.specs.declared.MotionShape.{MotionShape}
 use Rattle.scene.specs.declared.MotionShape.the-variants.{Ripple, Harmonic, Drift, Scan, Notch, Saw, Sprinkle, Cloud}
+use Rattle.spectral_dsp.specs.Advanced.{advanceReply}
 
 abbrev pub shapeOf : ℕ → MotionShape
 shapeOf n =
@@ -25,3 +30,12 @@ motionOf n depth phase size = record { shape = shapeOf n; «depth_db» = depth; 
 -- the reply of a call that is given shape n
 abbrev pub withShape : ℕ → Reply → Reply
 withShape n reply = cond (leb n 7) reply (refused 2 0)
+
+-- Refusal 2: elapsed and fade. Refusal 4: the lengths. Refusal 7: a level, at its note.
+unfoldable pub bankReply : List Float → List ℕ → Float → Float → Reply
+bankReply levels held elapsed fade =
+    cond (not (limits.elapsed elapsed)) (refused 2 0)
+    (cond (not (limits.fade fade)) (refused 2 0)
+    (cond (not (eqb (length levels) 128)) (refused 4 0)
+    (cond (not (eqb (length held) 16)) (refused 4 0)
+    (advanceReply levels elapsed fade))))

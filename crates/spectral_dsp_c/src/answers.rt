@@ -1,8 +1,9 @@
 // An open call's answer, given to a C caller: the number comes back, the values or the place are written.
-ghost use Rattle.answer.specs.Reply.{ofAnswer, ofOutcome};
-ghost use Rattle.spectral_dsp_c.specs.Given.{Given, GivenValue};
+ghost use Rattle.answer.specs.Reply.{ofAnswer, ofOutcome, ofPrepared};
+ghost use Rattle.spectral_dsp_c.specs.Given.{Given, GivenValue, GivenValues};
 use answer::Answer;
 use answer::Outcome;
+use answer::Prepared;
 
 pub fn give_answer(answer: Answer, value: &mut f32, place: &mut usize) -> u32
     ensures { λ r. ⌜ GivenValue (ofAnswer answer) r (now (place .entry)) (now (place .exit)) (now (value .entry)) (now (value .exit)) ⌝ }
@@ -25,6 +26,27 @@ pub fn give_outcome(outcome: Outcome, place: &mut usize) -> u32
     match outcome {
         Outcome::Done => return 0,
         Outcome::Refused(number, at) => {
+            *place = at;
+            return number as u32;
+        }
+    }
+}
+
+pub fn give_prepared(
+    prepared: Prepared,
+    first: &mut f32,
+    second: &mut f32,
+    place: &mut usize,
+) -> u32
+    ensures { λ r. ⌜ GivenValues (ofPrepared prepared) r (now (place .entry)) (now (place .exit)) (now (first .entry)) (now (first .exit)) (now (second .entry)) (now (second .exit)) ⌝ }
+{
+    match prepared {
+        Prepared::Gains(x, y) => {
+            *first = x;
+            *second = y;
+            return 0;
+        }
+        Prepared::Refused(number, at) => {
             *place = at;
             return number as u32;
         }

@@ -4,4 +4,5 @@
 mod answers;
 mod numbers;
 mod oiko;
+mod processing;
 mod spectral;

@@ -1,18 +1,20 @@
 // The open calls of spectral-dsp's lib but the mask builders.
 ghost use mathlib.Core.Path.{_≡_};
-ghost use Prim.Native.Nat.{_≤_};
 ghost use lib.ListN.{length};
 ghost use Rattle.lists.specs.Maps.{tabulate};
+ghost use Rattle.answer.specs.Reply.{ofOutcome};
+ghost use Rattle.envelopes.specs.Envelope.{advanced};
 ghost use Rattle.frequencies.specs.Frequency.{prepared};
 ghost use Rattle.spectral_dsp.specs.Gates.{noteEmphasisGain, noteGateGain, manualGainAtBin};
 ghost use Rattle.spectral_dsp.specs.Motion.{opennessReply, attenuationReply, compensationReply};
 ghost use Rattle.spectral_dsp.specs.Prepared.{prepareReply};
 ghost use Rattle.spectral_dsp.specs.Written.{written};
 ghost use Rattle.spectral_dsp_c.specs.Given.{Given, GivenValue};
-ghost use Rattle.spectral_dsp_c.specs.Settings.{shapeOf, motionOf, withShape};
+ghost use Rattle.spectral_dsp_c.specs.Settings.{shapeOf, motionOf, withShape, bankReply};
 use crate::answers::give_answer;
 use crate::answers::give_outcome;
 use answer::Answer;
+use answer::Outcome;
 use scene::MotionConfig;
 use scene::MotionShape;
 
@@ -163,5 +165,78 @@ pub extern "C" fn dovetable_prepare(
     ensures { λ _. ⌜ now (table .exit) ≡ written (prepareReply (length (now (table .entry))) «sample_rate» «fft_size») (tabulate (length (now (table .entry))) (prepared «sample_rate» «fft_size»)) (now (table .entry)) ⌝ }
 {
     let outcome = spectral_dsp::MaskWorkspace::prepare(table, sample_rate, fft_size);
+    give_outcome(outcome, place)
+}
+
+fn bank_of(levels: &[f32]) -> [f32; 128]
+    requires { ⌜ length (now levels) ≡ 128 ⌝ }
+    ensures { λ r. ⌜ r ≡ now (levels .entry) ⌝ }
+{
+    let mut bank = [0.0f32; 128];
+    slices::copy(levels, &mut bank);
+    bank
+}
+
+fn held_of(held: &[u8]) -> [u8; 16]
+    requires { ⌜ length (now held) ≡ 16 ⌝ }
+    ensures { λ r. ⌜ r ≡ now (held .entry) ⌝ }
+{
+    [
+        held[0],
+        held[1],
+        held[2],
+        held[3],
+        held[4],
+        held[5],
+        held[6],
+        held[7],
+        held[8],
+        held[9],
+        held[10],
+        held[11],
+        held[12],
+        held[13],
+        held[14],
+        held[15],
+    ]
+}
+
+fn advance_bank(levels: &mut [f32], held: &[u8], elapsed_seconds: f32, fade_ms: f32) -> Outcome
+    ensures { λ r. ⌜ ofOutcome r ≡ bankReply (now (levels .entry)) (now (held .entry)) «elapsed_seconds» «fade_ms» ⌝ }
+    ensures { λ r. ⌜ now (levels .exit) ≡ written (ofOutcome r) (advanced (now (held .entry)) «elapsed_seconds» «fade_ms» (now (levels .entry))) (now (levels .entry)) ⌝ }
+{
+    if !limits::elapsed(elapsed_seconds) {
+        return Outcome::Refused(2, 0);
+    }
+    if !limits::fade(fade_ms) {
+        return Outcome::Refused(2, 0);
+    }
+    if levels.len() != 128 {
+        return Outcome::Refused(4, 0);
+    }
+    if held.len() != 16 {
+        return Outcome::Refused(4, 0);
+    }
+    let bank = bank_of(levels);
+    let bytes = held_of(held);
+    let next = spectral_dsp::advance_note_envelopes(bank, bytes, elapsed_seconds, fade_ms);
+    let after = next.levels;
+    slices::copy(&after, levels);
+    next.outcome
+}
+
+// The bank is changed in place.
+#[no_mangle]
+pub extern "C" fn dovetable_advance_note_envelopes(
+    levels: &mut [f32],
+    held: &[u8],
+    elapsed_seconds: f32,
+    fade_ms: f32,
+    place: &mut usize,
+) -> u32
+    ensures { λ r. ⌜ Given (bankReply (now (levels .entry)) (now (held .entry)) «elapsed_seconds» «fade_ms») r (now (place .entry)) (now (place .exit)) ⌝ }
+    ensures { λ _. ⌜ now (levels .exit) ≡ written (bankReply (now (levels .entry)) (now (held .entry)) «elapsed_seconds» «fade_ms») (advanced (now (held .entry)) «elapsed_seconds» «fade_ms» (now (levels .entry))) (now (levels .entry)) ⌝ }
+{
+    let outcome = advance_bank(levels, held, elapsed_seconds, fade_ms);
     give_outcome(outcome, place)
 }

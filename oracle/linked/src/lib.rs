@@ -1,4 +1,7 @@
-//! The port's exported functions, as its static library has them: every declaration stands here.
+//! The port's exported functions, as its static library has them: every declaration stands here,
+//! and for each open call a safe function over it.
+
+pub mod calls;
 
 /// Works on `n` numbers in place.
 pub type All = unsafe extern "C" fn(xs: *mut f32, n: usize);
@@ -24,6 +27,115 @@ unsafe extern "C" {
     pub safe fn dovetable_ceil_to_count(x: f32) -> usize;
     pub safe fn dovetable_bits_of(x: f32) -> u32;
     pub safe fn dovetable_of_bits(bits: u32) -> f32;
+
+    pub safe fn dovetable_db_to_gain(db: f32, gain: &mut f32, place: &mut usize) -> u32;
+    pub safe fn dovetable_note_frequency(note: u8, hertz: &mut f32, place: &mut usize) -> u32;
+    pub safe fn dovetable_note_frequency_with_tuning(
+        note: u8,
+        tuning_semitones: f32,
+        hertz: &mut f32,
+        place: &mut usize,
+    ) -> u32;
+
+    pub safe fn dovetable_note_emphasis_gain(
+        width_cents: f32,
+        gain: &mut f32,
+        place: &mut usize,
+    ) -> u32;
+    pub safe fn dovetable_note_gate_gain(
+        note_depth_db: f32,
+        width_cents: f32,
+        openness: f32,
+        gain: &mut f32,
+        place: &mut usize,
+    ) -> u32;
+    pub fn dovetable_manual_gain_at_bin(
+        mask_db: *const f32,
+        points: usize,
+        bin: usize,
+        fft_size: usize,
+        gain: &mut f32,
+        place: &mut usize,
+    ) -> u32;
+    pub safe fn dovetable_motion_openness(
+        frequency: f32,
+        shape: u32,
+        depth_db: f32,
+        phase: f32,
+        size_octaves: f32,
+        openness: &mut f32,
+        place: &mut usize,
+    ) -> u32;
+    pub safe fn dovetable_motion_attenuation_db(
+        frequency: f32,
+        shape: u32,
+        depth_db: f32,
+        phase: f32,
+        size_octaves: f32,
+        attenuation_db: &mut f32,
+        place: &mut usize,
+    ) -> u32;
+    pub safe fn dovetable_motion_compensation_gain(
+        shape: u32,
+        depth_db: f32,
+        phase: f32,
+        size_octaves: f32,
+        gain: &mut f32,
+        place: &mut usize,
+    ) -> u32;
+    pub fn dovetable_advance_note_envelopes(
+        levels: *mut f32,
+        notes: usize,
+        held: *const u8,
+        bytes: usize,
+        elapsed_seconds: f32,
+        fade_ms: f32,
+        place: &mut usize,
+    ) -> u32;
+    pub fn dovetable_prepare(
+        table: *mut f32,
+        entries: usize,
+        sample_rate: f32,
+        fft_size: usize,
+        place: &mut usize,
+    ) -> u32;
+
+    pub fn dovetable_build_dual_synthesis_window(
+        analysis: *const f32,
+        analysis_length: usize,
+        synthesis: *mut f32,
+        synthesis_length: usize,
+        overlap: usize,
+        place: &mut usize,
+    ) -> u32;
+    pub fn dovetable_soften_spectral_edges(
+        source: *const f32,
+        source_length: usize,
+        output: *mut f32,
+        output_length: usize,
+        place: &mut usize,
+    ) -> u32;
+    pub fn dovetable_smooth_mask_in_db(
+        current: *mut f32,
+        current_length: usize,
+        target: *const f32,
+        target_length: usize,
+        elapsed_seconds: f32,
+        place: &mut usize,
+    ) -> u32;
+    pub fn dovetable_prepared_spectrum_new(
+        sample_rate: f32,
+        window: *const f32,
+        window_length: usize,
+        smooth_analysis_window: *const f32,
+        smooth_length: usize,
+        overlap: usize,
+        block: *mut f32,
+        block_length: usize,
+        window_coherent_gain: &mut f32,
+        smooth_window_coherent_gain: &mut f32,
+        place: &mut usize,
+    ) -> u32;
 }
 
 /// Calls one of the functions that work in place.

@@ -1,4 +1,4 @@
--- `spectral_dsp_c::spectral::dovetable_prepare` gives what the open call answers, and leaves the table as that leaves it. Assumes nothing.
+-- `spectral_dsp_c::spectral::dovetable_prepare` gives what the call answers, and leaves the table as that leaves it. Assumes nothing.
 use borrow.Author.Needs.{needs}
 use Rattle.spectral_dsp_c.proofs.Replies.{given, left}
 use Rattle.spectral_dsp_c.proofs.spectral.dovetable_prepare.Statement.{statement}
@@ -19,5 +19,4 @@ returns c =
     (given (called .0) (c .give-outcome .ensures), left _ _ (called .0) (called .1))
 
 pub dovetable-prepare-spec : {M : Type 1} → statement M
-dovetable-prepare-spec =
-    tie.close (tie.spec prepare-requires give-outcome-requires same-length returns)
+dovetable-prepare-spec = tie.close (tie.spec prepare-requires give-outcome-requires same-length returns)

@@ -1,54 +1,13 @@
-//! Random arguments through each exported function and through the oracle, compared bit by bit.
-//!
-//!     compare SEED COUNT
-//!
-//! COUNT is the number of calls of each function. Two NaNs count as equal; any other difference
-//! in bits is a failure. Exits 1 where there is one.
+//! The functions of the number layer.
 
+use crate::tally::Tally;
 use linked::*;
 use oracle::functions::*;
 use oracle::numbers::bits_of;
 use oracle::random::Random;
-use std::process::ExitCode;
 
-/// The differences that are printed of a function.
-const SHOWN: u64 = 5;
 /// The numbers in a slice that is lent.
 const LENT: usize = 4096;
-
-struct Tally {
-    name: &'static str,
-    calls: u64,
-    differences: u64,
-}
-
-impl Tally {
-    fn new(name: &'static str) -> Self {
-        Self {
-            name,
-            calls: 0,
-            differences: 0,
-        }
-    }
-
-    fn count(&mut self, arguments: &[u32], port: u64, oracle: u64) {
-        self.calls += 1;
-        if port == oracle {
-            return;
-        }
-        self.differences += 1;
-        if self.differences <= SHOWN {
-            let name = self.name;
-            println!("  {name}{arguments:08x?}: port {port:08x}, oracle {oracle:08x}");
-        }
-    }
-
-    fn close(self) -> u64 {
-        let (name, calls, differences) = (self.name, self.calls, self.differences);
-        println!("{name:<16}{calls:>12} calls{differences:>10} differences");
-        differences
-    }
-}
 
 fn same(x: f32) -> u64 {
     u64::from(bits_of(x))
@@ -113,7 +72,7 @@ fn compare_one<const N: usize>(
     tally.close()
 }
 
-fn compare_numbers(seed: u64, count: u64) -> u64 {
+pub fn compare(seed: u64, count: u64) -> u64 {
     let all: [Pair; 12] = [
         ("exp2", dovetable_exp2_all, exp2),
         ("log2", dovetable_log2_all, log2),
@@ -182,18 +141,4 @@ fn compare_numbers(seed: u64, count: u64) -> u64 {
             |[x]| same(dovetable_of_bits(x.to_bits())),
             |[x]| same(x),
         )
-}
-
-fn main() -> ExitCode {
-    let numbers: Vec<u64> = std::env::args()
-        .skip(1)
-        .flat_map(|word| word.parse())
-        .collect();
-    let &[seed, count] = numbers.as_slice() else {
-        eprintln!("usage: compare SEED COUNT");
-        return ExitCode::from(2);
-    };
-    let differences = compare_numbers(seed, count);
-    println!("{differences} differences");
-    ExitCode::from(u8::from(differences > 0))
 }

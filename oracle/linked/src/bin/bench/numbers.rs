@@ -1,4 +1,4 @@
-//! Nanoseconds per call of the port beside Rust's std, in one run, the best of many.
+//! The functions of the number layer, beside std.
 
 use linked::*;
 use oracle::random::Random;
@@ -37,7 +37,7 @@ fn row(name: &str, (low, high): (f32, f32), all: All, std: impl Fn(&mut [f32])) 
     println!("{name:<26}{port:>9.2}{other:>9.2}{ratio:>9.2}");
 }
 
-fn main() {
+pub fn table() {
     let exponents = (-20.0, 20.0);
     let angles = (-20.0, 20.0);
     let hertz = (1.0, 20_000.0);

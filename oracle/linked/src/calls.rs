@@ -1,0 +1,203 @@
+//! The open calls of the static library on slices. In each unsafe block a pointer and a length are
+//! those of one slice.
+
+use crate::*;
+use oracle::spectral_dsp::MotionConfig;
+
+/// What a call gives: its number, and what it leaves in the place and the values that are lent.
+#[derive(Clone, Copy, Debug)]
+pub struct Given {
+    pub number: u32,
+    pub place: usize,
+    pub values: [f32; 2],
+}
+
+/// What is lent for the place and the values before a call. No call answers these.
+pub const BEFORE: Given = Given {
+    number: u32::MAX,
+    place: 0x5a5a_5a5a,
+    values: [-1234.5, -5432.25],
+};
+
+/// A call that is lent a value and a place.
+fn value(call: impl FnOnce(&mut f32, &mut usize) -> u32) -> Given {
+    let mut given = BEFORE;
+    given.number = call(&mut given.values[0], &mut given.place);
+    given
+}
+
+/// A call that is lent a place.
+fn outcome(call: impl FnOnce(&mut usize) -> u32) -> Given {
+    let mut given = BEFORE;
+    given.number = call(&mut given.place);
+    given
+}
+
+pub fn db_to_gain(db: f32) -> Given {
+    value(|gain, place| dovetable_db_to_gain(db, gain, place))
+}
+
+pub fn note_frequency(note: u8) -> Given {
+    value(|hertz, place| dovetable_note_frequency(note, hertz, place))
+}
+
+pub fn note_frequency_with_tuning(note: u8, tuning: f32) -> Given {
+    value(|hertz, place| dovetable_note_frequency_with_tuning(note, tuning, hertz, place))
+}
+
+pub fn note_emphasis_gain(width: f32) -> Given {
+    value(|gain, place| dovetable_note_emphasis_gain(width, gain, place))
+}
+
+pub fn note_gate_gain(depth: f32, width: f32, openness: f32) -> Given {
+    value(|gain, place| dovetable_note_gate_gain(depth, width, openness, gain, place))
+}
+
+pub fn manual_gain_at_bin(curve: &[f32], bin: usize, size: usize) -> Given {
+    let (points, n) = (curve.as_ptr(), curve.len());
+    value(|gain, place| unsafe { dovetable_manual_gain_at_bin(points, n, bin, size, gain, place) })
+}
+
+/// The settings of a motion with the shape as a number, which may be none of the eight.
+#[derive(Clone, Copy, Debug)]
+pub struct Motion {
+    pub shape: u32,
+    pub depth_db: f32,
+    pub phase: f32,
+    pub size_octaves: f32,
+}
+
+impl From<MotionConfig> for Motion {
+    fn from(config: MotionConfig) -> Self {
+        Self {
+            shape: config.shape as u32,
+            depth_db: config.depth_db,
+            phase: config.phase,
+            size_octaves: config.size_octaves,
+        }
+    }
+}
+
+pub fn motion_openness(frequency: f32, motion: Motion) -> Given {
+    let Motion {
+        shape,
+        depth_db,
+        phase,
+        size_octaves,
+    } = motion;
+    value(|openness, place| {
+        dovetable_motion_openness(
+            frequency,
+            shape,
+            depth_db,
+            phase,
+            size_octaves,
+            openness,
+            place,
+        )
+    })
+}
+
+pub fn motion_attenuation_db(frequency: f32, motion: Motion) -> Given {
+    let Motion {
+        shape,
+        depth_db,
+        phase,
+        size_octaves,
+    } = motion;
+    value(|attenuation, place| {
+        dovetable_motion_attenuation_db(
+            frequency,
+            shape,
+            depth_db,
+            phase,
+            size_octaves,
+            attenuation,
+            place,
+        )
+    })
+}
+
+pub fn motion_compensation_gain(motion: Motion) -> Given {
+    let Motion {
+        shape,
+        depth_db,
+        phase,
+        size_octaves,
+    } = motion;
+    value(|gain, place| {
+        dovetable_motion_compensation_gain(shape, depth_db, phase, size_octaves, gain, place)
+    })
+}
+
+pub fn advance_note_envelopes(levels: &mut [f32], held: &[u8], elapsed: f32, fade: f32) -> Given {
+    let (notes, n) = (levels.as_mut_ptr(), levels.len());
+    outcome(|place| unsafe {
+        dovetable_advance_note_envelopes(notes, n, held.as_ptr(), held.len(), elapsed, fade, place)
+    })
+}
+
+pub fn prepare(table: &mut [f32], rate: f32, size: usize) -> Given {
+    let (entries, n) = (table.as_mut_ptr(), table.len());
+    outcome(|place| unsafe { dovetable_prepare(entries, n, rate, size, place) })
+}
+
+pub fn build_dual_synthesis_window(
+    analysis: &[f32],
+    synthesis: &mut [f32],
+    overlap: usize,
+) -> Given {
+    let (written, n) = (synthesis.as_mut_ptr(), synthesis.len());
+    outcome(|place| unsafe {
+        dovetable_build_dual_synthesis_window(
+            analysis.as_ptr(),
+            analysis.len(),
+            written,
+            n,
+            overlap,
+            place,
+        )
+    })
+}
+
+pub fn soften_spectral_edges(source: &[f32], output: &mut [f32]) -> Given {
+    let (written, n) = (output.as_mut_ptr(), output.len());
+    outcome(|place| unsafe {
+        dovetable_soften_spectral_edges(source.as_ptr(), source.len(), written, n, place)
+    })
+}
+
+pub fn smooth_mask_in_db(current: &mut [f32], target: &[f32], elapsed: f32) -> Given {
+    let (written, n) = (current.as_mut_ptr(), current.len());
+    outcome(|place| unsafe {
+        dovetable_smooth_mask_in_db(written, n, target.as_ptr(), target.len(), elapsed, place)
+    })
+}
+
+pub fn prepared_spectrum_new(
+    rate: f32,
+    window: &[f32],
+    smooth: &[f32],
+    overlap: usize,
+    block: &mut [f32],
+) -> Given {
+    let (written, n) = (block.as_mut_ptr(), block.len());
+    let mut given = BEFORE;
+    let [first, second] = &mut given.values;
+    given.number = unsafe {
+        dovetable_prepared_spectrum_new(
+            rate,
+            window.as_ptr(),
+            window.len(),
+            smooth.as_ptr(),
+            smooth.len(),
+            overlap,
+            written,
+            n,
+            first,
+            second,
+            &mut given.place,
+        )
+    };
+    given
+}
