@@ -13,8 +13,37 @@ use Rattle.power.specs.Power.{powerAt, powerOf, E2}
 use Rattle.power.specs.Log.{rounded}
 use Rattle.power.proofs.LogRange.{L2-of-power}
 use Rattle.sine.specs.Table.{halfAngleCosines, sineTable}
+use Rattle.pitch.proofs.InTune.{note-69, note-57}
+use Rattle.masks.proofs.Points.{point-8192-1, point-64-1}
+use Rattle.masks.proofs.Curve.{curve-mute, curve-six}
+use Rattle.windows.proofs.FourOnes.{dual-of-four-ones}
+use Rattle.smoothing.proofs.ThreeOnes.{softened-three-ones}
 use Rattle.proved_cases.specs.Cases.{Holds, cases}
 
 pub all-hold : Holds cases
 unfolding E2 powerOf powerAt interp moved powerTable odd trailingZeros isNan rounded round size span climb units halfAngleCosines sineTable
-all-hold = (refl, (refl, (refl, (refl, (L2-of-power (fin false 1 (pos 0)) 126 (lit≤ tt) (refl, refl), (L2-of-power (fin false 1 (pos 3)) 129 (lit≤ tt) (refl, refl), (refl, (refl, tt))))))))
+all-hold = (
+  refl,
+  (
+    refl,
+    (
+      refl,
+      (
+        refl,
+        (
+          L2-of-power (fin false 1 (pos 0)) 126 (lit≤ tt) (refl, refl),
+          (
+            L2-of-power (fin false 1 (pos 3)) 129 (lit≤ tt) (refl, refl),
+            (
+              refl,
+              (
+                refl,
+                (note-69, (note-57, (curve-mute, (curve-six, (point-8192-1, (point-64-1, (dual-of-four-ones, (softened-three-ones, tt)))))))),
+              ),
+            ),
+          ),
+        ),
+      ),
+    ),
+  ),
+)

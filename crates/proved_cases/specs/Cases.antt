@@ -8,6 +8,10 @@ use lib.Ieee.{Float, fin}
 use Rattle.power.specs.Power.{E2}
 use Rattle.power.specs.Log.{L2}
 use Rattle.sine.specs.Table.{K, R}
+use Rattle.pitch.specs.Pitch.{noteHertz}
+use Rattle.masks.specs.Manual.{MANUAL-CURVE-MUTE-DB, curvePoint, curveGain}
+use Rattle.windows.specs.Windows.{dualOf}
+use Rattle.smoothing.specs.Smoothing.{softenedOf}
 
 -- the first is the second
 pub data Case : Type 1 where
@@ -38,4 +42,16 @@ cases =
     ∷ case (L2 (fin false 1 (pos 3))) (fin false 3 (pos 0))
     ∷ case (K 1) 759250124
     ∷ case (R 128) 759250125
+    -- note 69 is 440 and note 57 is 220, at tuning 0
+    ∷ case (noteHertz 69 zero) (fin false 55 (pos 3))
+    ∷ case (noteHertz 57 zero) (fin false 55 (pos 2))
+    -- curve -144 gives 0, +6 gives 1
+    ∷ case (curveGain MANUAL-CURVE-MUTE-DB) zero
+    ∷ case (curveGain (fin false 3 (pos 1))) one
+    -- at size 8,192 bin 1 reads point 2, at size 64 point 256
+    ∷ case (curvePoint 1 8192) 2
+    ∷ case (curvePoint 1 64) 256
+    -- four ones with overlap 2 have dual 0.5 each; softening 1, 1, 1 keeps it
+    ∷ case (dualOf (one ∷ one ∷ one ∷ one ∷ []) 2) (half ∷ half ∷ half ∷ half ∷ [])
+    ∷ case (softenedOf (one ∷ one ∷ one ∷ [])) (one ∷ one ∷ one ∷ [])
     ∷ []
