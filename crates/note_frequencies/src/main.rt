@@ -4,13 +4,6 @@ ghost use Rattle.power.specs.Table.{powerTable};
 use libc::STDOUT_FILENO;
 use power::table::PowerTable;
 
-// Twelve-tone equal temperament at A4 = 440 Hz, in the order of the Rust: 440 · 2^((note + tuning - 69) / 12) with tuning 0.
-fn frequency(powers: &PowerTable, note: u8) -> f32
-    requires { ⌜ now powers ≡ powerTable ⌝ }
-{
-    440.0 * power::exp2::exp2(powers, (note as f32 + 0.0 - 69.0) / 12.0)
-}
-
 // hertz · 10^6 without its fraction, of a frequency from 2^-39 Hz up and below 2^24; of any other 0.
 fn micro_hertz(hertz: f32) -> u64 {
     if hertz != hertz {
@@ -33,7 +26,10 @@ fn print_note(powers: &PowerTable, note: u8)
 {
     io::print_decimal(STDOUT_FILENO, note as u64);
     io::write_all(STDOUT_FILENO, b" ");
-    io::print_decimal(STDOUT_FILENO, micro_hertz(frequency(powers, note)));
+    io::print_decimal(
+        STDOUT_FILENO,
+        micro_hertz(pitch::note_hertz(powers, note, 0.0)),
+    );
     io::write_all(STDOUT_FILENO, b"\n");
 }
 
