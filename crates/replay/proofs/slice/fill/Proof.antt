@@ -1,10 +1,10 @@
--- `replay::slices::fill` returns, and writes within the slice. Assumes nothing.
+-- `replay::slice::fill` returns, and writes within the slice. Assumes nothing.
 use mathlib.Core.Path.{_≡_}
 use Prim.Native.Nat.{_≤_, _-_}
 use lib.ListN.{length}
 use borrow.Author.Needs.{needs}
-use Rattle.replay.proofs.slices.fill.Statement.{statement}
-use Rattle.replay.proofs.slices.fill.Tie as tie
+use Rattle.replay.proofs.slice.fill.Statement.{statement}
+use Rattle.replay.proofs.slice.fill.Tie as tie
 
 abbrev Inv-loop : tie.InvT-loop
 Inv-loop bytes at xs₀ low high state₀ i₀ xs state i = (i ≤ length xs₀) × (length xs ≡ length xs₀)
