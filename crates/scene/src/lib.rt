@@ -1,6 +1,29 @@
-// What a scene is made of, as plain values, and what of it is accepted: so far the motion's shape and settings.
+// What a scene is made of, as plain values, and what of it is accepted.
 ghost use mathlib.Core.Path.{_≡_};
-ghost use Rattle.scene.specs.Accepted.{motionAccepted};
+ghost use mathlib.Core.Bool.{_&&_};
+ghost use Prim.Native.Nat.{_≤_};
+ghost use Rattle.scene.specs.Accepted.{motionAccepted, sizeAccepted, settingsAccepted, voiceAccepted, firstVoiceOutside};
+
+// A call is given at most so many voices.
+pub const MOST_VOICES: usize = 128;
+
+// A note that is held, with its expression.
+pub struct MaskVoice {
+    pub note: u8,
+    // The level of the note's envelope: at 0 the note does nothing.
+    pub level: f32,
+    // Semitones above the equal-tempered pitch of the note.
+    pub tuning_semitones: f32,
+    pub pressure: f32,
+    // From 0 to 1. At 0.5 the partials fall off by the settings' rolloff, below they are darker, above brighter.
+    pub timbre: f32,
+    // The base strength, velocity included.
+    pub volume_gain: f32,
+    // The gain of what the note opens, apart from the background.
+    pub expression_gain: f32,
+    // From -1, left, by 0, the centre, to 1, right. A mono mask does not use it.
+    pub pan: f32,
+}
 
 // The moving field's shapes, in the Rust's order.
 pub enum MotionShape {
@@ -23,14 +46,86 @@ pub struct MotionConfig {
     pub size_octaves: f32,
 }
 
+pub struct MaskConfig {
+    pub sample_rate: f32,
+    pub fft_size: usize,
+    // How far the spectrum is lowered away from held notes.
+    pub note_depth_db: f32,
+    pub note_layer_enabled: bool,
+    pub width_cents: f32,
+    pub partials: usize,
+    pub harmonic_rolloff_db_per_octave: f32,
+    pub motion: MotionConfig,
+}
+
+fn both(a: bool, b: bool) -> bool
+    ensures { λ r. ⌜ r ≡ (a && b) ⌝ }
+{
+    if a { b } else { false }
+}
+
 pub fn motion_accepted(config: MotionConfig) -> bool
     ensures { λ r. ⌜ r ≡ motionAccepted config ⌝ }
 {
-    if !limits::motion_depth(config.depth_db) {
-        return false;
+    let phase_and_size = both(
+        float32::order::is_finite(config.phase),
+        limits::motion_size(config.size_octaves),
+    );
+    both(limits::motion_depth(config.depth_db), phase_and_size)
+}
+
+// Size and rate.
+pub fn size_accepted(config: MaskConfig) -> bool
+    ensures { λ r. ⌜ r ≡ sizeAccepted config ⌝ }
+{
+    both(limits::size(config.fft_size), limits::rate(config.sample_rate))
+}
+
+// Every other setting, also one that the call will not use.
+pub fn settings_accepted(config: MaskConfig) -> bool
+    ensures { λ r. ⌜ r ≡ settingsAccepted config ⌝ }
+{
+    let motion = config.motion;
+    let notes = both(
+        limits::note_depth(config.note_depth_db),
+        limits::width(config.width_cents),
+    );
+    let harmonics = both(
+        limits::partials(config.partials),
+        limits::rolloff(config.harmonic_rolloff_db_per_octave),
+    );
+    both(notes, both(harmonics, motion_accepted(motion)))
+}
+
+pub fn voice_accepted(voice: MaskVoice) -> bool
+    ensures { λ r. ⌜ r ≡ voiceAccepted voice ⌝ }
+{
+    let pitch = both(limits::note(voice.note), limits::tuning(voice.tuning_semitones));
+    let touch = both(
+        float32::order::is_finite(voice.pressure),
+        float32::order::is_finite(voice.timbre),
+    );
+    let gains = both(
+        float32::order::is_finite(voice.volume_gain),
+        float32::order::is_finite(voice.expression_gain),
+    );
+    let sound = both(both(touch, gains), float32::order::is_finite(voice.pan));
+    both(pitch, both(limits::level(voice.level), sound))
+}
+
+// The lowest index of a voice outside its limits; the count where there is none. Voices past the count are not tested.
+pub fn first_voice_outside(voices: [MaskVoice; 128], count: usize) -> usize
+    requires { ⌜ count ≤ 128 ⌝ }
+    ensures { λ r. ⌜ r ≡ firstVoiceOutside voices count ⌝ }
+{
+    let mut i: usize = 0;
+    while i < count {
+        let voice = voices[i];
+        if voice_accepted(voice) {
+            i += 1;
+        } else {
+            return i;
+        }
     }
-    if !float32::order::is_finite(config.phase) {
-        return false;
-    }
-    limits::motion_size(config.size_octaves)
+    i
 }

@@ -1,0 +1,1 @@
+// The Gaussian table and the bell that is read from it.

@@ -1,0 +1,6 @@
+pub mod Grid
+pub mod Pan
+pub mod Tone
+pub mod Distance
+pub mod Peak
+pub mod Lobe

@@ -1,0 +1,52 @@
+-- What all partials of a voice share: the fundamental, the level, and how the partials fall off. Assumes nothing.
+use Prim.Native.Nat.{ℕ}
+use lib.IntN.{pos}
+use lib.Ieee.{Float, binary32, ofBits, ofInt, neg, add, sub, mul}
+use Rattle.float32.specs.Order.{maximum, clamp}
+use Rattle.float32.specs.Remainder.{zero, one}
+use Rattle.power.specs.Log.{L2}
+use Rattle.decibels.specs.Gain.{gainOf}
+use Rattle.pitch.specs.Pitch.{noteHertz}
+use Rattle.scene.specs.declared.MaskVoice.{MaskVoice}
+use Rattle.lobes.specs.declared.Grid.{Grid}
+use Rattle.lobes.specs.declared.Tone.{Tone}
+use Rattle.lobes.specs.Grid.{half}
+
+-- 0.35 of the level is there without pressure, and 0.65 comes with it
+abbrev pub LEAST-PRESSURE-GAIN : Float
+LEAST-PRESSURE-GAIN = ofBits binary32 0x3eb3_3333
+
+abbrev pub PRESSURE-GAIN-RANGE : Float
+PRESSURE-GAIN-RANGE = ofBits binary32 0x3f26_6666
+
+-- from the darkest to the brightest timbre, in decibels per octave
+abbrev pub TIMBRE-RANGE-DB : Float
+TIMBRE-RANGE-DB = ofBits binary32 0x41c0_0000
+
+abbrev pub MAX-ROLLOFF-DB : Float
+MAX-ROLLOFF-DB = ofBits binary32 0x4240_0000
+
+unfoldable pub pressureGain : Float → Float
+pressureGain pressure = add binary32 LEAST-PRESSURE-GAIN (mul binary32 PRESSURE-GAIN-RANGE (clamp zero one pressure))
+
+-- level, volume and pressure
+unfoldable pub noteLevel : MaskVoice → Float
+noteLevel voice = mul binary32 (mul binary32 (voice .level) (maximum (voice .«volume_gain») zero)) (pressureGain (voice .pressure))
+
+-- the settings' rolloff, which a dark timbre raises and a bright one lowers
+unfoldable pub timbreRolloff : Float → Float → Float
+timbreRolloff rolloff timbre = clamp zero MAX-ROLLOFF-DB (add binary32 rolloff (mul binary32 (sub binary32 half (clamp zero one timbre)) TIMBRE-RANGE-DB))
+
+-- the pitch of a voice
+unfoldable pub fundamentalOf : MaskVoice → Float
+fundamentalOf voice = noteHertz (voice .note) (voice .«tuning_semitones»)
+
+unfoldable pub toneOf : Grid → MaskVoice → Tone
+toneOf grid voice = record { fundamental = fundamentalOf voice; level = noteLevel voice; rolloff = timbreRolloff (grid .rolloff) (voice .timbre) }
+
+-- a partial's frequency, and its gain
+abbrev pub centerOf : Tone → ℕ → Float
+centerOf tone partial = mul binary32 (tone .fundamental) (ofInt binary32 (pos partial))
+
+unfoldable pub harmonicGain : Float → ℕ → Float
+harmonicGain rolloff partial = gainOf (mul binary32 (neg rolloff) (L2 (ofInt binary32 (pos partial))))

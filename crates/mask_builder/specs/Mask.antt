@@ -1,0 +1,41 @@
+-- The mask of a scene: "A bin's gain is manual · motion · gate", products left to right. Everything of a bin is a function of the bin. Assumes nothing.
+use mathlib.Core.Bool.{cond}
+use mathlib.Core.List.{List}
+use Prim.Native.Nat.{ℕ, _+_, _/_}
+use lib.Ieee.{Float, binary32, mul, lt}
+use Rattle.lists.specs.Maps.{tabulate}
+use Rattle.float32.specs.Remainder.{zero, one}
+use Rattle.scene.specs.declared.MaskVoice.{MaskVoice}
+use Rattle.scene.specs.declared.MaskConfig.{MaskConfig}
+use Rattle.frequencies.specs.Frequency.{binHz, hertz}
+use Rattle.masks.specs.Gates.{emphasisGain, floorGain, gateGain}
+use Rattle.masks.specs.Manual.{manualGain}
+use Rattle.motion.specs.Field.{RESTING-DEPTH-DB, motionGain}
+use Rattle.motion.specs.Compensation.{compensation}
+use Rattle.lobes.specs.Grid.{gridOf}
+use Rattle.lobes.specs.Pan.{Side}
+use Rattle.lobes.specs.Distance.{Logs}
+use Rattle.openness.specs.Openness.{openness}
+
+-- what the moving field gives a bin, made up for; 1 where it rests
+unfoldable pub motionAt : MaskConfig → ℕ → Float
+motionAt config bin =
+    cond (lt RESTING-DEPTH-DB (config .motion .«depth_db»))
+    (mul binary32 (motionGain (hertz (binHz (config .«sample_rate») (config .«fft_size»)) bin) (config .motion)) (compensation (config .motion)))
+    one
+
+-- the gate at an openness, which is not limited to 1; 1 with the note layer off
+unfoldable pub gateAt : MaskConfig → Float → Float
+gateAt config open = cond (config .«note_layer_enabled») (gateGain (floorGain (config .«note_depth_db»)) (emphasisGain (config .«width_cents»)) open) one
+
+-- the number that a bin holds before the gate is applied: 0 with the note layer off
+unfoldable pub opennessAt : MaskConfig → Logs → Side → List MaskVoice → ℕ → Float
+opennessAt config logs side voices bin = cond (config .«note_layer_enabled») (openness (gridOf config) logs side voices bin) zero
+
+unfoldable pub maskAt : List Float → MaskConfig → Logs → Side → List MaskVoice → ℕ → Float
+maskAt curve config logs side voices bin =
+    mul binary32 (mul binary32 (manualGain curve bin (config .«fft_size»)) (motionAt config bin)) (gateAt config (opennessAt config logs side voices bin))
+
+-- all of its size/2 + 1 bins
+abbrev pub maskOf : List Float → MaskConfig → Logs → Side → List MaskVoice → List Float
+maskOf curve config logs side voices = tabulate (config .«fft_size» / 2 + 1) (maskAt curve config logs side voices)

@@ -1,0 +1,1 @@
+// The masks of a scene: the gain of every bin.

@@ -1,0 +1,1 @@
+// How far the voices open each bin.
