@@ -26,7 +26,7 @@ motionAt config bin =
 
 -- the gate at an openness, which is not limited to 1; 1 with the note layer off
 unfoldable pub gateAt : MaskConfig → Float → Float
-gateAt config open = cond (config .«note_layer_enabled») (gateGain (floorGain (config .«note_depth_db»)) (emphasisGain (config .«width_cents»)) open) one
+gateAt config opened = cond (config .«note_layer_enabled») (gateGain (floorGain (config .«note_depth_db»)) (emphasisGain (config .«width_cents»)) opened) one
 
 -- the number that a bin holds before the gate is applied: 0 with the note layer off
 unfoldable pub opennessAt : MaskConfig → Logs → Side → List MaskVoice → ℕ → Float

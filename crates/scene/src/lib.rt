@@ -78,7 +78,10 @@ pub fn motion_accepted(config: MotionConfig) -> bool
 pub fn size_accepted(config: MaskConfig) -> bool
     ensures { λ r. ⌜ r ≡ sizeAccepted config ⌝ }
 {
-    both(limits::size(config.fft_size), limits::rate(config.sample_rate))
+    both(
+        limits::size(config.fft_size),
+        limits::rate(config.sample_rate),
+    )
 }
 
 // Every other setting, also one that the call will not use.
@@ -100,7 +103,10 @@ pub fn settings_accepted(config: MaskConfig) -> bool
 pub fn voice_accepted(voice: MaskVoice) -> bool
     ensures { λ r. ⌜ r ≡ voiceAccepted voice ⌝ }
 {
-    let pitch = both(limits::note(voice.note), limits::tuning(voice.tuning_semitones));
+    let pitch = both(
+        limits::note(voice.note),
+        limits::tuning(voice.tuning_semitones),
+    );
     let touch = both(
         float32::order::is_finite(voice.pressure),
         float32::order::is_finite(voice.timbre),

@@ -36,8 +36,14 @@ unfolding settingsAccepted
 returns c =
     let b = c .before .before .before .before in
     simp (
-      ← c .before .both3 .ensures, ← c .before .before .motion-accepted .ensures, ← c .before .before .before .both2 .ensures, ← c .before .before .before .before .rolloff .ensures,
-      ← b .before .partials .ensures, ← b .before .before .both .ensures, ← b .before .before .before .width .ensures, ← b .before .before .before .before .note-depth .ensures,
+      ← c .before .both3 .ensures,
+      ← c .before .before .motion-accepted .ensures,
+      ← c .before .before .before .both2 .ensures,
+      ← c .before .before .before .before .rolloff .ensures,
+      ← b .before .partials .ensures,
+      ← b .before .before .both .ensures,
+      ← b .before .before .before .width .ensures,
+      ← b .before .before .before .before .note-depth .ensures,
     ) (c .both4 .ensures)
 
 pub settings-accepted-spec : {M : Type 1} → statement M

@@ -56,10 +56,20 @@ returns c =
     let d = b .before .before .before .before in
     let e = d .before .before .before .before in
     simp (
-      ← c .before .both6 .ensures, ← c .before .before .level .ensures, ← c .before .before .before .both5 .ensures, ← c .before .before .before .before .is-finite5 .ensures,
-      ← b .before .both4 .ensures, ← b .before .before .both3 .ensures, ← b .before .before .before .is-finite4 .ensures, ← b .before .before .before .before .is-finite3 .ensures,
-      ← d .before .both2 .ensures, ← d .before .before .is-finite2 .ensures, ← d .before .before .before .is-finite .ensures, ← d .before .before .before .before .both .ensures,
-      ← e .before .tuning .ensures, ← e .before .before .note .ensures,
+      ← c .before .both6 .ensures,
+      ← c .before .before .level .ensures,
+      ← c .before .before .before .both5 .ensures,
+      ← c .before .before .before .before .is-finite5 .ensures,
+      ← b .before .both4 .ensures,
+      ← b .before .before .both3 .ensures,
+      ← b .before .before .before .is-finite4 .ensures,
+      ← b .before .before .before .before .is-finite3 .ensures,
+      ← d .before .both2 .ensures,
+      ← d .before .before .is-finite2 .ensures,
+      ← d .before .before .before .is-finite .ensures,
+      ← d .before .before .before .before .both .ensures,
+      ← e .before .tuning .ensures,
+      ← e .before .before .note .ensures,
     ) (c .both7 .ensures)
 
 pub voice-accepted-spec : {M : Type 1} → statement M
