@@ -19,10 +19,10 @@ STEPS-PER-SQUARE = ofBits binary32 0x4280_0000
 unfoldable pub position : Float → Float
 position square = mul binary32 (clamp zero GAUSSIAN-MAX-RELATIVE-SQUARED square) STEPS-PER-SQUARE
 
--- between the entries on its left and on its right; the last entry has itself on its right
+-- between the entries on its left and on its right. No place is past the last entry, 1,024, which has itself on its right
 unfoldable pub between : Float → Float
 between place =
-    let left = floorCount place in
+    let left = min (floorCount place) GAUSSIAN-LUT-STEPS in
     let right = min (left + 1) GAUSSIAN-LUT-STEPS in
     add binary32 (G left) (mul binary32 (sub binary32 (G right) (G left)) (sub binary32 place (ofInt binary32 (pos left))))
 

@@ -1,5 +1,6 @@
 -- How far a bin is from a lobe's centre, in widths, and the bell over that distance: by the table that the call was lent, "prepared or not", or, where it was lent none, by the
 -- bin's own frequency. Assumes nothing.
+use mathlib.Core.Bool.{Bool, true, false}
 use mathlib.Core.List.{List}
 use Prim.Native.Nat.{ℕ}
 use lib.ListN.{getD}
@@ -15,6 +16,11 @@ use Rattle.lobes.specs.Grid.{CENTS-PER-OCTAVE}
 pub data Logs : Type 0 where
   lent : List Float → Logs
   none : Logs
+
+-- the table, where the call was lent one
+abbrev pub logsOf : Bool → List Float → Logs
+logsOf true table = lent table
+logsOf false table = none
 
 abbrev pub MINUS-HALF : Float
 MINUS-HALF = ofBits binary32 0xbf00_0000

@@ -5,3 +5,4 @@ pub mod Advanced
 pub mod Prepared
 pub mod Processing
 pub mod DualWindow
+pub mod Masks
