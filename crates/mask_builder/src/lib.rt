@@ -1,1 +1,2 @@
 // The masks of a scene: the gain of every bin.
+pub mod gains;
