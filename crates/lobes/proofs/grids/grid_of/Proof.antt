@@ -24,10 +24,15 @@ lesser-requires c κs = search needs
 
 returns : tie.Need-returns
 unfolding gridOf
-returns c = 
+returns c =
     let partials = simp (c .before .greater .ensures) at (c .lesser .ensures) in
-    simp (partials, c .before .before .exp22 .ensures, c .before .before .before .exp2 .ensures, c .before .before .before .before .bin-hz .ensures,
-      c .before .before .before .before .before .max .ensures)
+    simp (
+      partials,
+      c .before .before .exp22 .ensures,
+      c .before .before .before .exp2 .ensures,
+      c .before .before .before .before .bin-hz .ensures,
+      c .before .before .before .before .before .max .ensures,
+    )
 
 pub grid-of-spec : {M : Type 1} → statement M
 grid-of-spec =

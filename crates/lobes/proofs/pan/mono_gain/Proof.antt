@@ -13,7 +13,7 @@ expression-of-requires c κs = search needs
 
 returns : tie.Need-returns
 unfolding channelGain balance
-returns c = 
+returns c =
     let voice = c .before .args .voice in
     ap (λ (x : Float). mul binary32 x one) (c .expression-of .ensures) ∙ ap (mul binary32 (expressionOf voice)) (either (eq (panOf voice) zero))
   where

@@ -26,15 +26,15 @@ cents-requires-2 : tie.Need-cents-requires-2
 cents-requires-2 c κs = search needs
 
 returns : tie.Need-returns
-returns c = 
+returns c =
     let lower = simp (c .before .before .before .before .before .greater .ensures, c .before .before .before .before .before .before .floor-to-count .ensures)
-        at (c .before .before .before .before .lesser .ensures) in
+    at (c .before .before .before .before .lesser .ensures) in
     rw (chosen _ _ _ _ _ lower (c .before .before .before .lesser2 .ensures)) (simp (← c .before .cents2 .ensures, ← c .before .before .cents .ensures, c .if1 .taken))
 
 returns-2 : tie.Need-returns-2
-returns-2 c = 
+returns-2 c =
     let lower = simp (c .before .before .before .before .before .greater .ensures, c .before .before .before .before .before .before .floor-to-count .ensures)
-        at (c .before .before .before .before .lesser .ensures) in
+    at (c .before .before .before .before .lesser .ensures) in
     rw (chosen _ _ _ _ _ lower (c .before .before .before .lesser2 .ensures)) (simp (← c .before .cents2 .ensures, ← c .before .before .cents .ensures, c .if1 .left))
 
 pub closest-bin-in-cents-spec : {M : Type 1} → statement M

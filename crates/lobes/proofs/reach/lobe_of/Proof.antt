@@ -18,7 +18,7 @@ closest-bin-in-cents-requires : tie.Need-closest-bin-in-cents-requires
 closest-bin-in-cents-requires c κs = search needs
 
 distance-requires : tie.Need-distance-requires
-distance-requires c κs = 
+distance-requires c κs =
     let start = c .before .before .before .before .before in
     let le = subst (λ (bin : ℕ). bin ≤ start .args .grid .«last_bin») (sym (c .closest-bin-in-cents .ensures)) (closest-le _ _ _) in
     (start .pre .0, le-trans le (start .pre .1), λ lent. lt-of-le-of-lt le (start .pre .3 lent))
@@ -34,7 +34,7 @@ powi2-requires c κs = search needs
 
 returns : tie.Need-returns
 unfolding lobeOf
-returns c = 
+returns c =
     simp (c .powi2 .ensures, c .before .last-bin .ensures, c .before .before .first-bin .ensures, c .before .before .before .distance .ensures, c .before .before .before .before .closest-bin-in-cents .ensures, c .before .before .before .before .before .before .harmonic-gain .ensures, c .before .before .before .before .before .before .before .center-of .ensures)
 
 pub lobe-of-spec : {M : Type 1} → statement M
