@@ -1,2 +1,3 @@
 // The masks of a scene: the gain of every bin.
+pub mod centers;
 pub mod gains;
