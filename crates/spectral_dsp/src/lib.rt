@@ -1,5 +1,6 @@
 // The open calls of spectral-dsp, under the Rust's names. Each tests what it is given, in the order of document 01's numbers, and then makes one call of the core.
 pub mod processing;
+mod refusals;
 
 ghost use mathlib.Core.Path.{_≡_};
 ghost use lib.ListN.{length};
