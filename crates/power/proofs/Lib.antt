@@ -9,8 +9,10 @@ pub mod Range
 pub mod Greatest
 pub mod Division
 pub mod Search
+pub mod Guess
 pub mod Normal
 pub mod Logs
+pub mod LogParts
 pub mod LogMade
 pub mod LogRising
 pub mod LogRange
