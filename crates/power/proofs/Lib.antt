@@ -16,4 +16,5 @@ pub mod LogParts
 pub mod LogMade
 pub mod LogRising
 pub mod LogRange
+pub mod LogComputed
 pub mod Bases

@@ -7,7 +7,7 @@ use native.Mathlib.Nat.{add-comm, mul-comm, mul-one}
 use native.Mathlib.Omega.{arith}
 use lib.Dec.{T, ltb, ltb→lt, nltb→le, lit<}
 use lib.IntN.{pos, negsuc, subℕ}
-use lib.Ieee.{Float, binary32, round, le, neg, add, sub, ofInt, ofBits}
+use lib.Ieee.{Float, binary32, round, le, add, sub, ofInt, ofBits}
 use lib.Ieee.Exact.{HasValue}
 use lib.Ieee.Fits.{and-i}
 use Rattle.float32.specs.Value.{Decoded}

@@ -1,12 +1,11 @@
 -- `step_of` meets its contract: proofs/Guess.antt says it of the guess and the test. Assumes nothing.
-use mathlib.Core.Path.{_≡_, ap, _∙_}
+use mathlib.Core.Path.{ap, _∙_}
 use mathlib.Core.Bool.{Bool, true, false}
 use borrow.Author.Needs.{needs}
 use native.Mathlib.Omega.{arith}
 use Prim.Native.Nat.{ℕ, _+_, _≤_}
 use mir.Val.{boolByte}
 use lib.Dec.{leb}
-use Rattle.power.specs.Table.{P}
 use Rattle.power.proofs.Guess.{step-from}
 use Rattle.power.proofs.log2.step_of.Statement.{statement}
 use Rattle.power.proofs.log2.step_of.Tie as tie
