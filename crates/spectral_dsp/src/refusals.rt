@@ -1,7 +1,7 @@
 // The tests that the mask builders share, in the order of document 01's numbers.
 ghost use mathlib.Core.Path.{_≡_};
 ghost use Rattle.answer.specs.Reply.{ofOutcome};
-ghost use Rattle.spectral_dsp.specs.Masks.{first, settingsReply, voicesReply, tableReply, entryAccepted, firstEntryOutside};
+ghost use Rattle.spectral_dsp.specs.Masks.{first, settingsReply, voicesReply, tableReply, levelsReply, entryAccepted, firstEntryOutside};
 use answer::Outcome;
 use scene::MOST_VOICES;
 use scene::MaskConfig;
@@ -79,6 +79,20 @@ pub fn of_table(table: &[f32]) -> Outcome
     let entry = first_entry_outside(table);
     if entry < table.len() {
         return Outcome::Refused(6, entry);
+    }
+    Outcome::Done
+}
+
+// Refusals 4 and 7 of a bank of levels: the lengths of the slices, and a level outside its limits.
+pub fn of_levels(levels: &[f32], lengths: bool) -> Outcome
+    ensures { λ r. ⌜ ofOutcome r ≡ levelsReply (now (levels .entry)) lengths ⌝ }
+{
+    if !lengths {
+        return Outcome::Refused(4, 0);
+    }
+    let note = limits::first_outside(levels, limits::LEAST_LEVEL, limits::MOST_LEVEL);
+    if note < levels.len() {
+        return Outcome::Refused(7, note);
     }
     Outcome::Done
 }
