@@ -1,1 +1,3 @@
 // How far the voices open each bin.
+pub mod chunk;
+pub mod joins;

@@ -1,0 +1,3 @@
+pub const CHUNK: usize = 64;
+
+pub type Chunk = [f32; 64];
