@@ -1,6 +1,7 @@
 -- Lists that are written over and over, entry by entry: a map of a map, a map of a part after a map of the part before it, and a run over a list at each entry. Assumes nothing.
 use mathlib.Core.Path.{_≡_, refl, sym, ap, _∙_}
 use mathlib.Core.Bool.{Bool, true, false, cond, _&&_}
+use mathlib.Core.Logic.{_⊎_}
 use mathlib.Core.List.{List, [], _∷_}
 use Prim.Native.Nat.{ℕ, zero, suc, _+_, _≤_, _<_, min}
 use native.Mathlib.Nat.{zero-add}
@@ -8,9 +9,9 @@ use native.Mathlib.Decide.{decLt}
 use native.Mathlib.Omega.{arith}
 use borrow.Author.Tests.{le-leb, lt-leb, lt-ltb, le-ltb}
 use lib.Dec.{leb, ltb}
-use lib.ListN.{length, getD}
+use lib.ListN.{length, getD, set}
 use Rattle.lists.specs.Maps.{mapFrom, mapAt, mapRange, tabFrom, tabulate, between, between-in, between-low, between-high, length-mapRange, mapFrom-same}
-use Rattle.lists.specs.Turned.{Turned}
+use Rattle.lists.specs.Turned.{Turned, turned-read, turned-more, turned-to}
 use Rattle.lists.specs.Folds.{fold, fold-step, fold-end}
 
 module _ {A : Type 0} where
@@ -58,12 +59,22 @@ module _ {A : Type 0} where
       at k x false = refl
 
   -- a part may end where the list ends
-  pub range-cut : (g : ℕ → A → A) (lo hi : ℕ) (xs : List A) → mapRange g lo (min hi (length xs)) xs ≡ mapRange g lo hi xs
+  range-cut : (g : ℕ → A → A) (lo hi : ℕ) (xs : List A) → mapRange g lo (min hi (length xs)) xs ≡ mapRange g lo hi xs
   range-cut g lo hi xs = map-same (between lo (min hi (length xs)) g) (between lo hi g) xs (λ k x p. at k x p (decLt k hi))
     where
       at : (k : ℕ) (x : A) → k < length xs → Dec (k < hi) → between lo (min hi (length xs)) g k x ≡ between lo hi g k x
       at k x p (yes q) = simp (lt-ltb k hi q, lt-ltb k (min hi (length xs)) (omega arith))
       at k x p (no q) = simp (le-ltb k hi (omega arith), le-ltb k (min hi (length xs)) (omega arith))
+
+  -- the entries lo ≤ k < hi are done, as far as there are any
+  pub turned-within : (hi stop : ℕ) {g : ℕ → A → A} {lo : ℕ} {xs₀ xs : List A} {i : ℕ} → Turned g lo xs₀ xs i → stop ≡ min hi (length xs₀) → (i ≤ stop) ⊎ (i ≡ lo) → stop ≤ i
+      → xs ≡ mapRange g lo hi xs₀
+  turned-within hi stop {g} {lo} {xs₀} {xs} {i} t e w h = turned-to stop t w h ∙ ap (λ k. mapRange g lo k xs₀) e ∙ range-cut g lo hi xs₀
+
+  -- one more turn, of what the entry holds now
+  pub turned-next : (d : A) {g : ℕ → A → A} {lo : ℕ} {xs₀ xs : List A} {i : ℕ} {v : A} → Turned g lo xs₀ xs i → i < length xs₀ → v ≡ g i (getD xs i d)
+      → Turned g lo xs₀ (set xs i v) (i + 1)
+  turned-next d {g} {lo} {xs₀} {xs} {i} t h e = turned-more d t h (e ∙ ap (g i) (turned-read d t h))
 
   -- the part after what is done
   pub turned-part : {g : ℕ → A → A} {lo : ℕ} {xs₀ xs : List A} {i : ℕ} (j : ℕ) → Turned g lo xs₀ xs i → i ≤ j → Turned g lo xs₀ (mapRange g i j xs) j

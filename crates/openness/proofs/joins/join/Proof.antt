@@ -1,75 +1,71 @@
+use mathlib.Core.Path.{_≡_, refl}
+use mathlib.Core.Logic.{_⊎_, inl, inr}
+use Prim.Native.Nat.{_-_, _≤_, min}
+use lib.ListN.{length, getD}
+use native.Mathlib.Omega.{arith}
+use Rattle.lists.specs.Turned.{Turned, turned-none}
+use lib.Ieee.{nan}
+use Rattle.openness.proofs.Runs.{turned-within, turned-next}
+use Rattle.openness.specs.Openness.{joined}
+use borrow.Author.Needs.{needs}
 use Rattle.openness.proofs.joins.join.Statement.{statement}
 use Rattle.openness.proofs.joins.join.Tie as tie
-use Rattle.openness.proofs.joins.join.Reads as reads
-use Rattle.openness.proofs.joins.join.Lts as lts
-use Rattle.openness.proofs.joins.joined.Reads as joined-reads
-use Rattle.openness.proofs.joins.lesser.Reads as lesser-reads
 
 abbrev Inv-loop : tie.InvT-loop
-Inv-loop out₀ openings gain start end stop bin₀ out bin = ?
+Inv-loop out₀ openings gain start end stop bin₀ out bin =
+    Turned (λ bin held. joined gain held (getD openings (bin - start) nan)) start out₀ out bin × (stop ≡ min end (length out₀)) × ((bin ≤ stop) ⊎ (bin ≡ start))
 
 abbrev μ-loop : tie.MeasureT-loop
-μ-loop out₀ openings gain start end stop bin₀ out bin = ?
+μ-loop out₀ openings gain start end stop bin₀ out bin = stop - bin
 
--- src/joins.rt:39:9
 lesser-requires : tie.Need-lesser-requires Inv-loop μ-loop
-lesser-requires c κs = ?
+lesser-requires c κs = search needs
 
--- src/joins.rt:41:5
 loop-holds : tie.Need-loop-holds Inv-loop μ-loop
-loop-holds c = ?
+loop-holds c = (turned-none _ _ _, c .lesser .ensures, inr refl)
 
--- src/joins.rt:42:27
 mul-joined : tie.Need-mul-joined Inv-loop μ-loop
-mul-joined c = ?
+mul-joined c = search needs
 
--- src/joins.rt:42:27
 slice-read-joined : tie.Need-slice-read-joined Inv-loop μ-loop
-slice-read-joined c = ?
+slice-read-joined c = search needs
 
--- src/joins.rt:42:46
 sub-joined : tie.Need-sub-joined Inv-loop μ-loop
-sub-joined c = ?
+sub-joined c = search needs
 
--- src/joins.rt:42:37
 mul-joined-2 : tie.Need-mul-joined-2 Inv-loop μ-loop
-mul-joined-2 c = ?
+mul-joined-2 c = search needs
 
--- src/joins.rt:42:37
 element-copy-out-joined : tie.Need-element-copy-out-joined Inv-loop μ-loop
-element-copy-out-joined c = ?
+element-copy-out-joined c = search needs
 
--- src/joins.rt:42:20
 joined-requires : tie.Need-joined-requires Inv-loop μ-loop
-joined-requires c κs = ?
+joined-requires c κs = search needs
 
--- src/joins.rt:42:9
 mul-out : tie.Need-mul-out Inv-loop μ-loop
-mul-out c = ?
+mul-out c = search needs
 
--- src/joins.rt:42:9
 slice-write-out : tie.Need-slice-write-out Inv-loop μ-loop
-slice-write-out c = ?
+slice-write-out c = search needs
 
--- src/joins.rt:43:9
 add-bin : tie.Need-add-bin Inv-loop μ-loop
-add-bin c = ?
+add-bin c = search needs
 
--- src/joins.rt:41:5
 loop-less : tie.Need-loop-less Inv-loop μ-loop
-loop-less c = ?
+loop-less c = omega arith
 
--- src/joins.rt:41:5
 loop-again : tie.Need-loop-again Inv-loop μ-loop
-loop-again c = ?
+loop-again c = 
+    let l = c .before .before .before .before .loop in
+    (turned-next nan (l .inv .0) (omega arith) (c .joined .ensures), l .inv .1, inl (omega arith))
 
--- src/joins.rt:35:1
 same-length : tie.Need-same-length Inv-loop μ-loop
-same-length c = ?
+same-length c = c .before .loop .inv .0 .len
 
--- src/joins.rt:35:1
 returns : tie.Need-returns Inv-loop μ-loop
-returns c = ?
+returns c = 
+    let l = c .before .loop in
+    turned-within _ _ (l .inv .0) (l .inv .1) (l .inv .2) (omega arith)
 
 pub join-spec : {M : Type 1} → statement M
 join-spec =

@@ -1,45 +1,43 @@
+use mathlib.Core.Path.{refl}
+use Prim.Native.Nat.{_-_}
+use lib.ListN.{length}
+use native.Mathlib.Omega.{arith}
+use Rattle.float32.specs.Remainder.{zero}
+use Rattle.lists.specs.Turned.{Turned, turned-none, turned-more, turned-fill}
+use lib.Ieee.{nan}
+use borrow.Author.Needs.{needs}
 use Rattle.openness.proofs.joins.shut.Statement.{statement}
 use Rattle.openness.proofs.joins.shut.Tie as tie
-use Rattle.openness.proofs.joins.shut.Reads as reads
-use Rattle.openness.proofs.joins.shut.Lts as lts
 
 abbrev Inv-loop : tie.InvT-loop
-Inv-loop out₀ bin₀ out bin = ?
+Inv-loop out₀ bin₀ out bin = Turned (λ bin held. zero) 0 out₀ out bin
 
 abbrev μ-loop : tie.MeasureT-loop
-μ-loop out₀ bin₀ out bin = ?
+μ-loop out₀ bin₀ out bin = length out₀ - bin
 
--- src/joins.rt:15:5
 loop-holds : tie.Need-loop-holds Inv-loop μ-loop
-loop-holds c = ?
+loop-holds c = turned-none _ _ _
 
--- src/joins.rt:16:9
 mul-out : tie.Need-mul-out Inv-loop μ-loop
-mul-out c = ?
+mul-out c = search needs
 
--- src/joins.rt:16:9
 slice-write-out : tie.Need-slice-write-out Inv-loop μ-loop
-slice-write-out c = ?
+slice-write-out c = search needs
 
--- src/joins.rt:17:9
 add-bin : tie.Need-add-bin Inv-loop μ-loop
-add-bin c = ?
+add-bin c = search needs
 
--- src/joins.rt:15:5
 loop-less : tie.Need-loop-less Inv-loop μ-loop
-loop-less c = ?
+loop-less c = omega arith
 
--- src/joins.rt:15:5
 loop-again : tie.Need-loop-again Inv-loop μ-loop
-loop-again c = ?
+loop-again c = turned-more nan (c .before .loop .inv) (omega arith) refl
 
--- src/joins.rt:11:1
 same-length : tie.Need-same-length Inv-loop μ-loop
-same-length c = ?
+same-length c = c .before .loop .inv .len
 
--- src/joins.rt:11:1
 returns : tie.Need-returns Inv-loop μ-loop
-returns c = ?
+returns c = turned-fill (c .before .loop .inv) (omega arith)
 
 pub shut-spec : {M : Type 1} → statement M
 shut-spec =
