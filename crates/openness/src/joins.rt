@@ -6,7 +6,6 @@ ghost use lib.Ieee.{nan};
 ghost use Rattle.float32.specs.Remainder.{zero};
 ghost use Rattle.lists.specs.Maps.{tabulate, mapRange};
 ghost use Rattle.openness.specs.Openness.{joined};
-use crate::chunk::Chunk;
 
 pub fn shut(out: &mut [f32])
     ensures { λ _. ⌜ now (out .exit) ≡ tabulate (length (now (out .entry))) (λ bin. zero) ⌝ }
@@ -32,8 +31,8 @@ fn joined(held: f32, opening: f32, gain: f32) -> f32
 }
 
 // The openings of a chunk's bins joined to what the bins hold, as far as there are bins: so the same call serves a side that is not there.
-pub fn join(out: &mut [f32], openings: &Chunk, gain: f32, start: usize, end: usize)
-    requires { ⌜ end ≤ start + 64 ⌝ }
+pub fn join(out: &mut [f32], openings: &[f32], gain: f32, start: usize, end: usize)
+    requires { ⌜ end ≤ start + length (now openings) ⌝ }
     ensures { λ _. ⌜ now (out .exit) ≡ mapRange (λ bin held. joined gain held (getD (now (openings .entry)) (bin - start) nan)) start end (now (out .entry)) ⌝ }
 {
     let stop = lesser(end, out.len());

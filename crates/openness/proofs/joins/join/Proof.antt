@@ -36,8 +36,8 @@ sub-joined c = search needs
 mul-joined-2 : tie.Need-mul-joined-2 Inv-loop μ-loop
 mul-joined-2 c = search needs
 
-element-copy-out-joined : tie.Need-element-copy-out-joined Inv-loop μ-loop
-element-copy-out-joined c = search needs
+shared-slice-read-joined : tie.Need-shared-slice-read-joined Inv-loop μ-loop
+shared-slice-read-joined c = search needs
 
 joined-requires : tie.Need-joined-requires Inv-loop μ-loop
 joined-requires c κs = search needs
@@ -79,7 +79,7 @@ join-spec =
     slice-read-joined
     sub-joined
     mul-joined-2
-    element-copy-out-joined
+    shared-slice-read-joined
     joined-requires
     mul-out
     slice-write-out
