@@ -9,14 +9,14 @@ use Rattle.power.specs.Log.{L2}
 use Rattle.gaussian.specs.Bell.{between}
 use Rattle.lobes.specs.declared.Grid.{Grid}
 use Rattle.lobes.specs.declared.Lobe.{Lobe}
-use Rattle.lobes.specs.Distance.{lent}
+use Rattle.lobes.specs.Distance.{lent, inWidths}
 use Rattle.lobes.specs.Lobe.{opening}
 use Rattle.openness.specs.Stages.{placeOf, openedBy, opening-lent}
 use Rattle.openness.proofs.Runs.{range-range, range-same}
 
 module _ (grid : Grid) (lobe : Lobe) (table : List Float) (center : Float) (start count : ℕ) where
   abbrev pub place : ℕ → Float → Float
-  place k held = placeOf (grid .width) (lobe .«peak_squared») (sub binary32 (getD table (start + k) nan) center)
+  place k held = placeOf (lobe .«peak_squared») (inWidths (grid .width) (sub binary32 (getD table (start + k) nan) center))
 
   abbrev pub bell-there : ℕ → Float → Float
   bell-there k place = openedBy (lobe .strength) (between place)

@@ -12,33 +12,29 @@ ghost use Rattle.power.specs.Table.{powerTable};
 ghost use Rattle.power.specs.Log.{L2};
 ghost use Rattle.gaussian.specs.Table.{gaussianTable};
 ghost use Rattle.gaussian.specs.Bell.{between};
-ghost use Rattle.lobes.specs.Distance.{none, logsOf};
+ghost use Rattle.lobes.specs.Distance.{none, logsOf, inWidths};
 ghost use Rattle.lobes.specs.Lobe.{opening};
-ghost use Rattle.openness.specs.Stages.{squareOf, placeOf, openedBy};
+ghost use Rattle.openness.specs.Stages.{relativeTo, placeOf, openedBy};
 use gaussian::GaussianTable;
 use lobes::Grid;
 use lobes::Lobe;
+use lobes::distances::distance_by_hertz;
+use lobes::distances::distance_by_table;
 use power::table::PowerTable;
-
-const CENTS_PER_OCTAVE: f32 = 1200.0;
 
 const MINUS_HALF: f32 = -0.5;
 
 // The square of a distance in widths, less that of the peak bin.
-fn relative_square(octaves: f32, width: f32, peak_squared: f32) -> f32
-    ensures { λ r. ⌜ r ≡ squareOf width «peak_squared» octaves ⌝ }
+fn relative_square(peak_squared: f32, distance: f32) -> f32
+    ensures { λ r. ⌜ r ≡ relativeTo «peak_squared» distance ⌝ }
 {
-    let normalized = CENTS_PER_OCTAVE * octaves / width;
-    float32::order::max(
-        float32::powers::powi2(normalized) - peak_squared,
-        0.0,
-    )
+    float32::order::max(float32::powers::powi2(distance) - peak_squared, 0.0)
 }
 
-fn place_of(octaves: f32, width: f32, peak_squared: f32) -> f32
-    ensures { λ r. ⌜ r ≡ placeOf width «peak_squared» octaves ⌝ }
+fn place_of(peak_squared: f32, distance: f32) -> f32
+    ensures { λ r. ⌜ r ≡ placeOf «peak_squared» distance ⌝ }
 {
-    gaussian::position(relative_square(octaves, width, peak_squared))
+    gaussian::position(relative_square(peak_squared, distance))
 }
 
 fn opened_by(strength: f32, bell: f32) -> f32
@@ -58,11 +54,11 @@ fn places(
     peak_squared: f32,
 )
     requires { ⌜ (count ≤ length (now chunk)) × (start + count ≤ length (now table)) ⌝ }
-    ensures { λ _. ⌜ now (chunk .exit) ≡ mapRange (λ k held. placeOf width «peak_squared» (sub binary32 (getD (now (table .entry)) (start + k) nan) «center_log2»)) 0 count (now (chunk .entry)) ⌝ }
+    ensures { λ _. ⌜ now (chunk .exit) ≡ mapRange (λ k held. placeOf «peak_squared» (inWidths width (sub binary32 (getD (now (table .entry)) (start + k) nan) «center_log2»))) 0 count (now (chunk .entry)) ⌝ }
 {
     let mut k: usize = 0;
     while k < count {
-        chunk[k] = place_of(table[start + k] - center_log2, width, peak_squared);
+        chunk[k] = place_of(peak_squared, distance_by_table(table, width, center_log2, start + k));
         k += 1;
     }
 }
@@ -84,9 +80,8 @@ fn opening_by_frequency(powers: &PowerTable, grid: Grid, lobe: Lobe, bin: usize)
     requires { ⌜ (now powers ≡ powerTable) × (bin ≤ 2 ^ 24) ⌝ }
     ensures { λ r. ⌜ r ≡ opening grid none lobe bin ⌝ }
 {
-    let frequency = bin as f32 * grid.bin_hz;
-    let octaves = power::log2::log2(powers, frequency / lobe.center);
-    let square = relative_square(octaves, grid.width, lobe.peak_squared);
+    let distance = distance_by_hertz(powers, grid, lobe.center, bin);
+    let square = relative_square(lobe.peak_squared, distance);
     opened_by(lobe.strength, power::decimal::exp(powers, MINUS_HALF * square))
 }
 
@@ -98,7 +93,7 @@ fn openings_by_frequency(
     start: usize,
     count: usize,
 )
-    requires { ⌜ (now powers ≡ powerTable) × (count ≤ length (now chunk)) × (start + count ≤ 2 ^ 24) ⌝ }
+    requires { ⌜ (now powers ≡ powerTable) × (count ≤ length (now chunk)) × (start + count ≤ 2 ^ 24 + 1) ⌝ }
     ensures { λ _. ⌜ now (chunk .exit) ≡ mapRange (λ k held. opening grid none lobe (start + k)) 0 count (now (chunk .entry)) ⌝ }
 {
     let mut k: usize = 0;
@@ -121,7 +116,7 @@ pub fn openings(
     start: usize,
     count: usize,
 )
-    requires { ⌜ (now powers ≡ powerTable) × (now gaussians ≡ gaussianTable) × («center_log2» ≡ L2 (lobe .center)) × (count ≤ length (now chunk)) × (start + count ≤ 2 ^ 24) × (tabled ≡ true → start + count ≤ length (now table)) ⌝ }
+    requires { ⌜ (now powers ≡ powerTable) × (now gaussians ≡ gaussianTable) × («center_log2» ≡ L2 (lobe .center)) × (count ≤ length (now chunk)) × (start + count ≤ 2 ^ 24 + 1) × (tabled ≡ true → start + count ≤ length (now table)) ⌝ }
     ensures { λ _. ⌜ now (chunk .exit) ≡ mapRange (λ k held. opening grid (logsOf tabled (now (table .entry))) lobe (start + k)) 0 count (now (chunk .entry)) ⌝ }
 {
     if tabled {

@@ -1,11 +1,12 @@
 // Openness joined by maximum, onto an openness of 0.
 ghost use mathlib.Core.Path.{_≡_};
-ghost use Prim.Native.Nat.{_+_, _-_, _^_, _≤_, min};
+ghost use Prim.Native.Nat.{_+_, _-_, _^_, _≤_};
 ghost use lib.ListN.{length, getD};
 ghost use lib.Ieee.{nan};
 ghost use Rattle.float32.specs.Remainder.{zero};
 ghost use Rattle.lists.specs.Maps.{tabulate, mapRange};
 ghost use Rattle.openness.specs.Openness.{joined};
+use lobes::counts::lesser;
 
 pub fn shut(out: &mut [f32])
     ensures { λ _. ⌜ now (out .exit) ≡ tabulate (length (now (out .entry))) (λ bin. zero) ⌝ }
@@ -15,12 +16,6 @@ pub fn shut(out: &mut [f32])
         out[bin] = 0.0;
         bin += 1;
     }
-}
-
-fn lesser(a: usize, b: usize) -> usize
-    ensures { λ r. ⌜ r ≡ min a b ⌝ }
-{
-    if a < b { a } else { b }
 }
 
 // What a bin holds, and what a lobe opens there under a voice's expression.

@@ -1,14 +1,10 @@
 use Rattle.openness.specs.Stages.{opening-none}
-use Rattle.float32.proofs.Sums.{in-float}
 use borrow.Author.Needs.{needs}
 use Rattle.openness.proofs.chunk.opening_by_frequency.Statement.{statement}
 use Rattle.openness.proofs.chunk.opening_by_frequency.Tie as tie
 
-int-to-float-frequency : tie.Need-int-to-float-frequency
-int-to-float-frequency c = in-float _ (c .before .pre .1)
-
-log2-requires : tie.Need-log2-requires
-log2-requires c κs = search needs
+distance-by-hertz-requires : tie.Need-distance-by-hertz-requires
+distance-by-hertz-requires c κs = search needs
 
 relative-square-requires : tie.Need-relative-square-requires
 relative-square-requires c κs = search needs
@@ -21,14 +17,13 @@ opened-by-requires c κs = search needs
 
 returns : tie.Need-returns
 returns c = 
-    rw (opening-none _ _ _, ← c .before .before .before .log2 .ensures, ← c .before .before .relative-square .ensures, ← c .before .exp .ensures) (c .opened-by .ensures)
+    rw (opening-none _ _ _, ← c .before .before .before .distance-by-hertz .ensures, ← c .before .before .relative-square .ensures, ← c .before .exp .ensures) (c .opened-by .ensures)
 
 pub opening-by-frequency-spec : {M : Type 1} → statement M
 opening-by-frequency-spec =
     tie.close
     (tie.spec
-    int-to-float-frequency
-    log2-requires
+    distance-by-hertz-requires
     relative-square-requires
     exp-requires
     opened-by-requires

@@ -1,17 +1,17 @@
-use lib.ListN.{length, getD}
-use mathlib.Core.Path.{_≡_}
-use Rattle.openness.specs.Stages.{placeOf}
-use lib.Ieee.{nan, binary32, sub}
 use mathlib.Core.Logic.{inl}
 use Prim.Native.Nat.{_+_, _-_, _≤_}
 use native.Mathlib.Omega.{arith}
+use lib.ListN.{getD}
+use lib.Ieee.{nan, binary32, sub}
 use Rattle.lists.specs.Turned.{Turned, turned-none, turned-more, turned-to}
+use Rattle.lobes.specs.Distance.{inWidths}
+use Rattle.openness.specs.Stages.{placeOf}
 use borrow.Author.Needs.{needs}
 use Rattle.openness.proofs.chunk.places.Statement.{statement}
 use Rattle.openness.proofs.chunk.places.Tie as tie
 
 abbrev Inv-loop : tie.InvT-loop
-Inv-loop chunk₀ table start count center-log2 width peak-squared k₀ chunk k = Turned (λ k held. placeOf width peak-squared (sub binary32 (getD table (start + k) nan) center-log2)) 0 chunk₀ chunk k × (k ≤ count)
+Inv-loop chunk₀ table start count center-log2 width peak-squared k₀ chunk k = Turned (λ k held. placeOf peak-squared (inWidths width (sub binary32 (getD table (start + k) nan) center-log2))) 0 chunk₀ chunk k × (k ≤ count)
 
 abbrev μ-loop : tie.MeasureT-loop
 μ-loop chunk₀ table start count center-log2 width peak-squared k₀ chunk k = count - k
@@ -19,14 +19,11 @@ abbrev μ-loop : tie.MeasureT-loop
 loop-holds : tie.Need-loop-holds Inv-loop μ-loop
 loop-holds c = (turned-none _ _ _, omega arith)
 
-add-place-of : tie.Need-add-place-of Inv-loop μ-loop
-add-place-of c = search needs
+add-distance-by-table : tie.Need-add-distance-by-table Inv-loop μ-loop
+add-distance-by-table c = search needs
 
-mul-place-of : tie.Need-mul-place-of Inv-loop μ-loop
-mul-place-of c = search needs
-
-shared-slice-read-place-of : tie.Need-shared-slice-read-place-of Inv-loop μ-loop
-shared-slice-read-place-of c = search needs
+distance-by-table-requires : tie.Need-distance-by-table-requires Inv-loop μ-loop
+distance-by-table-requires c κs = search needs
 
 place-of-requires : tie.Need-place-of-requires Inv-loop μ-loop
 place-of-requires c κs = search needs
@@ -44,7 +41,7 @@ loop-less : tie.Need-loop-less Inv-loop μ-loop
 loop-less c = omega arith
 
 loop-again : tie.Need-loop-again Inv-loop μ-loop
-loop-again c = (turned-more nan (c .before .before .before .loop .inv .0) (omega arith) (c .place-of .ensures), omega arith)
+loop-again c = (turned-more nan (c .before .before .before .loop .inv .0) (omega arith) (rw (← c .before .distance-by-table .ensures) (c .place-of .ensures)), omega arith)
 
 same-length : tie.Need-same-length Inv-loop μ-loop
 same-length c = c .before .loop .inv .0 .len
@@ -59,9 +56,8 @@ places-spec =
     Inv-loop
     μ-loop
     loop-holds
-    add-place-of
-    mul-place-of
-    shared-slice-read-place-of
+    add-distance-by-table
+    distance-by-table-requires
     place-of-requires
     mul-chunk
     slice-write-chunk
