@@ -1,39 +1,35 @@
+use mathlib.Core.Path.{_∙_}
+use Rattle.openness.proofs.Staged.{staged}
 use borrow.Author.Needs.{needs}
 use Rattle.openness.proofs.chunk.openings.Statement.{statement}
 use Rattle.openness.proofs.chunk.openings.Tie as tie
-use Rattle.openness.proofs.chunk.openings.Reads as reads
-use Rattle.openness.proofs.chunk.openings.Lts as lts
-use Rattle.openness.proofs.chunk.openings_at_places.Reads as openings-at-places-reads
-use Rattle.openness.proofs.chunk.openings_by_frequency.Reads as openings-by-frequency-reads
-use Rattle.openness.proofs.chunk.places.Reads as places-reads
 
--- src/chunk.rt:123:9
 places-requires : tie.Need-places-requires
-places-requires c κs = ?
+places-requires c κs = 
+    let s = c .before .before .before .before in
+    (s .pre .3, s .pre .5 (c .before .if1 .taken))
 
--- src/chunk.rt:132:9
 openings-at-places-requires : tie.Need-openings-at-places-requires
 openings-at-places-requires c κs = search needs
 
--- src/chunk.rt:133:9
 same-length : tie.Need-same-length
 same-length c = search needs
 
--- src/chunk.rt:133:9
 returns : tie.Need-returns
-returns c = ?
+returns c = 
+    let p = c .before .before .before .before .before .before in
+    let s = p .before .before .before .before .before in
+    let e = rw (p .places .ensures) at (c .before .before .openings-at-places .ensures) in
+    rw (p .before .before .if1 .taken) (e ∙ staged (s .args .grid) (s .args .lobe) (s .args .table .now) (s .args .center-log2) (s .args .start) (s .args .count) (s .pre .2) (s .args .chunk .now))
 
--- src/chunk.rt:135:5
 openings-by-frequency-requires : tie.Need-openings-by-frequency-requires
 openings-by-frequency-requires c κs = search needs
 
--- src/chunk.rt:107:1
 same-length-2 : tie.Need-same-length-2
 same-length-2 c = search needs
 
--- src/chunk.rt:107:1
 returns-2 : tie.Need-returns-2
-returns-2 c = ?
+returns-2 c = rw (c .before .before .before .before .if1 .left) (c .before .before .openings-by-frequency .ensures)
 
 pub openings-spec : {M : Type 1} → statement M
 openings-spec =
