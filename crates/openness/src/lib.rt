@@ -1,3 +1,4 @@
 // How far the voices open each bin.
 pub mod chunk;
 pub mod joins;
+pub mod raise;
