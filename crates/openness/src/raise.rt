@@ -8,13 +8,16 @@ ghost use Rattle.lists.specs.Maps.{mapAt};
 ghost use Rattle.power.specs.Table.{powerTable};
 ghost use Rattle.gaussian.specs.Table.{gaussianTable};
 ghost use Rattle.lobes.specs.Distance.{logsOf};
-ghost use Rattle.openness.specs.Openness.{lobeJoined};
+ghost use Rattle.openness.specs.Openness.{lobeJoined, toneJoined};
 use crate::chunk::openings;
 use crate::joins::join;
 use gaussian::GaussianTable;
 use lobes::Grid;
 use lobes::Lobe;
+use lobes::Tone;
 use lobes::counts::lesser;
+use lobes::reach::lobe_of;
+use lobes::tones::center_of;
 use power::table::PowerTable;
 
 // A voice's gain on each side.
@@ -60,5 +63,43 @@ fn raise_lobe(
         join(first, chunk, gains.first, start, next);
         join(second, chunk, gains.second, start, next);
         start = next;
+    }
+}
+
+// The partials of a tone, up to the first above nyquist.
+fn raise_tone(
+    first: &mut [f32],
+    second: &mut [f32],
+    chunk: &mut [f32],
+    powers: &PowerTable,
+    gaussians: &GaussianTable,
+    tabled: bool,
+    table: &[f32],
+    grid: Grid,
+    tone: Tone,
+    gains: Gains,
+)
+    requires { ⌜ (now powers ≡ powerTable) × (now gaussians ≡ gaussianTable) × (0 < length (now chunk)) × (grid .partials ≤ 24) × (grid .«last_bin» ≤ 2 ^ 24) × (tabled ≡ true → grid .«last_bin» < length (now table)) ⌝ }
+    ensures { λ _. ⌜ (now (first .exit) ≡ mapAt (toneJoined grid (logsOf tabled (now (table .entry))) (gains .first) tone) (now (first .entry))) × (now (second .exit) ≡ mapAt (toneJoined grid (logsOf tabled (now (table .entry))) (gains .second) tone) (now (second .entry))) ⌝ }
+{
+    let mut partial: usize = 1;
+    while partial <= grid.partials {
+        if grid.nyquist < center_of(tone, partial) {
+            return;
+        }
+        let lobe = lobe_of(powers, tabled, table, grid, tone, partial);
+        raise_lobe(
+            first,
+            second,
+            chunk,
+            powers,
+            gaussians,
+            tabled,
+            table,
+            grid,
+            lobe,
+            gains,
+        );
+        partial += 1;
     }
 }
