@@ -28,6 +28,9 @@ module _ {A : Type 0} where
   from-none j [] = refl
   from-none j (x ∷ xs) = ap (λ l. x ∷ l) (from-none (suc j) xs)
 
+  pub map-none : (xs : List A) → mapAt (λ k x. x) xs ≡ xs
+  map-none xs = from-none 0 xs
+
   from-tab : (f : ℕ → A → A) (g : ℕ → A) (j n : ℕ) → mapFrom f j (tabFrom g j n) ≡ tabFrom (λ k. f k (g k)) j n
   unfolding mapFrom tabFrom
   from-tab f g j zero = refl
@@ -105,4 +108,4 @@ module _ {A S : Type 0} (step : ℕ → S → A → S) where
       ∙ sym (map-map (λ k s. fold (step k) s rest) (λ k s. step k s x) xs)
 
   pub runs-end : {l : List A} (xs : List S) → l ≡ [] → runs l xs ≡ xs
-  runs-end {l} xs e = map-same (λ k s. fold (step k) s l) (λ k s. s) xs (λ k s p. fold-end (step k) s e) ∙ from-none 0 xs
+  runs-end {l} xs e = map-same (λ k s. fold (step k) s l) (λ k s. s) xs (λ k s p. fold-end (step k) s e) ∙ map-none xs

@@ -2,3 +2,4 @@
 pub mod chunk;
 pub mod joins;
 pub mod raise;
+pub mod voices;

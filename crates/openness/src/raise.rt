@@ -67,7 +67,7 @@ fn raise_lobe(
 }
 
 // The partials of a tone, up to the first above nyquist.
-fn raise_tone(
+pub fn raise_tone(
     first: &mut [f32],
     second: &mut [f32],
     chunk: &mut [f32],
