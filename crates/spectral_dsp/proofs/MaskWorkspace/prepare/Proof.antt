@@ -42,23 +42,20 @@ returns-3 c =
     let s = r .before .before in
     (simp (← s .before .size .ensures, s .if1 .left, ← r .before .rate .ensures, r .if2 .left, ne-eqb _ _ (c .if3 .taken)), refl)
 
-power-table-requires : tie.Need-power-table-requires
-power-table-requires c κs = search needs
-
 fill-requires : tie.Need-fill-requires
 fill-requires c κs =
-    let t = c .before .before .before in
+    let t = c .before in
     let s = t .before .before .before in
     let n = s .before .before .before .args .fft-size in
     let h = size-small n (passed (limits.size n) (subst (λ (b : Bool). not b ≡ false) (s .before .size .ensures) (s .if1 .left))) in
-    (search needs, omega arith, omega arith)
+    (omega arith, omega arith)
 
 same-length : tie.Need-same-length
 same-length c = search needs
 
 returns-4 : tie.Need-returns-4
 returns-4 c =
-    let t = c .before .before .before .before .before .before in
+    let t = c .before .before .before .before in
     let r = t .before in
     let s = r .before .before in
     (simp (← s .before .size .ensures, s .if1 .left, ← r .before .rate .ensures, r .if2 .left, eq-eqb _ _ (t .if3 .left)), c .before .before .fill .ensures)
@@ -73,7 +70,6 @@ prepare-spec =
     returns-2
     add-if3
     returns-3
-    power-table-requires
     fill-requires
     same-length
     returns-4)
