@@ -123,8 +123,7 @@ impl MaskWorkspace {
         if table.len() != fft_size / 2 + 1 {
             return Outcome::Refused(4, 0);
         }
-        let powers = power::table::power_table();
-        frequencies::fill(&powers, table, sample_rate, fft_size);
+        frequencies::fill(table, sample_rate, fft_size);
         Outcome::Done
     }
 }
