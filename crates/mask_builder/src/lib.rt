@@ -36,7 +36,17 @@ fn open_mono(
     if config.note_layer_enabled {
         let gaussians = gaussian::gaussian_table();
         let grid = lobes::grids::grid_of(powers, config);
-        openness::open_one(out, powers, sines, &gaussians, tabled, table, grid, voices, count);
+        openness::open_one(
+            out,
+            powers,
+            sines,
+            &gaussians,
+            tabled,
+            table,
+            grid,
+            voices,
+            count,
+        );
     } else {
         slices::fill(out, 0.0);
     }
@@ -60,7 +70,17 @@ fn open_sides(
     if config.note_layer_enabled {
         let gaussians = gaussian::gaussian_table();
         let grid = lobes::grids::grid_of(powers, config);
-        openness::open_two(left, right, powers, sines, &gaussians, table, grid, voices, count);
+        openness::open_two(
+            left,
+            right,
+            powers,
+            sines,
+            &gaussians,
+            table,
+            grid,
+            voices,
+            count,
+        );
     } else {
         slices::fill(left, 0.0);
         slices::fill(right, 0.0);

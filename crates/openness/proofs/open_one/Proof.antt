@@ -19,7 +19,7 @@ same-length : tie.Need-same-length
 same-length c = search needs
 
 returns : tie.Need-returns
-returns c = 
+returns c =
     let r = c .before .before .before .before in
     opened _ _ _ _ _ (r .before .before .before .before .before .before .shut .ensures) (r .raise-voices .ensures .0)
 

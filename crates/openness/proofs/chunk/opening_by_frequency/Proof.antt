@@ -16,7 +16,7 @@ opened-by-requires : tie.Need-opened-by-requires
 opened-by-requires c κs = search needs
 
 returns : tie.Need-returns
-returns c = 
+returns c =
     rw (opening-none _ _ _, ← c .before .before .before .distance-by-hertz .ensures, ← c .before .before .relative-square .ensures, ← c .before .exp .ensures) (c .opened-by .ensures)
 
 pub opening-by-frequency-spec : {M : Type 1} → statement M

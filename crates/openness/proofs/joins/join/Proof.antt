@@ -55,7 +55,7 @@ loop-less : tie.Need-loop-less Inv-loop μ-loop
 loop-less c = omega arith
 
 loop-again : tie.Need-loop-again Inv-loop μ-loop
-loop-again c = 
+loop-again c =
     let l = c .before .before .before .before .loop in
     (turned-next nan (l .inv .0) (omega arith) (c .joined .ensures), l .inv .1, inl (omega arith))
 
@@ -63,7 +63,7 @@ same-length : tie.Need-same-length Inv-loop μ-loop
 same-length c = c .before .loop .inv .0 .len
 
 returns : tie.Need-returns Inv-loop μ-loop
-returns c = 
+returns c =
     let l = c .before .loop in
     turned-within _ _ (l .inv .0) (l .inv .1) (l .inv .2) (omega arith)
 
