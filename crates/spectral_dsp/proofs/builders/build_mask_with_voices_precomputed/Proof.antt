@@ -1,72 +1,82 @@
+-- `build_mask_with_voices_precomputed` answers as its tests say, leaves the mask as it was where it refuses, and builds it where it is done. Assumes nothing.
+use mathlib.Core.Path.{_≡_, refl, sym, ap, _∙_}
+use lib.ListN.{length}
+use Rattle.answer.specs.Reply.{ofOutcome}
+use Rattle.spectral_dsp.proofs.MaskAccepted.{is-done, tabled-mask-accepted}
+use Rattle.spectral_dsp.proofs.MaskAnswers.{tabled-mask-answer}
 use borrow.Author.Needs.{needs}
 use Rattle.spectral_dsp.proofs.builders.build_mask_with_voices_precomputed.Statement.{
   statement,
 }
 use Rattle.spectral_dsp.proofs.builders.build_mask_with_voices_precomputed.Tie as tie
-use Rattle.spectral_dsp.proofs.builders.build_mask_with_voices_precomputed.Reads as reads
-use Rattle.spectral_dsp.proofs.builders.build_mask_with_voices_precomputed.Lts as lts
-use Rattle.mask_builder.proofs.build_one.Reads as build-one-reads
-use Rattle.scene.proofs.both.Reads as both-reads
-use Rattle.spectral_dsp.proofs.refusals.first.Reads as first-reads
-use Rattle.spectral_dsp.proofs.refusals.of_settings.Reads as of-settings-reads
-use Rattle.spectral_dsp.proofs.refusals.of_table.Reads as of-table-reads
-use Rattle.spectral_dsp.proofs.refusals.of_voices.Reads as of-voices-reads
 
--- src/builders.rt:110:16
 add-bins : tie.Need-add-bins
 add-bins c = search needs
 
--- src/builders.rt:113:9
 both-requires : tie.Need-both-requires
 both-requires c κs = search needs
 
--- src/builders.rt:111:9
 both-requires-2 : tie.Need-both-requires-2
 both-requires-2 c κs = search needs
 
--- src/builders.rt:118:23
 of-voices-requires : tie.Need-of-voices-requires
 of-voices-requires c κs = search needs
 
--- src/builders.rt:118:58
 of-table-requires : tie.Need-of-table-requires
 of-table-requires c κs = search needs
 
--- src/builders.rt:118:9
 first-requires : tie.Need-first-requires
 first-requires c κs = search needs
 
--- src/builders.rt:119:25
 of-settings-requires : tie.Need-of-settings-requires
 of-settings-requires c κs = search needs
 
--- src/builders.rt:119:9
 first-requires-2 : tie.Need-first-requires-2
 first-requires-2 c κs = search needs
 
--- src/builders.rt:121:26
 enum-known-outcome : tie.Need-enum-known-outcome
 enum-known-outcome c = search needs
 
--- src/builders.rt:123:23
 enum-told : tie.Need-enum-told
 enum-told c = search needs
 
--- src/builders.rt:123:13
 build-one-requires : tie.Need-build-one-requires
-build-one-requires c κs = ?
+build-one-requires c κs =
+    let told = c .before in
+    let k = told .before .before in
+    let v = k .before .before .before .before in
+    let a = v .before .before .before .before .before .before .before .args in
+    let e =
+        tabled-mask-answer (a .manual-mask-db .now) (a .config) (a .voices) (a .count) (a .table .now) (k .first2 .ensures) (k .before .of-settings .ensures) (k .before .before .first .ensures)
+        (v .of-voices .ensures) (k .before .before .before .of-table .ensures) (v .before .before .both .ensures) (length (a .output .now)) (v .before .both2 .ensures) in
+    let d = is-done _ (sym e ∙ ap ofOutcome (told .enum-told .given .1)) in
+    let f = tabled-mask-accepted (a .manual-mask-db .now) (a .config) (a .voices) (a .count) (a .table .now) (length (a .output .now)) d in
+    (f .0 .0, f .1, f .0 .1, f .3, (λ t. f .2))
 
--- src/builders.rt:99:1
 returns : tie.Need-returns
-returns c = ?
+returns c =
+    let k = c .before .before .before in
+    let v = k .before .before .before .before in
+    let a = v .before .before .before .before .before .before .before .args in
+    let e =
+        tabled-mask-answer (a .manual-mask-db .now) (a .config) (a .voices) (a .count) (a .table .now) (k .first2 .ensures) (k .before .of-settings .ensures) (k .before .before .first .ensures)
+        (v .of-voices .ensures) (k .before .before .before .of-table .ensures) (v .before .before .both .ensures) (length (a .output .now)) (v .before .both2 .ensures) in
+    (ap ofOutcome (sym (c .before .outcome .given .1)) ∙ e, refl)
 
--- src/builders.rt:99:1
 same-length : tie.Need-same-length
 same-length c = search needs
 
--- src/builders.rt:99:1
 returns-2 : tie.Need-returns-2
-returns-2 c = ?
+returns-2 c =
+    let built = c .before .before in
+    let told = built .before .before in
+    let k = told .before .before in
+    let v = k .before .before .before .before in
+    let a = v .before .before .before .before .before .before .before .args in
+    let e =
+        tabled-mask-answer (a .manual-mask-db .now) (a .config) (a .voices) (a .count) (a .table .now) (k .first2 .ensures) (k .before .of-settings .ensures) (k .before .before .first .ensures)
+        (v .of-voices .ensures) (k .before .before .before .of-table .ensures) (v .before .before .both .ensures) (length (a .output .now)) (v .before .both2 .ensures) in
+    (ap ofOutcome (sym (told .enum-told .given .1)) ∙ e, built .build-one .ensures)
 
 pub build-mask-with-voices-precomputed-spec : {M : Type 1} → statement M
 build-mask-with-voices-precomputed-spec =
