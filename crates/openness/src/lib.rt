@@ -31,9 +31,9 @@ pub fn open_one(
     gaussians: &GaussianTable,
     tabled: bool,
     table: &[f32],
-    grid: Grid,
     voices: [MaskVoice; 128],
     count: usize,
+    grid: Grid,
 )
     requires { ⌜ (now powers ≡ powerTable) × (now sines ≡ sineTable) × (now gaussians ≡ gaussianTable) × (grid .partials ≤ 24) × (grid .«last_bin» ≤ 2 ^ 24) × (tabled ≡ true → grid .«last_bin» < length (now table)) × (count ≤ 128) ⌝ }
     ensures { λ _. ⌜ now (out .exit) ≡ tabulate (length (now (out .entry))) (openness grid (logsOf tabled (now (table .entry))) side.mono (take count voices)) ⌝ }
@@ -65,9 +65,9 @@ pub fn open_two(
     sines: &SineTable,
     gaussians: &GaussianTable,
     table: &[f32],
-    grid: Grid,
     voices: [MaskVoice; 128],
     count: usize,
+    grid: Grid,
 )
     requires { ⌜ (now powers ≡ powerTable) × (now sines ≡ sineTable) × (now gaussians ≡ gaussianTable) × (grid .partials ≤ 24) × (grid .«last_bin» ≤ 2 ^ 24) × (grid .«last_bin» < length (now table)) × (count ≤ 128) ⌝ }
     ensures { λ _. ⌜ (now (left .exit) ≡ tabulate (length (now (left .entry))) (openness grid (lent (now (table .entry))) side.left (take count voices))) × (now (right .exit) ≡ tabulate (length (now (right .entry))) (openness grid (lent (now (table .entry))) side.right (take count voices))) ⌝ }
