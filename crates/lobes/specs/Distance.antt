@@ -30,6 +30,7 @@ abbrev pub octaves : Grid → Logs → Float → ℕ → Float
 octaves grid (lent table) center bin = sub binary32 (getD table bin nan) (L2 center)
 octaves grid none center bin = L2 (div binary32 (hertz (grid .«bin_hz») bin) center)
 
+-- octaves in widths, which are in cents
 abbrev pub inWidths : Float → Float → Float
 inWidths width octaves = div binary32 (mul binary32 CENTS-PER-OCTAVE octaves) width
 
