@@ -43,9 +43,9 @@ fn open_mono(
             &gaussians,
             tabled,
             table,
-            grid,
             voices,
             count,
+            grid,
         );
     } else {
         slices::fill(out, 0.0);
@@ -77,9 +77,9 @@ fn open_sides(
             sines,
             &gaussians,
             table,
-            grid,
             voices,
             count,
+            grid,
         );
     } else {
         slices::fill(left, 0.0);

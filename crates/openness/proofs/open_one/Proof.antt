@@ -1,3 +1,4 @@
+-- `open_one` joins the voices onto 0. Assumes nothing.
 use Rattle.openness.proofs.Opened.{opened}
 use borrow.Author.Needs.{needs}
 use Rattle.openness.proofs.open_one.Statement.{statement}

@@ -1,3 +1,4 @@
+-- `open_two` joins the voices onto 0 on both sides. Assumes nothing.
 use Rattle.openness.proofs.Opened.{opened}
 use borrow.Author.Needs.{needs}
 use Rattle.openness.proofs.open_two.Statement.{statement}

@@ -1,3 +1,4 @@
+-- `opening_by_frequency` is the lobe's opening without a table, of what its distance, relative square and bell ensure. Assumes nothing.
 use Rattle.openness.specs.Stages.{opening-none}
 use borrow.Author.Needs.{needs}
 use Rattle.openness.proofs.chunk.opening_by_frequency.Statement.{statement}

@@ -1,3 +1,4 @@
+-- `openings` is the two stages, one after the other, where a table was lent, and else each bin by its frequency. Assumes nothing.
 use mathlib.Core.Path.{_∙_}
 use Rattle.openness.proofs.Staged.{staged}
 use borrow.Author.Needs.{needs}

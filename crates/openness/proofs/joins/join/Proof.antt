@@ -1,12 +1,13 @@
+-- `join` joins every bin from `start` on and below `end` that there is: of those below the one at hand each is joined, and the others are as they were. Assumes nothing.
 use mathlib.Core.Path.{_≡_, refl}
 use mathlib.Core.Logic.{_⊎_, inl, inr}
 use Prim.Native.Nat.{_-_, _≤_, min}
-use lib.ListN.{length, getD}
 use native.Mathlib.Omega.{arith}
-use Rattle.lists.specs.Turned.{Turned, turned-none}
+use lib.ListN.{length, getD}
 use lib.Ieee.{nan}
-use Rattle.openness.proofs.Runs.{turned-within, turned-next}
+use Rattle.lists.specs.Turned.{Turned, turned-none}
 use Rattle.openness.specs.Openness.{joined}
+use Rattle.openness.proofs.Runs.{turned-within, turned-next}
 use borrow.Author.Needs.{needs}
 use Rattle.openness.proofs.joins.join.Statement.{statement}
 use Rattle.openness.proofs.joins.join.Tie as tie

@@ -1,3 +1,4 @@
+-- `raise_lobe` joins the lobe to both sides: on each every bin from the lobe's first on and below `start` is joined, and a chunk holds the openings of those that come next. Assumes nothing.
 use mathlib.Core.Path.{_≡_, refl, _∙_}
 use mathlib.Core.Logic.{_⊎_, inl, inr}
 use Prim.Native.Nat.{_+_, _-_, _≤_}
@@ -64,12 +65,13 @@ loop-again c =
     let n = o .before .before in
     let l = n .before .before in
     let s = l .before .before .before .before .before .before .before in
+    let logs = logsOf (s .args .tabled) (s .args .table .now) in
     let room : n .lesser .result ≤ length (l .loop .chunk) = omega (arith, n .lesser .ensures) in (
       l .loop .inv .0,
       o .openings .kept .0 ∙ l .loop .inv .1,
       inl (omega (arith, n .lesser .ensures)),
-      chunk-joined _ _ _ _ (l .loop .start) (n .lesser .result) (l .loop .chunk) _ room (o .openings .ensures) (l .loop .inv .3) (j1 .join .ensures),
-      chunk-joined _ _ _ _ (l .loop .start) (n .lesser .result) (l .loop .chunk) _ room (o .openings .ensures) (l .loop .inv .4) (j2 .join2 .ensures),
+      chunk-joined _ logs _ _ (l .loop .start) (n .lesser .result) (l .loop .chunk) _ room (o .openings .ensures) (l .loop .inv .3) (j1 .join .ensures),
+      chunk-joined _ logs _ _ (l .loop .start) (n .lesser .result) (l .loop .chunk) _ room (o .openings .ensures) (l .loop .inv .4) (j2 .join2 .ensures),
     )
 
 same-length : tie.Need-same-length Inv-loop μ-loop

@@ -1,3 +1,4 @@
+-- `raise_tone` joins the partials to both sides: joining those from the one at hand on, to what stands there now, is joining them all to what stood there. Assumes nothing.
 use mathlib.Core.Path.{_≡_, refl, sym, _∙_}
 use Prim.Native.Nat.{_+_, _-_, _≤_}
 use native.Mathlib.Omega.{arith}

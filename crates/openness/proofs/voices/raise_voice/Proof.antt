@@ -1,3 +1,4 @@
+-- `raise_voice` leaves both sides as they are where the voice is skipped, and else joins its tone by its gains. Assumes nothing.
 use Rattle.openness.proofs.EachVoice.{voice-skipped, voice-joined}
 use borrow.Author.Needs.{needs}
 use Rattle.openness.proofs.voices.raise_voice.Statement.{statement}
