@@ -1,0 +1,11 @@
+-- One mask against another, on every bin, as f32 compares: where the comparison holds neither number is a NaN. Both lists have the same bins. Assumes nothing.
+use mathlib.Core.List.{List}
+use lib.Dec.{T}
+use lib.Ieee.{Float, le, eq}
+use Rattle.lists.specs.Pairs.{All2}
+
+abbrev pub NotAbove : List Float → List Float → Type 0
+NotAbove = All2 (λ x y. T (le x y))
+
+abbrev pub EqualMasks : List Float → List Float → Type 0
+EqualMasks = All2 (λ x y. T (eq x y))
