@@ -1,0 +1,2 @@
+pub mod NoteLevels
+pub mod Channels
