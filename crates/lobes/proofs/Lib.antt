@@ -1,2 +1,4 @@
 pub mod NoteLevels
 pub mod Channels
+pub mod Harmonics
+pub mod Raised

@@ -51,7 +51,7 @@ whole-real : T (real binary32 (add binary32 LEAST-PRESSURE-GAIN PRESSURE-GAIN-RA
 unfolding ofBits fits add sum round size span climb units odd trailingZeros
 whole-real = tt
 
-at-most-one : (f : Format) (x : Float) → Upto f 0 x → T (le x bounds.one)
+pub at-most-one : (f : Format) (x : Float) → Upto f 0 x → T (le x bounds.one)
 at-most-one f x u =
     key→le f x bounds.one (real-number f x (u .is-real)) (real-number f bounds.one (bounds.real-one f))
     (omega (arith, size-nonneg f x (u .is-real) (u .low), u .high, bounds.mag-one f))
