@@ -3,3 +3,4 @@ pub mod Openings
 pub mod Gains
 pub mod Compensated
 pub mod Accepted
+pub mod ZeroSigns
