@@ -2,3 +2,4 @@ pub mod NoteLevels
 pub mod Channels
 pub mod Harmonics
 pub mod Raised
+pub mod ZeroSigns
