@@ -38,7 +38,7 @@ power-alone : {x y : Float} → Same x y → E2 x ≡ E2 y
 unfolding E2 powerOf powerAt moved interp powerTable isNan odd trailingZeros
 power-alone = through E2 refl
 
-gain-alone : {x y : Float} → Same x y → gainOf x ≡ gainOf y
+pub gain-alone : {x y : Float} → Same x y → gainOf x ≡ gainOf y
 gain-alone h = power-alone (same-mul binary32 (same-div binary32 _ h) same)
 
 square-alone : {x y : Float} → Same x y → square x ≡ square y
