@@ -1,0 +1,4 @@
+pub mod Acceptance
+pub mod Numbers
+pub mod Alike
+pub mod Law

@@ -1,0 +1,121 @@
+-- The chord law: where two stereo calls are accepted, on the same settings, table entries and curves without NaN, and each voice of A is matched by one of B and A's curve is nowhere above B's,
+-- then on every bin, left and right, A's mask is not above B's. Where B is beneath A too the masks are equal.
+-- A's mask is that on B's settings and table (`mask-same`); there each bin rises with the voices and with the curve (`mask-rises`). Assumes nothing.
+use mathlib.Core.Path.{_≡_, refl, sym, ap, _∙_, subst}
+use mathlib.Core.Bool.{Bool, true, false, _||_}
+use mathlib.Core.List.{List, [], _∷_}
+use Prim.Native.Nat.{ℕ, zero, suc, _/_, _+_, _≤_, _<_}
+use native.Mathlib.Omega.{arith}
+use lib.Dec.{T, leb, eqb, leb→le, eqb→eq}
+use lib.ListN.{length, getD}
+use lib.Ieee.{Float, nan, binary32, le, eq, lt, isNan}
+use lib.Ieee.Fits.{and-l, and-r}
+use Rattle.lists.specs.Tested.{every}
+use Rattle.lists.specs.Maps.{tabFrom}
+use Rattle.lists.specs.Pairs.{All2, none, more}
+use Rattle.float_laws.specs.Units.{number, real-number}
+use Rattle.float_laws.specs.Order.{fits-number, not-lt-f, le-antisymm-f, eq-sym-f}
+use Rattle.float_laws.specs.Rise.{Rise}
+use Rattle.limits.specs.Limits as limits
+use Rattle.scene.specs.declared.MaskVoice.{MaskVoice}
+use Rattle.scene.specs.declared.MaskConfig.{MaskConfig}
+use Rattle.scene.specs.Accepted.{noVoice, sizeAccepted, settingsAccepted}
+use Rattle.masks.specs.Manual.{MANUAL-MASK-POINTS, curvePoint, manualGain}
+use Rattle.masks.proofs.Points.{point-le}
+use Rattle.lobes.specs.Pan.{Side, left, right}
+use Rattle.lobes.specs.Distance.{lent}
+use Rattle.lobes.proofs.Raised.{BellUnit}
+use Rattle.openness.proofs.Opened.{RaisedIn}
+use Rattle.mask_builder.specs.Mask.{maskAt}
+use Rattle.mask_builder.proofs.Rising.{manual-rises, mask-rises}
+use Rattle.mask_builder.proofs.ZeroSigns.{mask-same}
+use Rattle.chord_law.specs.Calls.{Call, Accepted, F32Call, F32Settings, given, maskOn}
+use Rattle.chord_law.specs.Voices.{MatchedIn}
+use Rattle.chord_law.specs.Settings.{SameMotion, SameSettings, SameEntries}
+use Rattle.chord_law.specs.Curves.{NoNan, NowhereAbove}
+use Rattle.chord_law.specs.Masks.{NotAbove, EqualMasks, MasksNotAbove, MasksEqual}
+use Rattle.chord_law.specs.Premises.{Comparable, Beneath}
+use Rattle.chord_law.proofs.Acceptance.{size-accepted, settings-accepted, curve-length}
+use Rattle.chord_law.proofs.Numbers as numbers
+use Rattle.chord_law.proofs.Alike.{same-config, same-lengths, same-table, matched-raised}
+
+abbrev Risen : List Float → List Float → Type 0
+Risen = All2 (λ x y. Rise binary32 7 x y)
+
+rise-tab : (f g : ℕ → Float) → ((bin : ℕ) → Rise binary32 7 (f bin) (g bin)) → (j n : ℕ) → Risen (tabFrom f j n) (tabFrom g j n)
+unfolding tabFrom
+rise-tab f g h j zero = none
+rise-tab f g h j (suc n) = more (h j) (rise-tab f g h (suc j) n)
+
+-- ---- a size has bins above bin 0
+one-of-least : (ks : List ℕ) (m n i : ℕ) → T (every (λ j k. leb m k) i ks) → T (limits.oneOf ks n) → m ≤ n
+one-of-least [] m n i t o = absurd o
+one-of-least (k ∷ ks) m n i t o = go (eqb n k) (eqb→eq n k) (one-of-least ks m n (suc i) (and-r (leb m k) (every (λ j k. leb m k) (suc i) ks) t)) o
+  where
+    first : m ≤ k
+    first = leb→le m k (and-l (leb m k) (every (λ j k. leb m k) (suc i) ks) t)
+
+    go : (b : Bool) → (T b → n ≡ k) → (T (limits.oneOf ks n) → m ≤ n) → T (b || limits.oneOf ks n) → m ≤ n
+    go true e rest w = let z : n ≡ k = e tt in omega (arith, first)
+    go false e rest w = rest w
+
+some-bins : (n : ℕ) → T (limits.size n) → 1 ≤ n / 2
+some-bins n t = omega (arith, one-of-least (64 ∷ 128 ∷ 256 ∷ 512 ∷ 1024 ∷ 2048 ∷ 4096 ∷ 8192 ∷ 16384 ∷ []) 64 n 0 tt t)
+
+-- ---- a curve point
+curve-number : (call : Call) → Accepted call → F32Call call → NoNan (call .curve) → (i : ℕ) → i < MANUAL-MASK-POINTS → T (number binary32 (getD (call .curve) i nan))
+curve-number call p f n i h = fits-number binary32 (getD (call .curve) i nan) (f .curve i (rw (curve-length call p) h)) (n i h)
+
+module _ (g : BellUnit) (a b : Call) (c : Comparable a b) (u : Beneath a b) where
+  abbrev A : MaskConfig
+  A = a .config
+
+  abbrev B : MaskConfig
+  B = b .config
+
+  manual : (bin : ℕ) → Rise binary32 0 (manualGain (a .curve) bin (B .«fft_size»)) (manualGain (b .curve) bin (B .«fft_size»))
+  manual bin =
+      let i = curvePoint bin (B .«fft_size») in
+      let h : i < MANUAL-MASK-POINTS = omega (arith, point-le bin (B .«fft_size»)) in
+      let p = curve-number a (c .a-accepted) (c .a-numbers) (c .a-curve) i h in
+      let q = curve-number b (c .b-accepted) (c .b-numbers) (c .b-curve) i h in
+      manual-rises (a .curve) (b .curve) bin (B .«fft_size») p q (not-lt-f binary32 (getD (b .curve) i nan) (getD (a .curve) i nan) q p (u .curve i h))
+
+  raised : (i : ℕ) → i < length (given a) → RaisedIn (getD (given a) i noVoice) (given b)
+  raised i h =
+      let m = u .matched i h in
+      record {
+        place = m .place;
+        there = m .there;
+        above =
+            matched-raised (getD (given a) i noVoice) (getD (given b) (m .place) noVoice) (numbers.given-real a (c .a-accepted) (c .a-numbers) i h)
+            (numbers.given-real b (c .b-accepted) (c .b-numbers) (m .place) (m .there)) (m .matches);
+      }
+
+  module _ (side : Side) where
+    on-B : (bin : ℕ) → Rise binary32 7 (maskAt (a .curve) B (lent (b .table)) side (given a) bin) (maskAt (b .curve) B (lent (b .table)) side (given b) bin)
+    on-B bin =
+        mask-rises g B (numbers.real-settings B (size-accepted b (c .b-accepted)) (settings-accepted b (c .b-accepted)) (c .b-numbers .settings)) (b .table) side (given a) (given b)
+        (numbers.all-real a (c .a-accepted) (c .a-numbers)) (numbers.all-real b (c .b-accepted) (c .b-numbers)) raised (a .curve) (b .curve) bin (manual bin)
+
+    from-A : (bin : ℕ) → maskAt (a .curve) A (lent (a .table)) side (given a) bin ≡ maskAt (a .curve) B (lent (b .table)) side (given a) bin
+    from-A bin =
+        let s = size-accepted a (c .a-accepted) in
+        let t = settings-accepted a (c .a-accepted) in
+        mask-same A B
+        (same-config A B s (size-accepted b (c .b-accepted)) t (settings-accepted b (c .b-accepted)) (c .a-numbers .settings) (c .b-numbers .settings) (c .settings))
+        (a .table) (b .table) (some-bins (A .«fft_size») (numbers.size-within A s t (c .a-numbers .settings)))
+        (same-table a b (c .a-accepted) (c .b-accepted) (c .a-numbers) (c .b-numbers) (c .settings .size) (c .table)) side (a .curve) (given a) bin
+
+    pub masks-rise : Risen (maskOn side a) (maskOn side b)
+    masks-rise =
+        subst (λ (n : ℕ). Risen (maskOn side a) (tabFrom (maskAt (b .curve) B (lent (b .table)) side (given b)) 0 (n / 2 + 1))) (c .settings .size)
+        (rise-tab (maskAt (a .curve) A (lent (a .table)) side (given a)) (maskAt (b .curve) B (lent (b .table)) side (given b))
+        (λ bin. subst (λ (x : Float). Rise binary32 7 x (maskAt (b .curve) B (lent (b .table)) side (given b) bin)) (sym (from-A bin)) (on-B bin)) 0 (A .«fft_size» / 2 + 1))
+
+not-above : {xs ys : List Float} → Risen xs ys → NotAbove xs ys
+not-above none = none
+not-above (more r w) = more (r .up) (not-above w)
+
+pub chord-law : BellUnit → (a b : Call) → Comparable a b → Beneath a b → MasksNotAbove a b
+chord-law g a b c u = (not-above (masks-rise g a b c u left), not-above (masks-rise g a b c u right))
