@@ -14,7 +14,7 @@ use Rattle.lists.specs.Tested.{every}
 use Rattle.lists.specs.Maps.{tabFrom}
 use Rattle.lists.specs.Pairs.{All2, none, more}
 use Rattle.float_laws.specs.Units.{number, real-number}
-use Rattle.float_laws.specs.Order.{fits-number, not-lt-f, le-antisymm-f, eq-sym-f}
+use Rattle.float_laws.specs.Order.{fits-number, not-lt-f, le-antisymm-f}
 use Rattle.float_laws.specs.Rise.{Rise}
 use Rattle.limits.specs.Limits as limits
 use Rattle.scene.specs.declared.MaskVoice.{MaskVoice}
@@ -37,7 +37,8 @@ use Rattle.chord_law.specs.Masks.{NotAbove, EqualMasks, MasksNotAbove, M
 use Rattle.chord_law.specs.Premises.{Comparable, Beneath}
 use Rattle.chord_law.proofs.Acceptance.{size-accepted, settings-accepted, curve-length}
 use Rattle.chord_law.proofs.Numbers as numbers
-use Rattle.chord_law.proofs.Alike.{same-config, same-lengths, same-table, matched-raised}
+use Rattle.chord_law.proofs.Alike.{same-config, same-table, matched-raised}
+use Rattle.chord_law.proofs.Turned.{turned}
 
 abbrev Risen : List Float → List Float → Type 0
 Risen = All2 (λ x y. Rise binary32 7 x y)
@@ -119,3 +120,15 @@ not-above (more r w) = more (r .up) (not-above w)
 
 pub chord-law : BellUnit → (a b : Call) → Comparable a b → Beneath a b → MasksNotAbove a b
 chord-law g a b c u = (not-above (masks-rise g a b c u left), not-above (masks-rise g a b c u right))
+
+-- ---- equal masks, by the law twice
+equal-masks : {xs ys : List Float} → Risen xs ys → Risen ys xs → EqualMasks xs ys
+equal-masks none none = none
+equal-masks (more {x} {y} r w) (more r' w') =
+    more (le-antisymm-f binary32 x y (real-number binary32 x (r .from .is-real)) (real-number binary32 y (r .to .is-real)) (r .up) (r' .up)) (equal-masks w w')
+
+pub chord-law-equal : BellUnit → (a b : Call) → Comparable a b → Beneath a b → Beneath b a → MasksEqual a b
+chord-law-equal g a b c u v = (both left, both right)
+  where
+    both : (side : Side) → EqualMasks (maskOn side a) (maskOn side b)
+    both side = equal-masks (masks-rise g a b c u side) (masks-rise g b a (turned a b c) v side)

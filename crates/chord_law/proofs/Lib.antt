@@ -1,4 +1,5 @@
 pub mod Acceptance
 pub mod Numbers
 pub mod Alike
+pub mod Turned
 pub mod Law
