@@ -1,3 +1,6 @@
+pub mod Closest
+pub mod Balances
+pub mod Gains
 pub mod NoteLevels
 pub mod Channels
 pub mod Harmonics
