@@ -25,7 +25,7 @@ use Rattle.masks.proofs.Points.{point-le}
 use Rattle.lobes.specs.Pan.{Side, left, right}
 use Rattle.lobes.specs.Distance.{lent}
 use Rattle.lobes.proofs.Raised.{BellUnit}
-use Rattle.openness.proofs.Opened.{RaisedIn}
+use Rattle.openness.proofs.RaisedVoices.{RaisedIn}
 use Rattle.mask_builder.specs.Mask.{maskAt}
 use Rattle.mask_builder.proofs.Rising.{manual-rises, mask-rises}
 use Rattle.mask_builder.proofs.ZeroSigns.{mask-same}

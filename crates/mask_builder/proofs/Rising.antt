@@ -30,7 +30,7 @@ use Rattle.lobes.specs.Grid.{gridOf}
 use Rattle.lobes.specs.Pan.{Side}
 use Rattle.lobes.specs.Distance.{lent}
 use Rattle.lobes.proofs.Raised.{BellUnit}
-use Rattle.openness.proofs.Opened.{Fair, RaisedIn, nothing-open, openness-rises}
+use Rattle.openness.proofs.RaisedVoices.{Fair, RaisedIn, nothing-open, openness-rises}
 use Rattle.mask_builder.specs.Mask.{motionAt, gateAt, opennessAt, maskAt}
 
 -- the settings, as far as these laws ask for them

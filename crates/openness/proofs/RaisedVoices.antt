@@ -27,7 +27,7 @@ use Rattle.lobes.specs.Lobe.{lobeOf, opening}
 use Rattle.lobes.proofs.NoteLevels.{zero-is}
 use Rattle.lobes.proofs.Raised.{Raised, BellUnit, same-bins, opened-rises}
 use Rattle.openness.specs.Openness.{SKIPPED-LEVEL, lobeJoined, partialsOf, toneJoined, voiceJoined, openness}
-use Rattle.openness.proofs.Joins.{Openness, Join, le-join, FitWhere, BelowWhere, where-join, AllBelow, fold-join}
+use Rattle.openness.proofs.Maxima.{Openness, Join, le-join, FitWhere, BelowWhere, where-join, AllBelow, fold-join}
 use Rattle.openness.proofs.Entries.{all-range, all-until, all-weaken, all-both, all-places}
 
 pub raised-self : (a : MaskVoice) → RealVoice a → Raised a a
