@@ -24,7 +24,6 @@ use Rattle.masks.specs.Manual.{MANUAL-MASK-POINTS, curvePoint, manualGain}
 use Rattle.masks.proofs.Points.{point-le}
 use Rattle.lobes.specs.Pan.{Side, left, right}
 use Rattle.lobes.specs.Distance.{lent}
-use Rattle.lobes.proofs.Raised.{BellUnit}
 use Rattle.openness.proofs.RaisedVoices.{RaisedIn}
 use Rattle.mask_builder.specs.Mask.{maskAt}
 use Rattle.mask_builder.proofs.Rising.{manual-rises, mask-rises}
@@ -67,7 +66,7 @@ some-bins n t = omega (arith, one-of-least (64 ∷ 128 ∷ 256 ∷ 512 ∷ 1024 
 curve-number : (call : Call) → Accepted call → F32Call call → NoNan (call .curve) → (i : ℕ) → i < MANUAL-MASK-POINTS → T (number binary32 (getD (call .curve) i nan))
 curve-number call p f n i h = fits-number binary32 (getD (call .curve) i nan) (f .curve i (rw (curve-length call p) h)) (n i h)
 
-module _ (g : BellUnit) (a b : Call) (c : Comparable a b) (u : Beneath a b) where
+module _ (a b : Call) (c : Comparable a b) (u : Beneath a b) where
   abbrev A : MaskConfig
   A = a .config
 
@@ -96,7 +95,7 @@ module _ (g : BellUnit) (a b : Call) (c : Comparable a b) (u : Beneath a b) wher
   module _ (side : Side) where
     on-B : (bin : ℕ) → Rise binary32 7 (maskAt (a .curve) B (lent (b .table)) side (given a) bin) (maskAt (b .curve) B (lent (b .table)) side (given b) bin)
     on-B bin =
-        mask-rises g B (numbers.real-settings B (size-accepted b (c .b-accepted)) (settings-accepted b (c .b-accepted)) (c .b-numbers .settings)) (b .table) side (given a) (given b)
+        mask-rises B (numbers.real-settings B (size-accepted b (c .b-accepted)) (settings-accepted b (c .b-accepted)) (c .b-numbers .settings)) (b .table) side (given a) (given b)
         (numbers.all-real a (c .a-accepted) (c .a-numbers)) (numbers.all-real b (c .b-accepted) (c .b-numbers)) raised (a .curve) (b .curve) bin (manual bin)
 
     from-A : (bin : ℕ) → maskAt (a .curve) A (lent (a .table)) side (given a) bin ≡ maskAt (a .curve) B (lent (b .table)) side (given a) bin
@@ -118,8 +117,8 @@ not-above : {xs ys : List Float} → Risen xs ys → NotAbove xs ys
 not-above none = none
 not-above (more r w) = more (r .up) (not-above w)
 
-pub chord-law : BellUnit → (a b : Call) → Comparable a b → Beneath a b → MasksNotAbove a b
-chord-law g a b c u = (not-above (masks-rise g a b c u left), not-above (masks-rise g a b c u right))
+pub chord-law : (a b : Call) → Comparable a b → Beneath a b → MasksNotAbove a b
+chord-law a b c u = (not-above (masks-rise a b c u left), not-above (masks-rise a b c u right))
 
 -- ---- equal masks, by the law twice
 equal-masks : {xs ys : List Float} → Risen xs ys → Risen ys xs → EqualMasks xs ys
@@ -127,8 +126,8 @@ equal-masks none none = none
 equal-masks (more {x} {y} r w) (more r' w') =
     more (le-antisymm-f binary32 x y (real-number binary32 x (r .from .is-real)) (real-number binary32 y (r .to .is-real)) (r .up) (r' .up)) (equal-masks w w')
 
-pub chord-law-equal : BellUnit → (a b : Call) → Comparable a b → Beneath a b → Beneath b a → MasksEqual a b
-chord-law-equal g a b c u v = (both left, both right)
+pub chord-law-equal : (a b : Call) → Comparable a b → Beneath a b → Beneath b a → MasksEqual a b
+chord-law-equal a b c u v = (both left, both right)
   where
     both : (side : Side) → EqualMasks (maskOn side a) (maskOn side b)
-    both side = equal-masks (masks-rise g a b c u side) (masks-rise g b a (turned a b c) v side)
+    both side = equal-masks (masks-rise a b c u side) (masks-rise b a (turned a b c) v side)

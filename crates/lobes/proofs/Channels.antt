@@ -1,28 +1,24 @@
 -- The gain of what a voice opens never falls as its expression rises, and is from 0 to 8: the expression is at most 4 and a balance, never negative, at most 2. Assumes nothing.
-use mathlib.Core.Path.{_≡_, refl, sym, subst}
-use mathlib.Core.Bool.{Bool, true, false, cond}
-use Prim.Native.Nat.{_≤_}
+use mathlib.Core.Path.{_≡_, refl}
+use mathlib.Core.Bool.{true}
 use native.Mathlib.Nat.{le-trans, le-of-eq}
 use lib.Dec.{T, lit≤}
 use lib.Count.{trailingZeros}
-use lib.Ieee.{Float, nan, inf, fin, binary32, fits, le, eq, mul, add, neg, odd, ofBits, ofFields}
-use lib.Ieee.Bits.{is-true}
-use Rattle.float_laws.specs.Units.{mag, number, real, real-number}
+use lib.Ieee.{Float, nan, inf, fin, binary32, fits, le, odd, ofBits, ofFields}
+use Rattle.float_laws.specs.Units.{number, real, real-number}
 use Rattle.float_laws.specs.Order as order
 use Rattle.float_laws.specs.Round.{plus-zero}
 use Rattle.float_laws.specs.Mono.{sizes}
-use Rattle.float_laws.specs.Bounds as bounds
 use Rattle.float_laws.specs.Bounds.{real-between}
 use Rattle.float_laws.specs.Power.{power, mag-power, real-power}
-use Rattle.float_laws.specs.Rise.{Upto, Rise, upto-weaken, rise-refl, rise-mul}
+use Rattle.float_laws.specs.Rise.{Upto, Rise, rise-refl, rise-mul}
 use Rattle.float32.specs.Order.{clamp, finite}
-use Rattle.float32.specs.Remainder.{zero, one}
 use Rattle.float32.proofs.OrderAgrees.{clamp-agrees}
-use Rattle.sine.proofs.Pan as pan
 use Rattle.scene.specs.declared.MaskVoice.{MaskVoice}
 use Rattle.scene.proofs.Voices.{RealVoice}
-use Rattle.lobes.specs.Pan.{Side, mono, left, right, HARD-LEFT, HARD-RIGHT, MAX-EXPRESSION-GAIN, leftBalance, rightBalance, sided, balance, panOf, expressionOf, channelGain}
-use Rattle.lobes.proofs.NoteLevels.{zero-is, one-is}
+use Rattle.lobes.specs.Pan.{Side, HARD-LEFT, HARD-RIGHT, MAX-EXPRESSION-GAIN, balance, panOf, expressionOf, channelGain}
+use Rattle.lobes.proofs.NoteLevels.{zero-is}
+use Rattle.lobes.proofs.Balances.{balance-upto}
 
 real-finite : (x : Float) → T (real binary32 x) → finite x ≡ true
 unfolding finite
@@ -73,57 +69,36 @@ expression-rises a b u v h =
 -- ---- the balance of a pan in -1..1
 record InPan (x : Float) : Type 0 where
   is-real : T (real binary32 x)
-  least : T (le (neg bounds.one) x)
-  most : T (le x bounds.one)
+  least : T (le HARD-LEFT x)
+  most : T (le x HARD-RIGHT)
 
-ends-are : (HARD-LEFT ≡ neg bounds.one) × (HARD-RIGHT ≡ bounds.one)
-unfolding ofBits ofFields odd trailingZeros neg
-ends-are = (refl, refl)
-
-left-real : T (real binary32 (neg bounds.one)) × T (number binary32 (neg bounds.one)) × T (le (neg bounds.one) bounds.one) × T (real binary32 bounds.one)
-unfolding fits neg le
-left-real = (tt, tt, tt, tt)
+pan-ends : T (real binary32 HARD-LEFT) × T (real binary32 HARD-RIGHT) × T (le HARD-LEFT HARD-RIGHT)
+unfolding ofBits ofFields odd trailingZeros fits le
+pan-ends = (tt, tt, tt)
 
 clamped-pan : (x : Float) → T (real binary32 x) → InPan (clamp HARD-LEFT HARD-RIGHT x)
 clamped-pan x p =
-    let lo = neg bounds.one in
-    let e = left-real in
+    let e = pan-ends in
     let n = real-number binary32 x p in
-    let o = real-number binary32 bounds.one (e .3) in
-    let c = order.clamp-number binary32 lo bounds.one (e .1) o (e .2) x n in
-    let a = order.clamp-low binary32 lo bounds.one (e .1) o (e .2) x n in
-    let b = order.clamp-high binary32 lo bounds.one (e .1) o (e .2) x n in
-    rw (ends-are .0, ends-are .1, clamp-agrees lo bounds.one x)
-    (record { is-real = real-between binary32 lo (order.clamp lo bounds.one x) bounds.one c (e .0) (e .3) a b; least = a; most = b })
+    let l = real-number binary32 HARD-LEFT (e .0) in
+    let r = real-number binary32 HARD-RIGHT (e .1) in
+    let c = order.clamp-number binary32 HARD-LEFT HARD-RIGHT l r (e .2) x n in
+    let a = order.clamp-low binary32 HARD-LEFT HARD-RIGHT l r (e .2) x n in
+    let b = order.clamp-high binary32 HARD-LEFT HARD-RIGHT l r (e .2) x n in
+    rw (clamp-agrees HARD-LEFT HARD-RIGHT x)
+    (record { is-real = real-between binary32 HARD-LEFT (order.clamp HARD-LEFT HARD-RIGHT x) HARD-RIGHT c (e .0) (e .1) a b; least = a; most = b })
 
 pub pan-is : (voice : MaskVoice) → T (real binary32 (voice .pan)) → panOf voice ≡ clamp HARD-LEFT HARD-RIGHT (voice .pan)
 pan-is voice p = rw (real-finite (voice .pan) p) refl
 
-nothing : Upto binary32 1 zero
-unfolding ofBits fits le mag
-nothing = record { is-real = tt; low = tt; high = lit≤ tt }
-
-unity : Upto binary32 1 one
-unfolding ofBits fits le mag
-unity = record { is-real = tt; low = tt; high = lit≤ tt }
-
-either : (b : Bool) {x y : Float} → Upto binary32 1 x → Upto binary32 1 y → Upto binary32 1 (cond b x y)
-either true u v = u
-either false u v = v
-
-sided-upto : (side : Side) (x : Float) → InPan x → Upto binary32 1 (sided side x)
-sided-upto mono x p = unity
-sided-upto left x p = either (eq x HARD-RIGHT) nothing (rw one-is (pan.left-not-negative x (p .is-real) (p .least) (p .most)))
-sided-upto right x p = either (eq x HARD-LEFT) nothing (rw one-is (pan.right-not-negative x (p .is-real) (p .least) (p .most)))
-
-pub balance-upto : (side : Side) (voice : MaskVoice) → RealVoice voice → Upto binary32 1 (balance side (panOf voice))
-unfolding balance
-balance-upto side voice u =
-    rw (pan-is voice (u .pan-real)) (let x = clamp HARD-LEFT HARD-RIGHT (voice .pan) in either (eq x zero) unity (sided-upto side x (clamped-pan (voice .pan) (u .pan-real))))
+pub voice-balance-upto : (side : Side) (voice : MaskVoice) → RealVoice voice → Upto binary32 1 (balance side (panOf voice))
+voice-balance-upto side voice u =
+    let c = clamped-pan (voice .pan) (u .pan-real) in
+    rw (pan-is voice (u .pan-real)) (balance-upto (clamp HARD-LEFT HARD-RIGHT (voice .pan)) (c .is-real) (c .least) (c .most) side)
 
 -- ---- both
 pub channel-gain-rises : (side : Side) (a b : MaskVoice) → RealVoice a → RealVoice b → balance side (panOf a) ≡ balance side (panOf b) → T (le (a .«expression_gain») (b .«expression_gain»))
     → Rise binary32 3 (channelGain side a) (channelGain side b)
 unfolding channelGain
 channel-gain-rises side a b u v same h =
-    rw same (rise-mul binary32 2 1 (lit≤ tt) (expression-rises a b u v h) (rise-refl binary32 (balance-upto side b v)))
+    rw same (rise-mul binary32 2 1 (lit≤ tt) (expression-rises a b u v h) (rise-refl binary32 (voice-balance-upto side b v)))

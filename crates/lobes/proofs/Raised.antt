@@ -15,7 +15,7 @@ use Rattle.float32.specs.Order.{maximum, clamp}
 use Rattle.float32.specs.Powers.{square}
 use Rattle.float32.specs.Remainder.{zero, one}
 use Rattle.float32.proofs.OrderAgrees.{clamp-agrees, maximum-nan-first, maximum-larger}
-use Rattle.gaussian.specs.Bell.{gaussian}
+use Rattle.gaussian.proofs.InUnit.{gaussian-in-unit}
 use Rattle.scene.specs.declared.MaskVoice.{MaskVoice}
 use Rattle.scene.proofs.Voices.{RealVoice}
 use Rattle.lobes.specs.declared.Grid.{Grid}
@@ -37,10 +37,6 @@ pub record Raised (a b : MaskVoice) : Type 0 where
   pub pressure : T (le (a .pressure) (b .pressure))
   pub expression : T (le (a .«expression_gain») (b .«expression_gain»))
 
--- what the table's bell is, of every number
-abbrev pub BellUnit : Type 0
-BellUnit = (square : Float) → T (number binary32 square) → Upto binary32 0 (gaussian square)
-
 -- ---- the relative square is a number: where a distance overflows, maximum gives 0 for NaN
 from-zero : (x : Float) → T (fits binary32 x) → T (number binary32 (maximum x zero))
 unfolding fits
@@ -52,15 +48,15 @@ square-number : (grid : Grid) (logs : Logs) (lobe : Lobe) (bin : ℕ) → T (num
 unfolding relativeSquare
 square-number grid logs lobe bin = from-zero _ (sub-fits binary32 (square (distance grid logs (lobe .center) bin)) (lobe .«peak_squared»))
 
-bell-unit : BellUnit → (grid : Grid) (table : List Float) (lobe : Lobe) (bin : ℕ) → Upto binary32 0 (bell (lent table) (relativeSquare grid (lent table) lobe bin))
+bell-unit : (grid : Grid) (table : List Float) (lobe : Lobe) (bin : ℕ) → Upto binary32 0 (bell (lent table) (relativeSquare grid (lent table) lobe bin))
 unfolding bell
-bell-unit g grid table lobe bin = g _ (square-number grid (lent table) lobe bin)
+bell-unit grid table lobe bin = gaussian-in-unit _ (square-number grid (lent table) lobe bin)
 
 clamp-rises : {x y : Float} → Up binary32 x y → Rise binary32 0 (clamp zero one x) (clamp zero one y)
 clamp-rises {x} {y} u = rw (zero-is, one-is, clamp-agrees plus-zero _ x, clamp-agrees plus-zero _ y) (up-clamp binary32 u)
 
 -- ---- a partial of the two voices
-module _ (g : BellUnit) (grid : Grid) (table : List Float) (r : T (real binary32 (grid .rolloff))) (side : Side) (a b : MaskVoice) (u : RealVoice a) (v : RealVoice b) (h : Raised a b)
+module _ (grid : Grid) (table : List Float) (r : T (real binary32 (grid .rolloff))) (side : Side) (a b : MaskVoice) (u : RealVoice a) (v : RealVoice b) (h : Raised a b)
     (partial : ℕ) (least : 1 ≤ partial) (most : partial ≤ 24) where
   abbrev lobe : MaskVoice → Lobe
   lobe voice = lobeOf grid (lent table) (toneOf grid voice) partial
@@ -82,7 +78,7 @@ module _ (g : BellUnit) (grid : Grid) (table : List Float) (r : T (real binary32
 
   opening-rises : (bin : ℕ) → Rise binary32 0 (opening grid (lent table) (lobe a) bin) (opening grid (lent table) (lobe b) bin)
   unfolding opening
-  opening-rises bin = rw (same-square bin) (clamp-rises (up-scale binary32 strength-rises (rise-refl binary32 (bell-unit g grid table (lobe b) bin))))
+  opening-rises bin = rw (same-square bin) (clamp-rises (up-scale binary32 strength-rises (rise-refl binary32 (bell-unit grid table (lobe b) bin))))
 
   pub opened-rises : (bin : ℕ)
       → Rise binary32 3 (mul binary32 (opening grid (lent table) (lobe a) bin) (channelGain side a)) (mul binary32 (opening grid (lent table) (lobe b) bin) (channelGain side b))

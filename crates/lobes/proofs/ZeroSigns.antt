@@ -4,8 +4,7 @@
 use mathlib.Core.Path.{_≡_, refl, sym, ap, _∙_, subst}
 use mathlib.Core.Bool.{Bool, true, false, cond}
 use mathlib.Core.List.{List}
-use Prim.Native.Nat.{ℕ, _+_, _≤_, min, max}
-use native.Mathlib.Nat.{le-trans}
+use Prim.Native.Nat.{ℕ, _≤_}
 use native.Mathlib.Omega.{arith}
 use lib.IntN.{pos}
 use lib.Count.{trailingZeros}
@@ -17,7 +16,6 @@ use Rattle.float32.specs.Order.{maximum, clamp, finite}
 use Rattle.float32.specs.Powers.{square}
 use Rattle.float32.specs.Remainder.{zero, one}
 use Rattle.float32.specs.Value.{moved}
-use Rattle.float32.specs.Counts.{floorCount}
 use Rattle.power.specs.Table.{powerTable}
 use Rattle.power.specs.Power.{powerAt, powerOf, E2}
 use Rattle.power.specs.Log.{L2}
@@ -30,8 +28,9 @@ use Rattle.lobes.specs.Grid.{half}
 use Rattle.lobes.specs.Pan.{Side, HARD-LEFT, HARD-RIGHT, balance, panOf}
 use Rattle.lobes.specs.Tone.{TIMBRE-RANGE-DB, MAX-ROLLOFF-DB, noteLevel, timbreRolloff, fundamentalOf, toneOf, centerOf, harmonicGain}
 use Rattle.lobes.specs.Distance.{Logs, lent, distance, bell}
-use Rattle.lobes.specs.Peak.{closestBin, cents}
+use Rattle.lobes.specs.Peak.{closestBin}
 use Rattle.lobes.specs.Lobe.{firstBin, lastBin, lobeOf, relativeSquare, opening}
+use Rattle.lobes.proofs.Closest.{closest-le, closest-pos}
 
 -- ---- functions of the value alone
 power-alone : {x y : Float} → Same x y → E2 x ≡ E2 y
@@ -78,16 +77,6 @@ harmonic-same : {r r' : Float} → Same r r' → (partial : ℕ) → harmonicGai
 unfolding harmonicGain
 harmonic-same h partial = gain-alone (same-mul binary32 (same-neg binary32 h) same)
 
--- ---- the peak bin is one of 1..last
-module _ (center spacing : Float) (last : ℕ) (h : 1 ≤ last) where
-  pub peak-bin : (1 ≤ closestBin center spacing last) × (closestBin center spacing last ≤ last)
-  unfolding closestBin
-  peak-bin = go (lt _ _) (floorCount (div binary32 center spacing))
-    where
-      go : (c : Bool) (n : ℕ) → (1 ≤ cond c (min (min (max n 1) last + 1) last) (min (max n 1) last)) × (cond c (min (min (max n 1) last + 1) last) (min (max n 1) last) ≤ last)
-      go true n = (omega arith, omega arith)
-      go false n = (omega arith, omega arith)
-
 -- ---- two grids that differ at most in the sign of a zero rolloff, and two tables with equal entries on the bins 1..last
 pub record SameGrid (g h : Grid) : Type 0 where
   pub nyquist : g .nyquist ≡ h .nyquist
@@ -128,8 +117,7 @@ module _ (g h : Grid) (w : SameGrid g h) (s t : List Float) (some : 1 ≤ g .«l
 
     peak-same : square (distance g (lent s) center (closestBin center (g .«bin_hz») (g .«last_bin»))) ≡ square (distance h (lent t) center (closestBin center (h .«bin_hz») (h .«last_bin»)))
     peak-same =
-        let p = peak-bin center (g .«bin_hz») (g .«last_bin») some in
-        square-same center (closestBin center (g .«bin_hz») (g .«last_bin»)) (p .0) (p .1)
+        square-same center (closestBin center (g .«bin_hz») (g .«last_bin»)) (closest-pos center (g .«bin_hz») (g .«last_bin») some) (closest-le center (g .«bin_hz») (g .«last_bin»))
         ∙ rw (w .bin-hz, w .last-bin) refl
 
     pub lobe-same : lobeOf g (lent s) (toneOf g voice) partial ≡ lobeOf h (lent t) (toneOf h voice) partial

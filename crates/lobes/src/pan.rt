@@ -18,7 +18,7 @@ const MAX_EXPRESSION_GAIN: f32 = 4.0;
 // The balance of a mono mask.
 const UNITY: f32 = 1.0;
 
-fn pan_of(voice: MaskVoice) -> f32
+pub fn pan_of(voice: MaskVoice) -> f32
     ensures { λ r. ⌜ r ≡ panOf voice ⌝ }
 {
     let pan = voice.pan;

@@ -29,9 +29,8 @@ use Rattle.motion.proofs.Compensated.{compensated-gain-upto}
 use Rattle.lobes.specs.Grid.{gridOf}
 use Rattle.lobes.specs.Pan.{Side}
 use Rattle.lobes.specs.Distance.{lent}
-use Rattle.lobes.proofs.Raised.{BellUnit}
 use Rattle.openness.proofs.RaisedVoices.{Fair, RaisedIn, nothing-open, openness-rises}
-use Rattle.mask_builder.specs.Mask.{motionAt, gateAt, opennessAt, maskAt}
+use Rattle.mask_builder.specs.Mask.{motionAt, gateAt, opennessAt, ceilingAt, maskAt}
 
 -- the settings, as far as these laws ask for them
 pub record RealSettings (config : MaskConfig) : Type 0 where
@@ -94,11 +93,11 @@ fair-grid config c = record { rolloff = c .rolloff; few = few (config .partials)
     few : (n : ℕ) → min (max n 1) 24 ≤ 24
     few n = omega arith
 
-module _ (g : BellUnit) (config : MaskConfig) (c : RealSettings config) (table : List Float) (side : Side) (xs ys : List MaskVoice) (u : All RealVoice xs) (v : All RealVoice ys)
+module _ (config : MaskConfig) (c : RealSettings config) (table : List Float) (side : Side) (xs ys : List MaskVoice) (u : All RealVoice xs) (v : All RealVoice ys)
     (m : (i : ℕ) → i < length xs → RaisedIn (getD xs i noVoice) ys) where
   pub openness-at-rises : (bin : ℕ) → Rise binary32 3 (opennessAt config (lent table) side xs bin) (opennessAt config (lent table) side ys bin)
   unfolding opennessAt
-  openness-at-rises bin = go (config .«note_layer_enabled») (openness-rises g (gridOf config) (fair-grid config c) table side bin xs ys u v m)
+  openness-at-rises bin = go (config .«note_layer_enabled») (openness-rises (gridOf config) (fair-grid config c) table side bin xs ys u v m)
     where
       go : (b : Bool) {x y : Float} → Rise binary32 3 x y → Rise binary32 3 (cond b x zero) (cond b y zero)
       go true r = r
@@ -107,6 +106,6 @@ module _ (g : BellUnit) (config : MaskConfig) (c : RealSettings config) (table :
   -- ---- the product
   pub mask-rises : (a b : List Float) (bin : ℕ) → Rise binary32 0 (manualGain a bin (config .«fft_size»)) (manualGain b bin (config .«fft_size»))
       → Rise binary32 7 (maskAt a config (lent table) side xs bin) (maskAt b config (lent table) side ys bin)
-  unfolding maskAt
+  unfolding maskAt ceilingAt
   mask-rises a b bin h =
       rise-mul binary32 2 5 (lit≤ tt) (rise-mul binary32 0 2 (lit≤ tt) h (rise-refl binary32 (motion-upto config bin c))) (gate-rises config c (openness-at-rises bin))

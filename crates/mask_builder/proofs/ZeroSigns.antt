@@ -23,7 +23,7 @@ use Rattle.lobes.specs.Distance.{lent}
 use Rattle.lobes.proofs.ZeroSigns.{SameGrid, SameTable, gain-alone}
 use Rattle.openness.specs.Openness.{openness}
 use Rattle.openness.proofs.ZeroSigns.{openness-same}
-use Rattle.mask_builder.specs.Mask.{motionAt, gateAt, opennessAt, maskAt}
+use Rattle.mask_builder.specs.Mask.{motionAt, gateAt, opennessAt, ceilingAt, maskAt}
 
 -- rate and width are above 0, so that equal ones are the same
 pub record SameConfig (a b : MaskConfig) : Type 0 where
@@ -87,6 +87,6 @@ module _ (a b : MaskConfig) (c : SameConfig a b) where
         ∙ ap (λ (x : Float). cond (b .«note_layer_enabled») x zero) (unfold gridOf in openness-same (gridOf a) (gridOf b) same-grid s t some e side bin voices)
 
     pub mask-same : (curve : List Float) (voices : List MaskVoice) (bin : ℕ) → maskAt curve a (lent s) side voices bin ≡ maskAt curve b (lent t) side voices bin
-    unfolding maskAt
+    unfolding maskAt ceilingAt
     mask-same curve voices bin =
         rw (motion-at-same bin, openness-at-same voices bin, gate-at-same (opennessAt b (lent t) side voices bin), c .size) refl

@@ -32,9 +32,16 @@ gateAt config opened = cond (config .«note_layer_enabled») (gateGain (floorGai
 unfoldable pub opennessAt : MaskConfig → Logs → Side → List MaskVoice → ℕ → Float
 opennessAt config logs side voices bin = cond (config .«note_layer_enabled») (openness (gridOf config) logs side voices bin) zero
 
+-- the drawn curve's gain times the moving field's: what a bin gets at most where the gate is 1
+unfoldable pub ceilingAt : List Float → MaskConfig → ℕ → Float
+ceilingAt curve config bin = mul binary32 (manualGain curve bin (config .«fft_size»)) (motionAt config bin)
+
+-- the gain of a bin, from its openness
+abbrev pub gainAt : List Float → MaskConfig → ℕ → Float → Float
+gainAt curve config bin opened = mul binary32 (ceilingAt curve config bin) (gateAt config opened)
+
 unfoldable pub maskAt : List Float → MaskConfig → Logs → Side → List MaskVoice → ℕ → Float
-maskAt curve config logs side voices bin =
-    mul binary32 (mul binary32 (manualGain curve bin (config .«fft_size»)) (motionAt config bin)) (gateAt config (opennessAt config logs side voices bin))
+maskAt curve config logs side voices bin = gainAt curve config bin (opennessAt config logs side voices bin)
 
 -- all of its size/2 + 1 bins
 abbrev pub maskOf : List Float → MaskConfig → Logs → Side → List MaskVoice → List Float

@@ -1,5 +1,5 @@
 -- The openness of a bin under a list of voices: it is an openness, every lobe is at most it, and it is at most every openness that no lobe is above. So it does not depend on the order of
--- the voices, nor falls where each voice has one raised above it. A bell from 0 to 1 is all that is asked of the Gaussian table. Assumes nothing.
+-- the voices, nor falls where each voice has one raised above it. Assumes nothing.
 use mathlib.Core.Path.{_≡_, refl, sym, ap, subst, subst₂}
 use mathlib.Core.Bool.{Bool, true, false, not, cond, _&&_}
 use mathlib.Core.List.{List}
@@ -25,7 +25,7 @@ use Rattle.lobes.specs.Tone.{toneOf}
 use Rattle.lobes.specs.Distance.{lent}
 use Rattle.lobes.specs.Lobe.{lobeOf, opening}
 use Rattle.lobes.proofs.NoteLevels.{zero-is}
-use Rattle.lobes.proofs.Raised.{Raised, BellUnit, same-bins, opened-rises}
+use Rattle.lobes.proofs.Raised.{Raised, same-bins, opened-rises}
 use Rattle.openness.specs.Openness.{SKIPPED-LEVEL, lobeJoined, partialsOf, toneJoined, voiceJoined, openness}
 use Rattle.openness.proofs.Maxima.{Openness, Join, le-join, FitWhere, BelowWhere, where-join, AllBelow, fold-join}
 use Rattle.openness.proofs.Entries.{all-range, all-until, all-weaken, all-both, all-places}
@@ -61,7 +61,7 @@ pub nothing-open : Openness zero
 unfolding ofBits fits le mag
 nothing-open = record { is-real = tt; low = tt; high = lit≤ tt }
 
-module _ (g : BellUnit) (grid : Grid) (fair : Fair grid) (table : List Float) (side : Side) (bin : ℕ) where
+module _ (grid : Grid) (fair : Fair grid) (table : List Float) (side : Side) (bin : ℕ) where
   abbrev pub lobe : MaskVoice → ℕ → Lobe
   lobe voice partial = lobeOf grid (lent table) (toneOf grid voice) partial
 
@@ -93,7 +93,7 @@ module _ (g : BellUnit) (grid : Grid) (fair : Fair grid) (table : List Float) (s
 
   open-partials : (voice : MaskVoice) → RealVoice voice → All (FitWhere (there voice) (opens voice)) (partials voice)
   open-partials voice u =
-      all-weaken (λ p h t. opened-rises g grid table (fair .rolloff) side voice voice u u (raised-self voice u) p (h .0) (h .1) bin .to) (partials voice) (numbered voice)
+      all-weaken (λ p h t. opened-rises grid table (fair .rolloff) side voice voice u u (raised-self voice u) p (h .0) (h .1) bin .to) (partials voice) (numbered voice)
 
   -- ---- a voice
   abbrev pub VoiceBelow : MaskVoice → Float → Type 0
@@ -162,8 +162,8 @@ module _ (g : BellUnit) (grid : Grid) (fair : Fair grid) (table : List Float) (s
 
     lower : (z : Float) → Openness z → (partial : ℕ) → Few partial → BelowWhere (there b) (opens b) partial z → BelowWhere (there a) (opens a) partial z
     lower z w p f below t =
-        let k = same-bins g grid table (fair .rolloff) side a b u v h p (f .0) (f .1) in
-        let r = opened-rises g grid table (fair .rolloff) side a b u v h p (f .0) (f .1) bin in
+        let k = same-bins grid table (fair .rolloff) side a b u v h p (f .0) (f .1) in
+        let r = opened-rises grid table (fair .rolloff) side a b u v h p (f .0) (f .1) bin in
         le-join (r .from) (r .to) w (r .up) (below (subst₂ (λ (x y : ℕ). T (leb x bin && leb bin y)) (k .0) (k .1) t))
 
     pub below-raised : (z : Float) → Openness z → VoiceBelow b z → VoiceBelow a z

@@ -1,6 +1,7 @@
 // Rust's slice methods, as functions.
 ghost use mathlib.Core.Path.{_≡_};
 ghost use lib.ListN.{length};
+ghost use Rattle.lists.specs.Maps.{tabulate};
 
 // Rust's `output.copy_from_slice(source)`.
 pub fn copy(source: &[f32], output: &mut [f32])
@@ -10,6 +11,17 @@ pub fn copy(source: &[f32], output: &mut [f32])
     let mut index: usize = 0;
     while index < output.len() {
         output[index] = source[index];
+        index += 1;
+    }
+}
+
+// Rust's `output.fill(value)`.
+pub fn fill(output: &mut [f32], value: f32)
+    ensures { λ _. ⌜ now (output .exit) ≡ tabulate (length (now (output .entry))) (λ k. value) ⌝ }
+{
+    let mut index: usize = 0;
+    while index < output.len() {
+        output[index] = value;
         index += 1;
     }
 }

@@ -1,0 +1,30 @@
+-- `shared_of` meets its contract, field by field. Assumes nothing.
+use mathlib.Core.Path.{_≡_, refl}
+use borrow.Author.Needs.{needs}
+use Rattle.mask_builder.proofs.gains.shared_of.Statement.{statement}
+use Rattle.mask_builder.proofs.gains.shared_of.Tie as tie
+
+bin-hz-requires : tie.Need-bin-hz-requires
+bin-hz-requires c κs = search needs
+
+compensation-gain-requires : tie.Need-compensation-gain-requires
+compensation-gain-requires c κs = search needs
+
+floor-gain-requires : tie.Need-floor-gain-requires
+floor-gain-requires c κs = search needs
+
+emphasis-requires : tie.Need-emphasis-requires
+emphasis-requires c κs = search needs
+
+returns : tie.Need-returns
+returns c = rw (← c .before .before .before .bin-hz .ensures, ← c .before .before .compensation-gain .ensures, ← c .before .floor-gain .ensures, ← c .emphasis .ensures) refl
+
+pub shared-of-spec : {M : Type 1} → statement M
+shared-of-spec =
+    tie.close
+    (tie.spec
+    bin-hz-requires
+    compensation-gain-requires
+    floor-gain-requires
+    emphasis-requires
+    returns)
