@@ -2,15 +2,13 @@
 -- then on every bin, left and right, A's mask is not above B's. Where B is beneath A too the masks are equal.
 -- A's mask is that on B's settings and table (`mask-same`); there each bin rises with the voices and with the curve (`mask-rises`). Assumes nothing.
 use mathlib.Core.Path.{_≡_, refl, sym, ap, _∙_, subst}
-use mathlib.Core.Bool.{Bool, true, false, _||_}
-use mathlib.Core.List.{List, [], _∷_}
-use Prim.Native.Nat.{ℕ, zero, suc, _/_, _+_, _≤_, _<_}
+use mathlib.Core.List.{List}
+use Prim.Native.Nat.{ℕ, zero, suc, _/_, _+_, _^_, _≤_, _<_}
 use native.Mathlib.Omega.{arith}
-use lib.Dec.{T, leb, eqb, leb→le, eqb→eq}
+use lib.Dec.{T}
+use lib.Pow.{pow-mono}
 use lib.ListN.{length, getD}
 use lib.Ieee.{Float, nan, binary32, le, eq, lt, isNan}
-use lib.Ieee.Fits.{and-l, and-r}
-use Rattle.lists.specs.Tested.{every}
 use Rattle.lists.specs.Maps.{tabFrom}
 use Rattle.lists.specs.Pairs.{All2, none, more}
 use Rattle.float_laws.specs.Units.{number, real-number}
@@ -20,6 +18,7 @@ use Rattle.limits.specs.Limits as limits
 use Rattle.scene.specs.declared.MaskVoice.{MaskVoice}
 use Rattle.scene.specs.declared.MaskConfig.{MaskConfig}
 use Rattle.scene.specs.Accepted.{noVoice, sizeAccepted, settingsAccepted}
+use Rattle.frequencies.proofs.Sizes.{size-power}
 use Rattle.masks.specs.Manual.{MANUAL-MASK-POINTS, curvePoint, manualGain}
 use Rattle.masks.proofs.Points.{point-le}
 use Rattle.lobes.specs.Pan.{Side, left, right}
@@ -32,8 +31,9 @@ use Rattle.chord_law.specs.Calls.{Call, Accepted, F32Call, F32Settings, 
 use Rattle.chord_law.specs.Voices.{MatchedIn}
 use Rattle.chord_law.specs.Settings.{SameMotion, SameSettings, SameEntries}
 use Rattle.chord_law.specs.Curves.{NoNan, NowhereAbove}
-use Rattle.chord_law.specs.Masks.{NotAbove, EqualMasks, MasksNotAbove, MasksEqual}
+use Rattle.chord_law.specs.Masks.{NotAbove, EqualMasks}
 use Rattle.chord_law.specs.Premises.{Comparable, Beneath}
+use Rattle.chord_law.specs.Law.{ChordLaw, ChordLawEqual}
 use Rattle.chord_law.proofs.Acceptance.{size-accepted, settings-accepted, curve-length}
 use Rattle.chord_law.proofs.Numbers as numbers
 use Rattle.chord_law.proofs.Alike.{same-config, same-table, matched-raised}
@@ -48,19 +48,11 @@ rise-tab f g h j zero = none
 rise-tab f g h j (suc n) = more (h j) (rise-tab f g h (suc j) n)
 
 -- ---- a size has bins above bin 0
-one-of-least : (ks : List ℕ) (m n i : ℕ) → T (every (λ j k. leb m k) i ks) → T (limits.oneOf ks n) → m ≤ n
-one-of-least [] m n i t o = absurd o
-one-of-least (k ∷ ks) m n i t o = go (eqb n k) (eqb→eq n k) (one-of-least ks m n (suc i) (and-r (leb m k) (every (λ j k. leb m k) (suc i) ks) t)) o
-  where
-    first : m ≤ k
-    first = leb→le m k (and-l (leb m k) (every (λ j k. leb m k) (suc i) ks) t)
-
-    go : (b : Bool) → (T b → n ≡ k) → (T (limits.oneOf ks n) → m ≤ n) → T (b || limits.oneOf ks n) → m ≤ n
-    go true e rest w = let z : n ≡ k = e tt in omega (arith, first)
-    go false e rest w = rest w
-
 some-bins : (n : ℕ) → T (limits.size n) → 1 ≤ n / 2
-some-bins n t = omega (arith, one-of-least (64 ∷ 128 ∷ 256 ∷ 512 ∷ 1024 ∷ 2048 ∷ 4096 ∷ 8192 ∷ 16384 ∷ []) 64 n 0 tt t)
+some-bins n t = let p = size-power n t in rw (p .is) (half-of (2 ^ p .exponent) (pow-mono {i = 1} {j = p .exponent} (omega (arith, p .from))))
+  where
+    half-of : (m : ℕ) → 2 ≤ m → 1 ≤ m / 2
+    half-of m h = omega arith
 
 -- ---- a curve point
 curve-number : (call : Call) → Accepted call → F32Call call → NoNan (call .curve) → (i : ℕ) → i < MANUAL-MASK-POINTS → T (number binary32 (getD (call .curve) i nan))
@@ -117,7 +109,7 @@ not-above : {xs ys : List Float} → Risen xs ys → NotAbove xs ys
 not-above none = none
 not-above (more r w) = more (r .up) (not-above w)
 
-pub chord-law : (a b : Call) → Comparable a b → Beneath a b → MasksNotAbove a b
+pub chord-law : ChordLaw
 chord-law a b c u = (not-above (masks-rise a b c u left), not-above (masks-rise a b c u right))
 
 -- ---- equal masks, by the law twice
@@ -126,7 +118,7 @@ equal-masks none none = none
 equal-masks (more {x} {y} r w) (more r' w') =
     more (le-antisymm-f binary32 x y (real-number binary32 x (r .from .is-real)) (real-number binary32 y (r .to .is-real)) (r .up) (r' .up)) (equal-masks w w')
 
-pub chord-law-equal : (a b : Call) → Comparable a b → Beneath a b → Beneath b a → MasksEqual a b
+pub chord-law-equal : ChordLawEqual
 chord-law-equal a b c u v = (both left, both right)
   where
     both : (side : Side) → EqualMasks (maskOn side a) (maskOn side b)

@@ -3,3 +3,4 @@ pub mod Numbers
 pub mod Alike
 pub mod Turned
 pub mod Law
+pub mod Instances

@@ -4,3 +4,4 @@ pub mod Settings
 pub mod Curves
 pub mod Masks
 pub mod Premises
+pub mod Law
