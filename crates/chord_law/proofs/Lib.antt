@@ -4,3 +4,4 @@ pub mod Alike
 pub mod Turned
 pub mod Law
 pub mod Instances
+pub mod Parameters
