@@ -13,7 +13,7 @@ use Rattle.scene.specs.declared.MaskVoice.{MaskVoice}
 use Rattle.scene.specs.Accepted.{noVoice}
 use Rattle.float32.specs.Remainder as remainder
 use Rattle.lobes.specs.Grid.{half}
-use Rattle.chord_law.specs.Calls.{Call, given}
+use Rattle.chord_law.specs.Calls.{Call, F32Call, given}
 use Rattle.chord_law.specs.Voices.{SamePitch, Matched, MatchIn, MatchedIn}
 use Rattle.chord_law.specs.Curves.{NowhereAbove}
 use Rattle.chord_law.specs.Masks.{MasksNotAbove, MasksEqual}
@@ -113,17 +113,17 @@ raised =
     (record { place = 2; there = lit< tt; matches = at-level 67 half remainder.one (kind .one-above-half) })
 
 -- ---- the law at each
-module _ (a b : Call) (c : Comparable a b) (is-chord : given a ≡ chord) where
+module _ (a b : Call) (fa : F32Call a) (fb : F32Call b) (c : Comparable a b) (is-chord : given a ≡ chord) where
   beneath : (ys : List MaskVoice) → given b ≡ ys → MatchedIn chord ys → NowhereAbove (a .curve) (b .curve) → Beneath a b
   beneath ys e m h = record { matched = subst (λ xs. MatchedIn xs (given b)) (sym is-chord) (subst (λ zs. MatchedIn chord zs) (sym e) m); curve = h }
 
   pub a-note-more-lowers-no-bin : given b ≡ with-one-more → NowhereAbove (a .curve) (b .curve) → MasksNotAbove a b
-  a-note-more-lowers-no-bin e h = chord-law a b c (beneath with-one-more e one-more h)
+  a-note-more-lowers-no-bin e h = chord-law a b fa fb c (beneath with-one-more e one-more h)
 
   pub a-level-raised-lowers-no-bin : given b ≡ with-G-raised → NowhereAbove (a .curve) (b .curve) → MasksNotAbove a b
-  a-level-raised-lowers-no-bin e h = chord-law a b c (beneath with-G-raised e raised h)
+  a-level-raised-lowers-no-bin e h = chord-law a b fa fb c (beneath with-G-raised e raised h)
 
   pub the-order-is-not-heard : given b ≡ reversed → NowhereAbove (a .curve) (b .curve) → NowhereAbove (b .curve) (a .curve) → MasksEqual a b
   the-order-is-not-heard e h k =
-      chord-law-equal a b c (beneath reversed e turned-round h)
+      chord-law-equal a b fa fb c (beneath reversed e turned-round h)
       (record { matched = subst (λ xs. MatchedIn xs (given a)) (sym e) (subst (λ zs. MatchedIn reversed zs) (sym is-chord) turned-back); curve = k })

@@ -58,7 +58,7 @@ some-bins n t = let p = size-power n t in rw (p .is) (half-of (2 ^ p .exponent) 
 curve-number : (call : Call) → Accepted call → F32Call call → NoNan (call .curve) → (i : ℕ) → i < MANUAL-MASK-POINTS → T (number binary32 (getD (call .curve) i nan))
 curve-number call p f n i h = fits-number binary32 (getD (call .curve) i nan) (f .curve i (rw (curve-length call p) h)) (n i h)
 
-module _ (a b : Call) (c : Comparable a b) (u : Beneath a b) where
+module _ (a b : Call) (fa : F32Call a) (fb : F32Call b) (c : Comparable a b) (u : Beneath a b) where
   abbrev A : MaskConfig
   A = a .config
 
@@ -69,8 +69,8 @@ module _ (a b : Call) (c : Comparable a b) (u : Beneath a b) where
   manual bin =
       let i = curvePoint bin (B .«fft_size») in
       let h : i < MANUAL-MASK-POINTS = omega (arith, point-le bin (B .«fft_size»)) in
-      let p = curve-number a (c .a-accepted) (c .a-numbers) (c .a-curve) i h in
-      let q = curve-number b (c .b-accepted) (c .b-numbers) (c .b-curve) i h in
+      let p = curve-number a (c .a-accepted) fa (c .a-curve) i h in
+      let q = curve-number b (c .b-accepted) fb (c .b-curve) i h in
       manual-rises (a .curve) (b .curve) bin (B .«fft_size») p q (not-lt-f binary32 (getD (b .curve) i nan) (getD (a .curve) i nan) q p (u .curve i h))
 
   raised : (i : ℕ) → i < length (given a) → RaisedIn (getD (given a) i noVoice) (given b)
@@ -80,24 +80,24 @@ module _ (a b : Call) (c : Comparable a b) (u : Beneath a b) where
         place = m .place;
         there = m .there;
         above =
-            matched-raised (getD (given a) i noVoice) (getD (given b) (m .place) noVoice) (numbers.given-real a (c .a-accepted) (c .a-numbers) i h)
-            (numbers.given-real b (c .b-accepted) (c .b-numbers) (m .place) (m .there)) (m .matches);
+            matched-raised (getD (given a) i noVoice) (getD (given b) (m .place) noVoice) (numbers.given-real a (c .a-accepted) fa i h)
+            (numbers.given-real b (c .b-accepted) fb (m .place) (m .there)) (m .matches);
       }
 
   module _ (side : Side) where
     on-B : (bin : ℕ) → Rise binary32 7 (maskAt (a .curve) B (lent (b .table)) side (given a) bin) (maskAt (b .curve) B (lent (b .table)) side (given b) bin)
     on-B bin =
-        mask-rises B (numbers.real-settings B (size-accepted b (c .b-accepted)) (settings-accepted b (c .b-accepted)) (c .b-numbers .settings)) (b .table) side (given a) (given b)
-        (numbers.all-real a (c .a-accepted) (c .a-numbers)) (numbers.all-real b (c .b-accepted) (c .b-numbers)) raised (a .curve) (b .curve) bin (manual bin)
+        mask-rises B (numbers.real-settings B (size-accepted b (c .b-accepted)) (settings-accepted b (c .b-accepted)) (fb .settings)) (b .table) side (given a) (given b)
+        (numbers.all-real a (c .a-accepted) fa) (numbers.all-real b (c .b-accepted) fb) raised (a .curve) (b .curve) bin (manual bin)
 
     from-A : (bin : ℕ) → maskAt (a .curve) A (lent (a .table)) side (given a) bin ≡ maskAt (a .curve) B (lent (b .table)) side (given a) bin
     from-A bin =
         let s = size-accepted a (c .a-accepted) in
         let t = settings-accepted a (c .a-accepted) in
         mask-same A B
-        (same-config A B s (size-accepted b (c .b-accepted)) t (settings-accepted b (c .b-accepted)) (c .a-numbers .settings) (c .b-numbers .settings) (c .settings))
-        (a .table) (b .table) (some-bins (A .«fft_size») (numbers.size-within A s t (c .a-numbers .settings)))
-        (same-table a b (c .a-accepted) (c .b-accepted) (c .a-numbers) (c .b-numbers) (c .settings .size) (c .table)) side (a .curve) (given a) bin
+        (same-config A B s (size-accepted b (c .b-accepted)) t (settings-accepted b (c .b-accepted)) (fa .settings) (fb .settings) (c .settings))
+        (a .table) (b .table) (some-bins (A .«fft_size») (numbers.size-within A s t (fa .settings)))
+        (same-table a b (c .a-accepted) (c .b-accepted) fa fb (c .settings .size) (c .table)) side (a .curve) (given a) bin
 
     pub masks-rise : Risen (maskOn side a) (maskOn side b)
     masks-rise =
@@ -110,7 +110,7 @@ not-above none = none
 not-above (more r w) = more (r .up) (not-above w)
 
 pub chord-law : ChordLaw
-chord-law a b c u = (not-above (masks-rise a b c u left), not-above (masks-rise a b c u right))
+chord-law a b fa fb c u = (not-above (masks-rise a b fa fb c u left), not-above (masks-rise a b fa fb c u right))
 
 -- ---- equal masks, by the law twice
 equal-masks : {xs ys : List Float} → Risen xs ys → Risen ys xs → EqualMasks xs ys
@@ -119,7 +119,7 @@ equal-masks (more {x} {y} r w) (more r' w') =
     more (le-antisymm-f binary32 x y (real-number binary32 x (r .from .is-real)) (real-number binary32 y (r .to .is-real)) (r .up) (r' .up)) (equal-masks w w')
 
 pub chord-law-equal : ChordLawEqual
-chord-law-equal a b c u v = (both left, both right)
+chord-law-equal a b fa fb c u v = (both left, both right)
   where
     both : (side : Side) → EqualMasks (maskOn side a) (maskOn side b)
-    both side = equal-masks (masks-rise a b c u side) (masks-rise b a (turned a b c) v side)
+    both side = equal-masks (masks-rise a b fa fb c u side) (masks-rise b a fb fa (turned a b fa fb c) v side)

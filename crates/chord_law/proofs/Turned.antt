@@ -9,7 +9,7 @@ use Rattle.float_laws.specs.Units.{real-number}
 use Rattle.float_laws.specs.Order.{eq-sym-f}
 use Rattle.scene.specs.declared.MaskConfig.{MaskConfig}
 use Rattle.scene.specs.Accepted.{sizeAccepted, settingsAccepted}
-use Rattle.chord_law.specs.Calls.{Call, F32Settings}
+use Rattle.chord_law.specs.Calls.{Call, F32Settings, F32Call}
 use Rattle.chord_law.specs.Settings.{SameSettings, SameEntries}
 use Rattle.chord_law.specs.Premises.{Comparable}
 use Rattle.chord_law.proofs.Acceptance.{size-accepted, settings-accepted}
@@ -39,23 +39,21 @@ settings-turned a b s s' t t' f f' h =
           };
     }
 
-module _ (a b : Call) (c : Comparable a b) where
+module _ (a b : Call) (fa : F32Call a) (fb : F32Call b) (c : Comparable a b) where
   entries-turned : SameEntries (b .table) (a .table)
   entries-turned i l h =
-      let e = same-lengths a b (c .a-accepted) (c .b-accepted) (c .a-numbers) (c .b-numbers) (c .settings .size) in
+      let e = same-lengths a b (c .a-accepted) (c .b-accepted) fa fb (c .settings .size) in
       let k : i < length (a .table) = omega arith in
-      eq-sym-f binary32 (getD (a .table) i nan) (getD (b .table) i nan) (numbers.entry-number a (c .a-accepted) (c .a-numbers) i l k) (numbers.entry-number b (c .b-accepted) (c .b-numbers) i l h) (c .table i l k)
+      eq-sym-f binary32 (getD (a .table) i nan) (getD (b .table) i nan) (numbers.entry-number a (c .a-accepted) fa i l k) (numbers.entry-number b (c .b-accepted) fb i l h) (c .table i l k)
 
   pub turned : Comparable b a
   turned =
       record {
-        a-numbers = c .b-numbers;
-        b-numbers = c .a-numbers;
         a-accepted = c .b-accepted;
         b-accepted = c .a-accepted;
         settings =
             settings-turned (a .config) (b .config) (size-accepted a (c .a-accepted)) (size-accepted b (c .b-accepted)) (settings-accepted a (c .a-accepted)) (settings-accepted b (c .b-accepted))
-            (c .a-numbers .settings) (c .b-numbers .settings) (c .settings);
+            (fa .settings) (fb .settings) (c .settings);
         table = entries-turned;
         a-curve = c .b-curve;
         b-curve = c .a-curve;

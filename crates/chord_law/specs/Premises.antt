@@ -1,13 +1,11 @@
 -- The premises of the chord law on two stereo calls, A and B. Assumes nothing.
-use Rattle.chord_law.specs.Calls.{Call, F32Call, Accepted, given}
+use Rattle.chord_law.specs.Calls.{Call, Accepted, given}
 use Rattle.chord_law.specs.Voices.{MatchedIn}
 use Rattle.chord_law.specs.Settings.{SameSettings, SameEntries}
 use Rattle.chord_law.specs.Curves.{NoNan, NowhereAbove}
 
 -- both are accepted, on the same settings and table, with curves without NaN
 pub record Comparable (a b : Call) : Type 0 where
-  pub a-numbers : F32Call a
-  pub b-numbers : F32Call b
   pub a-accepted : Accepted a
   pub b-accepted : Accepted b
   pub settings : SameSettings (a .config) (b .config)
