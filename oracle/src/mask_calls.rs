@@ -152,7 +152,10 @@ fn odd_setting(random: &mut Random, config: &mut MaskConfig) {
 }
 
 fn odd_voice(random: &mut Random, voice: &mut MaskVoice) {
-    let free = |random: &mut Random| random.pick(&around_finite());
+    let free = |random: &mut Random| match random.once_in(2) {
+        true => random.float(),
+        false => random.pick(&around_finite()),
+    };
     match random.below(8) {
         0 => voice.note = random.pick(&[0, 127, 128, 255]),
         1 => voice.level = odd_level(random),

@@ -7,7 +7,7 @@ use oracle::builders::{Builder, Lent, Masks};
 use oracle::given;
 use oracle::numbers::first_difference;
 use oracle::random::Random;
-use oracle::scenes::Scene;
+use oracle::scenes::{RESTING_DEPTH, Scene};
 use oracle::spectral_dsp::{MANUAL_MASK_POINTS, MIDI_NOTES};
 use std::hint::black_box;
 use std::time::Instant;
@@ -126,8 +126,8 @@ fn times(builder: Builder, scene: &Scene) -> Result<Times, String> {
     match (number, bin) {
         (0, None) => Ok(times),
         _ => Err(format!(
-            "answer {number}, first wrong entry {bin:?}: {:?}",
-            scene.config
+            "answer {number}, first wrong bin {bin:?}, {}",
+            describe(scene)
         )),
     }
 }
@@ -141,58 +141,72 @@ fn median(mut numbers: Vec<f64>) -> f64 {
     }
 }
 
-/// Prints a class's row, and answers the number of scenes whose masks are wrong.
+/// A scene in a few words.
+fn describe(scene: &Scene) -> String {
+    let (config, voices) = (&scene.config, scene.voices.len());
+    let motion = match config.motion.depth_db > RESTING_DEPTH {
+        true => format!("{:?}", config.motion.shape),
+        false => "still".to_string(),
+    };
+    format!(
+        "size {}, {voices} voices, {} partials, {:.0} cents, {motion}",
+        config.fft_size, config.partials, config.width_cents
+    )
+}
+
+/// Prints the row of scenes of one kind, of which there is at least one.
+fn print_row(name: &str, all: &[(Times, String)]) {
+    let of = |part: fn(&Times) -> f64| all.iter().map(|(times, _)| part(times)).collect();
+    let port = median(of(|times| times.port)) / 1e3;
+    let original = median(of(|times| times.original)) / 1e3;
+    let ratios: Vec<f64> = of(Times::ratio);
+    let mean = (ratios.iter().map(|ratio| ratio.ln()).sum::<f64>() / ratios.len() as f64).exp();
+    let by_ratio = |a: &&(Times, String), b: &&(Times, String)| a.0.ratio().total_cmp(&b.0.ratio());
+    let (worst, scene) = all.iter().min_by(by_ratio).expect("there is a scene");
+    let (number, least, middle) = (all.len(), worst.ratio(), median(ratios));
+    println!(
+        "| {name} | {number} | {port:.1} | {original:.1} | {mean:.2} | {middle:.2} | {least:.2} | {scene} |"
+    );
+}
+
+/// Times a class's scenes, and answers the number of those whose masks are wrong.
 fn row(name: &str, builder: Builder, class: &Class, seed: u64) -> usize {
     let mut random = Random::new(seed);
-    let scenes = (0..class.scenes).map(|number| class.scene(&mut random, number));
     let (mut all, mut wrong) = (Vec::new(), 0);
-    for scene in scenes {
+    for number in 0..class.scenes {
+        let scene = class.scene(&mut random, number);
         match times(builder, &scene) {
-            Ok(times) => all.push(times),
+            Ok(times) => all.push((times, describe(&scene))),
             Err(text) => {
+                println!("wrong, {name}, scene {number}: {text}");
                 wrong += 1;
-                println!("wrong, {name}: {text}");
             }
         }
     }
-    if all.is_empty() {
-        return wrong;
+    if !all.is_empty() {
+        print_row(name, &all);
     }
-    let of = |part: fn(&Times) -> f64| all.iter().map(part).collect::<Vec<f64>>();
-    let micros = [of(|times| times.port), of(|times| times.original)].map(|all| median(all) / 1e3);
-    let ratios = of(Times::ratio);
-    let mean = (ratios.iter().map(|ratio| ratio.ln()).sum::<f64>() / ratios.len() as f64).exp();
-    let least = ratios.iter().copied().fold(f64::INFINITY, f64::min);
-    println!(
-        "| {name} | {} | {:.1} | {:.1} | {mean:.2} | {:.2} | {least:.2} |",
-        all.len(),
-        micros[0],
-        micros[1],
-        median(ratios)
-    );
     wrong
 }
 
+const HEAD: &str = "\
+Whole masks, medians of the microseconds; the ratios are the time of the Rust divided by the port's
+
+| scenes | number | port | Rust | geometric mean | median | least | where |
+|---|---|---|---|---|---|---|---|";
+
 /// Prints the table, and answers the number of scenes whose masks are wrong.
 pub fn table(seed: u64) -> usize {
-    println!(
-        "Whole masks. Times are medians over the scenes, in microseconds; a ratio is the time"
-    );
-    println!("of the unaltered Rust divided by the port's.");
-    println!();
-    println!("| scenes | number | port | Rust | geometric mean | median | least |");
-    println!("|---|---|---|---|---|---|---|");
-    let stereo = Builder::StereoPrecomputed;
-    let classes = CLASSES
-        .iter()
-        .map(|class| row(class.name, stereo, class, seed));
-    let mut wrong: usize = classes.sum();
-    for builder in Builder::ALL
-        .into_iter()
-        .filter(|builder| !builder.is_stereo())
-    {
-        let name = format!("`{}`, the chords, still", builder.name());
-        wrong += row(&name, builder, &CHORDS, seed);
+    println!("{HEAD}");
+    let mut wrong = 0;
+    for class in &CLASSES {
+        wrong += row(class.name, Builder::StereoPrecomputed, class, seed);
+    }
+    for builder in Builder::ALL {
+        if !builder.is_stereo() {
+            let name = format!("`{}`, the chords, still", builder.name());
+            wrong += row(&name, builder, &CHORDS, seed);
+        }
     }
     wrong
 }

@@ -4,11 +4,12 @@ use crate::open_calls::note_slice;
 use crate::tally::Tally;
 use linked::calls::{self as port, Crossing};
 use oracle::builders::{Builder, Lent, Masks};
+use oracle::edges::around;
 use oracle::mask_calls::{Call, fault, other_table};
 use oracle::random::Random;
 use oracle::refusals::{self as refuse, LEVEL, Outcome, TABLE, within};
-use oracle::scenes::{SHAPES, Scene};
-use oracle::spectral_dsp::MANUAL_MASK_POINTS;
+use oracle::scenes::{SHAPES, SILENT_LEVEL, Scene};
+use oracle::spectral_dsp::{MANUAL_MASK_POINTS, MaskVoice};
 
 /// Voices times partials times size of a scene that is taken as it is drawn. Most of those above
 /// get a smaller size, so that many scenes take little time.
@@ -21,12 +22,16 @@ struct Drawn {
     before: Masks,
 }
 
-/// A scene from all over the limits, on a table of any kind, and its curve.
+/// A scene from all over the limits, now and then centred, on a table of any kind; and its curve.
 fn scene(random: &mut Random) -> (Call, Vec<f32>) {
     let mut scene = Scene::anywhere(random);
     let lobes = scene.voices.len() * scene.config.partials;
     while lobes * scene.config.fft_size > WORK && !random.once_in(64) {
         scene.config.fft_size /= 2;
+    }
+    if random.once_in(8) {
+        let centre = |voice: &mut MaskVoice| voice.pan = random.pick(&[0.0, -0.0]);
+        scene.voices.iter_mut().for_each(centre);
     }
     let mut call = Call::good(random, scene.config, scene.voices);
     if random.once_in(2) {
@@ -45,11 +50,14 @@ fn faults(random: &mut Random, call: &mut Call) {
     }
 }
 
-/// Puts most notes of a bank to silence, so that it takes little time; those past the limits stay.
+/// Puts most notes of a bank to silence, so that it takes little time, and a few to where sound
+/// begins; those past the limits stay.
 fn thin_out(random: &mut Random, levels: &mut [f32]) {
     for level in levels.iter_mut().filter(|level| within(**level, LEVEL)) {
-        if !random.once_in(16) {
-            *level = 0.0;
+        match random.below(64) {
+            0 => *level = random.pick(&around(SILENT_LEVEL)),
+            1..4 => (),
+            _ => *level = 0.0,
         }
     }
 }
