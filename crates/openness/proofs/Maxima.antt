@@ -108,4 +108,3 @@ module _ {A : Type 0} {Fit : A → Type 0} {Below : A → Float → Type 0} {ste
 
   pub fold-join : Join (All Fit) AllBelow (fold step)
   fold-join = record { keeps = run-keeps; grows = run-grows; reaches = run-reaches; least = run-least; higher = run-higher }
-
