@@ -101,8 +101,7 @@ module _ {A : Type 0} {Fit : A → Type 0} {Below : A → Float → Type 0} {ste
   unfolding fold
   run-reaches s [] f u = tt
   run-reaches s (x ∷ xs) f u =
-      let v = j .keeps s x (f .0) u in
-      (
+      let v = j .keeps s x (f .0) u in (
         j .higher x (step s x) (fold step (step s x) xs) (f .0) v (run-keeps (step s x) xs (f .1) v) (run-grows (step s x) xs (f .1) v) (j .reaches s x (f .0) u),
         run-reaches (step s x) xs (f .1) v,
       )
@@ -118,4 +117,3 @@ module _ {A : Type 0} {Fit : A → Type 0} {Below : A → Float → Type 0} {ste
 
   pub fold-join : Join (All Fit) AllBelow (fold step)
   fold-join = record { keeps = run-keeps; grows = run-grows; reaches = run-reaches; least = run-least; higher = run-higher }
-
