@@ -6,3 +6,4 @@ pub mod Law
 pub mod Instances
 pub mod Parameters
 pub mod Scene
+pub mod TwoCalls

@@ -5,7 +5,7 @@ use Prim.Native.Nat.{ℕ, _<_}
 use lib.Dec.{T}
 use lib.ListN.{length, getD, take}
 use lib.Ieee.{Float, nan, binary32, fits}
-use Rattle.answer.specs.Reply.{done}
+use Rattle.answer.specs.Reply.{Reply, done}
 use Rattle.scene.specs.declared.MaskVoice.{MaskVoice}
 use Rattle.scene.specs.declared.MaskConfig.{MaskConfig}
 use Rattle.scene.specs.Accepted.{noVoice}
@@ -24,9 +24,16 @@ pub record Call : Type 0 where
   pub config : MaskConfig
   pub table : List Float
 
+abbrev pub callOf : ℕ → ℕ → List Float → List MaskVoice → ℕ → MaskConfig → List Float → Call
+callOf m n curve voices count config table = record { left-length = m; right-length = n; curve = curve; voices = voices; count = count; config = config; table = table }
+
+-- what it answers
+abbrev pub replyTo : Call → Reply
+replyTo call = stereoReply (call .left-length) (call .right-length) (call .curve) (call .voices) (call .count) (call .config) (call .table)
+
 -- "A list is accepted where this call, given it, answers 0."
 abbrev pub Accepted : Call → Type 0
-Accepted call = stereoReply (call .left-length) (call .right-length) (call .curve) (call .voices) (call .count) (call .config) (call .table) ≡ done []
+Accepted call = replyTo call ≡ done []
 
 -- the voices that count
 abbrev pub given : Call → List MaskVoice

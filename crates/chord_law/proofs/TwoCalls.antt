@@ -1,0 +1,32 @@
+-- The chord law of what two calls leave in lent slices: where both are done the slices hold the masks of the two calls. Assumes nothing.
+use mathlib.Core.Path.{_≡_, refl, sym, ap, _∙_}
+use mathlib.Core.List.{List}
+use lib.Ieee.{Float}
+use Rattle.answer.specs.Reply.{Reply, done}
+use Rattle.answer.specs.Written.{written}
+use Rattle.lobes.specs.Pan.{Side, left, right}
+use Rattle.chord_law.specs.Calls.{Call, F32Call, Accepted, replyTo, maskOn}
+use Rattle.chord_law.specs.Law.{LawHolds}
+use Rattle.chord_law.proofs.Law.{chord-law, chord-law-equal}
+
+-- what a call leaves: its answer, and its masks where it is done
+pub record Left (call : Call) (reply : Reply) (left-mask right-mask : List Float) : Type 0 where
+  pub left-before : List Float
+  pub right-before : List Float
+  pub answer : reply ≡ replyTo call
+  pub left-after : left-mask ≡ written reply (maskOn left call) left-before
+  pub right-after : right-mask ≡ written reply (maskOn right call) right-before
+
+module _ {call : Call} {reply : Reply} {l r : List Float} (w : Left call reply l r) (d : Accepted call) where
+  left-is : l ≡ maskOn left call
+  left-is = w .left-after ∙ ap (λ (a : Reply). written a (maskOn left call) (w .left-before)) (w .answer ∙ d)
+
+  right-is : r ≡ maskOn right call
+  right-is = w .right-after ∙ ap (λ (a : Reply). written a (maskOn right call) (w .right-before)) (w .answer ∙ d)
+
+pub law-holds : (a b : Call) {ra rb : Reply} {al ar bl br : List Float} → F32Call a → F32Call b → Left a ra al ar → Left b rb bl br → LawHolds a b al ar bl br
+law-holds a b fa fb x y =
+    record {
+      not-above = λ c u. rw (left-is x (c .a-accepted), right-is x (c .a-accepted), left-is y (c .b-accepted), right-is y (c .b-accepted)) (chord-law a b fa fb c u);
+      equal = λ c u v. rw (left-is x (c .a-accepted), right-is x (c .a-accepted), left-is y (c .b-accepted), right-is y (c .b-accepted)) (chord-law-equal a b fa fb c u v);
+    }
