@@ -4,8 +4,8 @@ ghost use Prim.Native.Nat.{_<_};
 ghost use lib.ListN.{length, getD, replicate};
 ghost use Rattle.scene.specs.Accepted.{noVoice};
 ghost use Rattle.lent_voices.specs.Gathered.{silentVoice, held, gathered};
-use scene::MaskVoice;
 use scene::MOST_VOICES;
+use scene::MaskVoice;
 
 // The record at an index.
 fn voice_at(voices: &[MaskVoice], index: usize) -> MaskVoice
