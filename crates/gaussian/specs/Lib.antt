@@ -1,2 +1,3 @@
 pub mod Table
+pub mod Rule
 pub mod Bell

@@ -30,8 +30,12 @@ abbrev pub octaves : Grid → Logs → Float → ℕ → Float
 octaves grid (lent table) center bin = sub binary32 (getD table bin nan) (L2 center)
 octaves grid none center bin = L2 (div binary32 (hertz (grid .«bin_hz») bin) center)
 
+-- octaves in widths, which are in cents
+abbrev pub inWidths : Float → Float → Float
+inWidths width octaves = div binary32 (mul binary32 CENTS-PER-OCTAVE octaves) width
+
 unfoldable pub distance : Grid → Logs → Float → ℕ → Float
-distance grid logs center bin = div binary32 (mul binary32 CENTS-PER-OCTAVE (octaves grid logs center bin)) (grid .width)
+distance grid logs center bin = inWidths (grid .width) (octaves grid logs center bin)
 
 -- exp(-square/2), by the Gaussian table where a table was lent
 unfoldable pub bell : Logs → Float → Float

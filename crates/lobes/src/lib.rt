@@ -1,4 +1,11 @@
 // One lobe of a mask: what a partial of a voice opens, bin by bin.
+pub mod counts;
+pub mod distances;
+pub mod grids;
+pub mod pan;
+pub mod peaks;
+pub mod reach;
+pub mod tones;
 
 // What all lobes of a mask share, worked out once from its settings.
 pub struct Grid {

@@ -1,2 +1,4 @@
 pub mod Mask
 pub mod Shared
+pub mod Centered
+pub mod Levels

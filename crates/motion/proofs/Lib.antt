@@ -1,5 +1,6 @@
 pub mod Between
 pub mod Openings
 pub mod Gains
+pub mod Samples
 pub mod Compensated
 pub mod Accepted

@@ -1,3 +1,4 @@
 pub mod Shapes
 pub mod Field
 pub mod Compensation
+pub mod Octaves

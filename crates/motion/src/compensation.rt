@@ -2,20 +2,24 @@
 //
 // Method. The field is sampled at even steps of the octaves shown, so that the compensation follows the footprint that is heard and does not
 // count the highest bins more than others. The gain is one over the root of the samples' mean square. It is capped, lest a narrow and
-// deep Scan or Harmonic be raised past what is safe.
+// deep Scan or Harmonic be raised past what is safe. Where the samples lie does not depend on the field, so that is a table of constants.
 ghost use mathlib.Core.Path.{_≡_};
-ghost use Prim.Native.Nat.{_<_};
+ghost use mathlib.Core.Bool.{false};
+ghost use lib.Ieee.{le};
 ghost use Rattle.power.specs.Table.{powerTable};
 ghost use Rattle.sine.specs.Table.{sineTable};
-ghost use Rattle.motion.specs.Compensation.{MOTION-COMPENSATION-SAMPLES, sampleFrequency, samplePower, meanSquare, compensation};
-use crate::field::MIN_DISPLAY_FREQUENCY_HZ;
+ghost use Rattle.motion.specs.Field.{RESTING-DEPTH-DB};
+ghost use Rattle.motion.specs.Octaves.{settled, powerLeft};
+ghost use Rattle.motion.specs.Compensation.{meanSquare, compensation};
+use crate::field::MIN_SIZE_OCTAVES;
 use crate::field::RESTING_DEPTH_DB;
-use crate::field::motion_gain;
-use crate::shapes::DISPLAY_OCTAVES;
+use crate::field::shape_at;
+use crate::octaves::octave_table;
 use decibels::gain;
+use float32::order::max;
 use float32::order::min;
+use float32::remainder::rem_euclid_one;
 use float32::root::sqrt;
-use power::exp2::exp2;
 use power::table::PowerTable;
 use scene::MotionConfig;
 use sine::table::SineTable;
@@ -24,31 +28,49 @@ const MOTION_COMPENSATION_SAMPLES: usize = 256;
 
 const MAX_MOTION_COMPENSATION_DB: f32 = 12.0;
 
-// The middle of the step `index` of the octaves shown.
-fn sample_frequency(powers: &PowerTable, index: usize) -> f32
-    requires { ⌜ (now powers ≡ powerTable) × (index < MOTION-COMPENSATION-SAMPLES) ⌝ }
-    ensures { λ r. ⌜ r ≡ sampleFrequency index ⌝ }
+// The settings as the shapes take them, which is the same at every sample.
+fn settled(config: MotionConfig) -> MotionConfig
+    ensures { λ r. ⌜ r ≡ settled config ⌝ }
 {
-    let octave = (index as f32 + 0.5) / (MOTION_COMPENSATION_SAMPLES as f32) * DISPLAY_OCTAVES;
-    MIN_DISPLAY_FREQUENCY_HZ * exp2(powers, octave)
+    let depth_db = max(config.depth_db, 0.0);
+    let size_octaves = max(config.size_octaves, MIN_SIZE_OCTAVES);
+    let phase = rem_euclid_one(config.phase);
+    let shape = config.shape;
+    MotionConfig {
+        shape,
+        depth_db,
+        phase,
+        size_octaves,
+    }
 }
 
-fn sample_power(powers: &PowerTable, sines: &SineTable, index: usize, config: MotionConfig) -> f32
-    requires { ⌜ (now powers ≡ powerTable) × (now sines ≡ sineTable) × (index < MOTION-COMPENSATION-SAMPLES) ⌝ }
-    ensures { λ r. ⌜ r ≡ samplePower config index ⌝ }
+fn sample_power(powers: &PowerTable, sines: &SineTable, octave: f32, field: MotionConfig) -> f32
+    requires { ⌜ (now powers ≡ powerTable) × (now sines ≡ sineTable) ⌝ }
+    ensures { λ r. ⌜ r ≡ powerLeft field octave ⌝ }
 {
-    let gain = motion_gain(powers, sines, sample_frequency(powers, index), config);
+    let shape = field.shape;
+    let opening = shape_at(
+        powers,
+        sines,
+        shape,
+        octave,
+        field.size_octaves,
+        field.phase,
+    );
+    let gain = gain(powers, -(field.depth_db * (1.0 - opening)));
     gain * gain
 }
 
 fn mean_square(powers: &PowerTable, sines: &SineTable, config: MotionConfig) -> f32
-    requires { ⌜ (now powers ≡ powerTable) × (now sines ≡ sineTable) ⌝ }
+    requires { ⌜ (now powers ≡ powerTable) × (now sines ≡ sineTable) × (le (config .«depth_db») RESTING-DEPTH-DB ≡ false) ⌝ }
     ensures { λ r. ⌜ r ≡ meanSquare config ⌝ }
 {
+    let octaves = octave_table();
+    let field = settled(config);
     let mut sum = 0.0;
     let mut index: usize = 0;
     while index < MOTION_COMPENSATION_SAMPLES {
-        sum = sum + sample_power(powers, sines, index, config);
+        sum = sum + sample_power(powers, sines, octaves[index], field);
         index += 1;
     }
     sum / (MOTION_COMPENSATION_SAMPLES as f32)

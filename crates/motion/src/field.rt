@@ -23,10 +23,10 @@ pub const MIN_DISPLAY_FREQUENCY_HZ: f32 = 20.0;
 // Up to this depth the field rests, open everywhere.
 pub const RESTING_DEPTH_DB: f32 = 0.001;
 
-const MIN_SIZE_OCTAVES: f32 = 0.05;
+pub(crate) const MIN_SIZE_OCTAVES: f32 = 0.05;
 
 // The shape's openness x octaves above the lowest frequency shown. Sprinkle and Cloud are made of events and have no field, so theirs is open.
-fn shape_at(
+pub(crate) fn shape_at(
     powers: &PowerTable,
     sines: &SineTable,
     shape: MotionShape,

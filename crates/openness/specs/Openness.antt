@@ -20,10 +20,14 @@ use Rattle.lobes.specs.Lobe.{lobeOf, opening}
 abbrev pub SKIPPED-LEVEL : Float
 SKIPPED-LEVEL = ofBits binary32 0x3727_c5ac
 
--- a lobe joined to what a bin holds, where it reaches the bin; gain is the voice's expression on this side
+-- what a bin holds, and what a lobe opens there; gain is the voice's expression on this side
+abbrev pub joined : Float → Float → Float → Float
+joined gain held opening = maximum held (mul binary32 opening gain)
+
+-- a lobe joined to what a bin holds, where it reaches the bin
 unfoldable pub lobeJoined : Grid → Logs → Float → ℕ → Float → Lobe → Float
 lobeJoined grid logs gain bin held lobe =
-    cond (leb (lobe .«first_bin») bin && leb bin (lobe .«last_bin»)) (maximum held (mul binary32 (opening grid logs lobe bin) gain)) held
+    cond (leb (lobe .«first_bin») bin && leb bin (lobe .«last_bin»)) (joined gain held (opening grid logs lobe bin)) held
 
 -- the partials 1, 2, .. of a tone, ending at the first whose centre is above nyquist
 abbrev pub partialsOf : Grid → Tone → List ℕ

@@ -1,1 +1,92 @@
 // How far the voices open each bin.
+ghost use mathlib.Core.Path.{_≡_};
+ghost use mathlib.Core.Bool.{true};
+ghost use Prim.Native.Nat.{_^_, _≤_, _<_};
+ghost use lib.ListN.{length, take};
+ghost use Rattle.lists.specs.Maps.{tabulate};
+ghost use Rattle.power.specs.Table.{powerTable};
+ghost use Rattle.sine.specs.Table.{sineTable};
+ghost use Rattle.gaussian.specs.Table.{gaussianTable};
+ghost use Rattle.lobes.specs.Pan as side;
+ghost use Rattle.lobes.specs.Distance.{lent, logsOf};
+ghost use Rattle.openness.specs.Openness.{openness};
+use gaussian::GaussianTable;
+use joins::shut;
+use lobes::Grid;
+use power::table::PowerTable;
+use scene::MaskVoice;
+use sine::table::SineTable;
+use voices::raise_voices;
+
+pub mod chunk;
+pub mod joins;
+pub mod raise;
+pub mod voices;
+
+// One mask for both sides.
+pub fn open_one(
+    out: &mut [f32],
+    powers: &PowerTable,
+    sines: &SineTable,
+    gaussians: &GaussianTable,
+    tabled: bool,
+    table: &[f32],
+    grid: Grid,
+    voices: [MaskVoice; 128],
+    count: usize,
+)
+    requires { ⌜ (now powers ≡ powerTable) × (now sines ≡ sineTable) × (now gaussians ≡ gaussianTable) × (grid .partials ≤ 24) × (grid .«last_bin» ≤ 2 ^ 24) × (tabled ≡ true → grid .«last_bin» < length (now table)) × (count ≤ 128) ⌝ }
+    ensures { λ _. ⌜ now (out .exit) ≡ tabulate (length (now (out .entry))) (openness grid (logsOf tabled (now (table .entry))) side.mono (take count voices)) ⌝ }
+{
+    let mut nothing = [0.0f32; 1];
+    let mut chunk = [0.0f32; 64];
+    shut(out);
+    raise_voices(
+        out,
+        &mut nothing,
+        &mut chunk,
+        powers,
+        sines,
+        gaussians,
+        tabled,
+        table,
+        false,
+        grid,
+        voices,
+        count,
+    );
+}
+
+// A mask for each side, from a lent table.
+pub fn open_two(
+    left: &mut [f32],
+    right: &mut [f32],
+    powers: &PowerTable,
+    sines: &SineTable,
+    gaussians: &GaussianTable,
+    table: &[f32],
+    grid: Grid,
+    voices: [MaskVoice; 128],
+    count: usize,
+)
+    requires { ⌜ (now powers ≡ powerTable) × (now sines ≡ sineTable) × (now gaussians ≡ gaussianTable) × (grid .partials ≤ 24) × (grid .«last_bin» ≤ 2 ^ 24) × (grid .«last_bin» < length (now table)) × (count ≤ 128) ⌝ }
+    ensures { λ _. ⌜ (now (left .exit) ≡ tabulate (length (now (left .entry))) (openness grid (lent (now (table .entry))) side.left (take count voices))) × (now (right .exit) ≡ tabulate (length (now (right .entry))) (openness grid (lent (now (table .entry))) side.right (take count voices))) ⌝ }
+{
+    let mut chunk = [0.0f32; 64];
+    shut(left);
+    shut(right);
+    raise_voices(
+        left,
+        right,
+        &mut chunk,
+        powers,
+        sines,
+        gaussians,
+        true,
+        table,
+        true,
+        grid,
+        voices,
+        count,
+    );
+}

@@ -9,9 +9,12 @@ pub mod Range
 pub mod Greatest
 pub mod Division
 pub mod Search
+pub mod Guess
 pub mod Normal
 pub mod Logs
+pub mod LogParts
 pub mod LogMade
 pub mod LogRising
 pub mod LogRange
+pub mod LogComputed
 pub mod Bases

@@ -45,7 +45,7 @@ rounded-mono Y Z h = round-order binary32 (2 ^ 24) (126 * 2 ^ 24) Y Z (pow-pos 2
 
 -- ---- M, the 24 leading digits of n
 module _ (n : ℕ) (h : 2 ^ 23 ≤ n) where
-  size-high : 24 ≤ size n
+  pub size-high : 24 ≤ size n
   size-high = lt-of-not-le (λ (g : size n ≤ 23). not-le-of-lt (size-lt n) (le-trans (pow-mono g) h))
 
   pub M-low : 2 ^ 23 ≤ n / 2 ^ (size n - 24)

@@ -1,5 +1,5 @@
--- What `find` computes: the walk over the table's steps stops within it, since P begins at 2 ^ 30 and ends at 2 ^ 31, at the step that t lies in;
--- the division that follows is done within 64 bits. Assumes nothing.
+-- What `find` computes: the step that t lies in, which is within the table, since P begins at 2 ^ 30 and ends at 2 ^ 31; the division that follows is done within 64 bits.
+-- Assumes nothing.
 use mathlib.Core.Path.{_≡_, refl, subst}
 use mathlib.Core.Logic.{inl, inr}
 use Prim.Native.Nat.{ℕ, suc, _+_, _-_, _*_, _/_, _%_, _^_, _≤_, _<_}
@@ -18,7 +18,7 @@ P-first : P 0 ≡ 2 ^ 30
 unfolding powerTable
 P-first = refl
 
-P-last : P (2 ^ highBits) ≡ 2 ^ 31
+pub P-last : P (2 ^ highBits) ≡ 2 ^ 31
 unfolding powerTable
 P-last = refl
 

@@ -4,7 +4,7 @@ ghost use Rattle.power.specs.Power.{E2};
 use crate::table::PowerTable;
 use crate::table::interpolate;
 
-const LARGEST: f32 = 3.4028235e38;
+pub(crate) const LARGEST: f32 = 3.4028235e38;
 
 // 2^x: E2 of document 01.
 //

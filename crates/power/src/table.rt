@@ -6,8 +6,6 @@ ghost use Rattle.power.specs.Table.{highBits, powerTable, P, I};
 pub type PowerTable = [u32; 257];
 
 // F has 24 bits. The high ones choose a step of the table, and the low ones the place within the step.
-pub(crate) const LAST_STEP: usize = 255;
-
 pub(crate) const LOW_BITS: u64 = 16;
 
 pub(crate) const LOW_MASK: u64 = 0xffff;

@@ -59,7 +59,8 @@ pub struct MaskConfig {
     pub motion: MotionConfig,
 }
 
-fn both(a: bool, b: bool) -> bool
+// Both of two tests, made without a branch.
+pub fn both(a: bool, b: bool) -> bool
     ensures { λ r. ⌜ r ≡ (a && b) ⌝ }
 {
     if a { b } else { false }

@@ -16,13 +16,13 @@ use Rattle.float_laws.specs.Order.{le-refl-f}
 use Rattle.lists.specs.Folds.{fold, fold-keeps, firstBad, bad-none}
 use Rattle.float32.proofs.Limits.{within-low, within-real}
 use Rattle.answer.specs.Reply.{done, refused}
+use Rattle.answer.specs.Written.{written}
 use Rattle.limits.specs.Limits as limits
 use Rattle.limits.specs.Limits.{LEAST-ELAPSED, MOST-ELAPSED, LEAST-FADE, MOST-FADE}
 use Rattle.envelopes.specs.Envelope.{isHeld, fadeAlpha, advanced}
 use Rattle.envelopes.proofs.Unit.{Unit, unit-within}
 use Rattle.envelopes.proofs.Alpha.{fade-alpha-unit}
 use Rattle.envelopes.proofs.Bank.{Levels, Toward, levels-stay, none-moves-away}
-use Rattle.spectral_dsp.specs.Written.{written}
 use Rattle.spectral_dsp.specs.Advanced.{advanceReply, advanceOf}
 
 -- what a call is given beside the bank; its numbers are f32 values

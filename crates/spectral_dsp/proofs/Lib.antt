@@ -3,3 +3,4 @@ pub mod GateAnswers
 pub mod Tests
 pub mod Accepted
 pub mod DualWindow
+pub mod MaskAccepted

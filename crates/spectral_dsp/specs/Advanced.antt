@@ -8,9 +8,9 @@ use lib.Ieee.{Float}
 use Rattle.lists.specs.Folds.{firstBad}
 use Rattle.answer.specs.Reply.{Reply, done, refused, ofOutcome}
 use Rattle.answer.specs.declared.Envelopes.{Envelopes}
+use Rattle.answer.specs.Written.{written}
 use Rattle.limits.specs.Limits as limits
 use Rattle.envelopes.specs.Envelope.{advanced}
-use Rattle.spectral_dsp.specs.Written.{written}
 
 -- the answer in document 01's terms, and the bank
 pub record Advance : Type 0 where

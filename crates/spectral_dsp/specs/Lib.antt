@@ -1,4 +1,3 @@
-pub mod Written
 pub mod Gates
 pub mod Motion
 pub mod Advanced

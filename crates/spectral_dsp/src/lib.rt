@@ -1,16 +1,17 @@
 // The open calls of spectral-dsp, under the Rust's names. Each tests what it is given, in the order of document 01's numbers, and then makes one call of the core.
 pub mod processing;
+mod refusals;
 
 ghost use mathlib.Core.Path.{_≡_};
 ghost use lib.ListN.{length};
 ghost use Rattle.lists.specs.Maps.{tabulate};
 ghost use Rattle.answer.specs.Reply.{ofAnswer, ofOutcome};
+ghost use Rattle.answer.specs.Written.{written};
 ghost use Rattle.frequencies.specs.Frequency.{prepared};
 ghost use Rattle.spectral_dsp.specs.Advanced.{ofEnvelopes, advanceOf};
 ghost use Rattle.spectral_dsp.specs.Gates.{noteEmphasisGain, noteGateGain, manualGainAtBin};
 ghost use Rattle.spectral_dsp.specs.Motion.{opennessReply, attenuationReply, compensationReply};
 ghost use Rattle.spectral_dsp.specs.Prepared.{prepareReply};
-ghost use Rattle.spectral_dsp.specs.Written.{written};
 use answer::Answer;
 use answer::Envelopes;
 use answer::Outcome;

@@ -13,7 +13,7 @@ use Rattle.answer.specs.declared.Envelopes.{Envelopes}
 use Rattle.limits.specs.Limits as limits
 use Rattle.envelopes.specs.Envelope.{advanced}
 use Rattle.spectral_dsp.specs.Advanced.{Advance, ofEnvelopes, advanceOf, advanceReply}
-use Rattle.spectral_dsp.specs.Written.{written}
+use Rattle.answer.specs.Written.{written}
 use Rattle.spectral_dsp_c.specs.Settings.{bankReply}
 
 module _ (levels : List Float) (held : List ℕ) (elapsed fade : Float) where

@@ -4,7 +4,7 @@ use mathlib.Core.List.{List}
 use Prim.Native.Nat.{ℕ}
 use lib.Ieee.{Float}
 use Rattle.answer.specs.Reply.{Reply}
-use Rattle.spectral_dsp.specs.Written.{written}
+use Rattle.answer.specs.Written.{written}
 use Rattle.spectral_dsp_c.specs.Given.{Given, GivenValue, GivenValues}
 
 pub given : {a b : Reply} {r p q : ℕ} → a ≡ b → Given a r p q → Given b r p q

@@ -1,11 +1,11 @@
 // The open calls on windows and gain lists.
 ghost use mathlib.Core.Path.{_≡_};
 ghost use lib.ListN.{length};
+ghost use Rattle.answer.specs.Written.{written};
 ghost use Rattle.windows.specs.Windows.{dualOf};
 ghost use Rattle.smoothing.specs.Smoothing.{softenedOf, smoothedOf};
 ghost use Rattle.prepared_spectrum.specs.Block.{blockOf};
 ghost use Rattle.spectral_dsp.specs.Processing.{dualReply, softenReply, smoothReply, preparedReply};
-ghost use Rattle.spectral_dsp.specs.Written.{written};
 ghost use Rattle.spectral_dsp_c.specs.Given.{Given, GivenValues};
 use crate::answers::give_outcome;
 use crate::answers::give_prepared;

@@ -1,34 +1,49 @@
--- `guess` meets its contract: a product of two numbers up to 2 ^ 15 is at most 2 ^ 30, so nothing wraps. Assumes nothing.
+-- `guess` meets its contract: nothing wraps, m being below 2 ^ 10, and proofs/Guess.antt says the rest. Assumes nothing.
 use borrow.Author.Needs.{needs}
 use native.Mathlib.Omega.{arith}
 use native.Mathlib.Nat.{mul-le-mul}
 use Prim.Native.Nat.{ℕ, _<_, _≤_, _-_, _*_, _/_, _^_}
+use Rattle.power.proofs.Guess.{guess-within, guess-from, guess-to}
 use Rattle.power.proofs.log2.guess.Statement.{statement}
 use Rattle.power.proofs.log2.guess.Tie as tie
 
-bound : (t : ℕ) → t < 2 ^ 31 → (t - 2 ^ 30) / 2 ^ 15 * (2 ^ 15 - (t - 2 ^ 30) / 2 ^ 15) ≤ 2 ^ 15 * 2 ^ 15
-bound t h = mul-le-mul {n₁ = (t - 2 ^ 30) / 2 ^ 15} {m₁ = 2 ^ 15 - (t - 2 ^ 30) / 2 ^ 15} {n₂ = 2 ^ 15} {m₂ = 2 ^ 15} (omega arith) (omega arith)
+bend : (m : ℕ) → m < 1024 → m * (603980 - m * 162) ≤ 1024 * 603980
+bend m h = mul-le-mul {n₁ = m} {m₁ = 603980 - m * 162} {n₂ = 1024} {m₂ = 603980} (omega arith) (omega arith)
+
+whole : (m : ℕ) → m < 1024 → m * (1522565906 - m * (603980 - m * 162)) ≤ 1024 * 1522565906
+whole m h = mul-le-mul {n₁ = m} {m₁ = 1522565906 - m * (603980 - m * 162)} {n₂ = 1024} {m₂ = 1522565906} (omega arith) (omega arith)
+
+abbrev m-of : tie.Start → ℕ
+m-of c = (c .args .t - 2 ^ 30) / 2 ^ 20
+
+m-lt : (c : tie.Start) → m-of c < 1024
+m-lt c = let u = c .pre .1 in omega arith
 
 sub-m : tie.Need-sub-m
 sub-m c = search needs
 
-sub-bend : tie.Need-sub-bend
-sub-bend c = search needs
+mul-result : tie.Need-mul-result
+mul-result c = search needs
 
-mul-bend : tie.Need-mul-bend
-mul-bend c = let b = bound (c .args .t) (c .pre .1) in omega arith
+sub-result : tie.Need-sub-result
+sub-result c = search needs
 
-mul-bend-2 : tie.Need-mul-bend-2
-mul-bend-2 c = let b = bound (c .args .t) (c .pre .1) in omega arith
+mul-result-2 : tie.Need-mul-result-2
+mul-result-2 c = let b = bend (m-of c) (m-lt c) in omega arith
 
-add-h : tie.Need-add-h
-add-h c = let b = bound (c .args .t) (c .pre .1) in omega arith
+sub-result-2 : tie.Need-sub-result-2
+sub-result-2 c = let b = bend (m-of c) (m-lt c) in omega arith
+
+mul-result-3 : tie.Need-mul-result-3
+mul-result-3 c = let b = whole (m-of c) (m-lt c) in omega arith
 
 returns : tie.Need-returns
-returns c = search needs
-
-returns-2 : tie.Need-returns-2
-returns-2 c = search needs
+returns c =
+    let t = c .args .t in
+    let l = c .pre .0 in
+    let u = c .pre .1 in
+    (guess-within t l u, guess-from t l u, guess-to t l u)
 
 pub guess-spec : {M : Type 1} → statement M
-guess-spec = tie.close (tie.spec sub-m sub-bend mul-bend mul-bend-2 add-h returns returns-2)
+guess-spec =
+    tie.close (tie.spec sub-m mul-result sub-result mul-result-2 sub-result-2 mul-result-3 returns)

@@ -1,61 +1,44 @@
--- `step_of` meets its contract. The walk up stops before the last entry, which is 2 ^ 31; where it stops the step's entry is at most t and the next is above. Assumes nothing.
+-- `step_of` meets its contract: proofs/Guess.antt says it of the guess and the test. Assumes nothing.
+use mathlib.Core.Path.{ap, _∙_}
+use mathlib.Core.Bool.{Bool, true, false}
+use borrow.Author.Needs.{needs}
 use native.Mathlib.Omega.{arith}
-use Prim.Native.Nat.{_+_, _-_, _^_, _<_, _≤_}
-use Rattle.power.specs.Table.{highBits, P}
-use Rattle.power.proofs.Search.{step-greatest, not-last}
+use Prim.Native.Nat.{ℕ, _+_, _≤_}
+use mir.Val.{boolByte}
+use lib.Dec.{leb}
+use Rattle.power.proofs.Guess.{step-from}
 use Rattle.power.proofs.log2.step_of.Statement.{statement}
 use Rattle.power.proofs.log2.step_of.Tie as tie
 
-abbrev Inv-loop : tie.InvT-loop
-Inv-loop powers t h₀ h = (h < 2 ^ highBits) × (P h ≤ t)
+guess-requires : tie.Need-guess-requires
+guess-requires c κs = search needs
 
-abbrev μ-loop : tie.MeasureT-loop
-μ-loop powers t h₀ h = 2 ^ highBits - h
+add-power : tie.Need-add-power
+add-power c = search needs
 
-guess-requires : tie.Need-guess-requires Inv-loop μ-loop
-guess-requires c κs = (c .pre .1, c .pre .2)
+power-requires : tie.Need-power-requires
+power-requires c κs = search needs
 
-step-below-requires : tie.Need-step-below-requires Inv-loop μ-loop
-step-below-requires c κs = (c .before .pre .0, c .before .pre .1, c .guess .ensures)
+cast-result : tie.Need-cast-result
+cast-result c = search needs
 
-loop-holds : tie.Need-loop-holds Inv-loop μ-loop
-loop-holds c = c .step-below .ensures
+byte-le : (b : Bool) → boolByte b ≤ 1
+byte-le true = omega arith
+byte-le false = omega arith
 
-add-power : tie.Need-add-power Inv-loop μ-loop
-add-power c = omega arith
+add-result : tie.Need-add-result
+add-result c =
+    let b = byte-le (leb (c .power .result) (c .before .before .args .t)) in
+    let g = c .before .guess .ensures .0 in
+    omega arith
 
-power-requires : tie.Need-power-requires Inv-loop μ-loop
-power-requires c κs = (c .before .before .before .pre .0, omega arith)
-
-add-h : tie.Need-add-h Inv-loop μ-loop
-add-h c = omega arith
-
-loop-less : tie.Need-loop-less Inv-loop μ-loop
-loop-less c = omega arith
-
-loop-again : tie.Need-loop-again Inv-loop μ-loop
-loop-again c =
-    let t = c .before .before .before .before .before .args .t in
-    let g : P (c .before .before .loop .h + 1) ≤ t = omega arith in
-    (not-last (c .before .before .loop .h) t (c .before .before .loop .inv .0) (c .before .before .before .before .before .pre .2) g, g)
-
-returns : tie.Need-returns Inv-loop μ-loop
+returns : tie.Need-returns
 returns c =
-    step-greatest (c .before .before .before .before .before .args .t) (c .before .before .loop .h)
-    record { within = c .before .before .loop .inv .0; from = c .before .before .loop .inv .1; to = omega arith }
+    let t = c .before .before .args .t in
+    let h = c .before .guess .result in
+    let g = c .before .guess .ensures in
+    ap (λ (x : ℕ). h + boolByte (leb x t)) (c .power .ensures) ∙ step-from t h (c .before .before .pre .2) (g .0) (g .1) (g .2)
 
 pub step-of-spec : {M : Type 1} → statement M
 step-of-spec =
-    tie.close
-    (tie.spec
-    Inv-loop
-    μ-loop
-    guess-requires
-    step-below-requires
-    loop-holds
-    add-power
-    power-requires
-    add-h
-    loop-less
-    loop-again
-    returns)
+    tie.close (tie.spec guess-requires add-power power-requires cast-result add-result returns)

@@ -1,0 +1,76 @@
+// A partial's lobe: the bins that it reaches, its strength, and the bin where it is at its full height.
+ghost use mathlib.Core.Path.{_≡_};
+ghost use mathlib.Core.Bool.{true};
+ghost use Prim.Native.Nat.{_^_, _≤_, _<_};
+ghost use lib.ListN.{length};
+ghost use Rattle.power.specs.Table.{powerTable};
+ghost use Rattle.lobes.specs.Distance.{logsOf, distance};
+ghost use Rattle.lobes.specs.Lobe.{firstBin, lastBin, lobeOf};
+use crate::Grid;
+use crate::Lobe;
+use crate::Tone;
+use crate::counts::greater;
+use crate::counts::lesser;
+use crate::distances::distance_by_hertz;
+use crate::distances::distance_by_table;
+use crate::peaks::closest_bin_in_cents;
+use crate::tones::center_of;
+use crate::tones::harmonic_gain;
+use power::table::PowerTable;
+
+// Never bin 0.
+pub fn first_bin(grid: Grid, center: f32) -> usize
+    ensures { λ r. ⌜ r ≡ firstBin grid center ⌝ }
+{
+    let place = center * grid.lower_ratio / grid.bin_hz;
+    greater(float32::counts::floor_to_count(place), 1)
+}
+
+pub fn last_bin(grid: Grid, center: f32) -> usize
+    ensures { λ r. ⌜ r ≡ lastBin grid center ⌝ }
+{
+    let place = center * grid.upper_ratio / grid.bin_hz;
+    lesser(float32::counts::ceil_to_count(place), grid.last_bin)
+}
+
+// A bin's distance from a centre: by the table where one was lent.
+fn distance(
+    powers: &PowerTable,
+    tabled: bool,
+    table: &[f32],
+    grid: Grid,
+    center: f32,
+    bin: usize,
+) -> f32
+    requires { ⌜ (now powers ≡ powerTable) × (bin ≤ 2 ^ 24) × (tabled ≡ true → bin < length (now table)) ⌝ }
+    ensures { λ r. ⌜ r ≡ distance grid (logsOf tabled (now (table .entry))) center bin ⌝ }
+{
+    if tabled {
+        return distance_by_table(table, grid.width, power::log2::log2(powers, center), bin);
+    }
+    distance_by_hertz(powers, grid, center, bin)
+}
+
+pub fn lobe_of(
+    powers: &PowerTable,
+    tabled: bool,
+    table: &[f32],
+    grid: Grid,
+    tone: Tone,
+    partial: usize,
+) -> Lobe
+    requires { ⌜ (now powers ≡ powerTable) × (grid .«last_bin» ≤ 2 ^ 24) × (partial ≤ 2 ^ 24) × (tabled ≡ true → grid .«last_bin» < length (now table)) ⌝ }
+    ensures { λ r. ⌜ r ≡ lobeOf grid (logsOf tabled (now (table .entry))) tone partial ⌝ }
+{
+    let center = center_of(tone, partial);
+    let strength = tone.level * harmonic_gain(powers, tone.rolloff, partial);
+    let peak_bin = closest_bin_in_cents(powers, center, grid.bin_hz, grid.last_bin);
+    let peak = distance(powers, tabled, table, grid, center, peak_bin);
+    Lobe {
+        center,
+        strength,
+        first_bin: first_bin(grid, center),
+        last_bin: last_bin(grid, center),
+        peak_squared: float32::powers::powi2(peak),
+    }
+}

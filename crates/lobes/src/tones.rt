@@ -1,0 +1,77 @@
+// What all partials of a voice share, and from it a partial's frequency and gain.
+ghost use mathlib.Core.Path.{_≡_};
+ghost use Prim.Native.Nat.{_^_, _≤_};
+ghost use Rattle.power.specs.Table.{powerTable};
+ghost use Rattle.lobes.specs.Tone.{pressureGain, noteLevel, timbreRolloff, fundamentalOf, toneOf, centerOf, harmonicGain};
+use crate::Grid;
+use crate::Tone;
+use crate::grids::HALF;
+use float32::order::clamp;
+use float32::order::max;
+use power::table::PowerTable;
+use scene::MaskVoice;
+
+// 0.35 of the level is there without pressure, and 0.65 comes with it.
+const LEAST_PRESSURE_GAIN: f32 = 0.35;
+
+const PRESSURE_GAIN_RANGE: f32 = 0.65;
+
+// From the darkest to the brightest timbre, in decibels per octave.
+const TIMBRE_RANGE_DB: f32 = 24.0;
+
+const MAX_ROLLOFF_DB: f32 = 48.0;
+
+fn pressure_gain(pressure: f32) -> f32
+    ensures { λ r. ⌜ r ≡ pressureGain pressure ⌝ }
+{
+    LEAST_PRESSURE_GAIN + PRESSURE_GAIN_RANGE * clamp(pressure, 0.0, 1.0)
+}
+
+fn note_level(voice: MaskVoice) -> f32
+    ensures { λ r. ⌜ r ≡ noteLevel voice ⌝ }
+{
+    voice.level * max(voice.volume_gain, 0.0) * pressure_gain(voice.pressure)
+}
+
+// A dark timbre raises the rolloff, a bright one lowers it.
+fn timbre_rolloff(rolloff: f32, timbre: f32) -> f32
+    ensures { λ r. ⌜ r ≡ timbreRolloff rolloff timbre ⌝ }
+{
+    let bend = (HALF - clamp(timbre, 0.0, 1.0)) * TIMBRE_RANGE_DB;
+    clamp(rolloff + bend, 0.0, MAX_ROLLOFF_DB)
+}
+
+fn fundamental_of(powers: &PowerTable, voice: MaskVoice) -> f32
+    requires { ⌜ now powers ≡ powerTable ⌝ }
+    ensures { λ r. ⌜ r ≡ fundamentalOf voice ⌝ }
+{
+    pitch::note_hertz(powers, voice.note, voice.tuning_semitones)
+}
+
+pub fn tone_of(powers: &PowerTable, grid: Grid, voice: MaskVoice) -> Tone
+    requires { ⌜ now powers ≡ powerTable ⌝ }
+    ensures { λ r. ⌜ r ≡ toneOf grid voice ⌝ }
+{
+    let fundamental = fundamental_of(powers, voice);
+    let level = note_level(voice);
+    let rolloff = timbre_rolloff(grid.rolloff, voice.timbre);
+    Tone {
+        fundamental,
+        level,
+        rolloff,
+    }
+}
+
+pub fn center_of(tone: Tone, partial: usize) -> f32
+    requires { ⌜ partial ≤ 2 ^ 24 ⌝ }
+    ensures { λ r. ⌜ r ≡ centerOf tone partial ⌝ }
+{
+    tone.fundamental * partial as f32
+}
+
+pub fn harmonic_gain(powers: &PowerTable, rolloff: f32, partial: usize) -> f32
+    requires { ⌜ (now powers ≡ powerTable) × (partial ≤ 2 ^ 24) ⌝ }
+    ensures { λ r. ⌜ r ≡ harmonicGain rolloff partial ⌝ }
+{
+    decibels::gain(powers, -rolloff * power::log2::log2(powers, partial as f32))
+}

@@ -1,0 +1,34 @@
+// Whether the two sides of a stereo mask are one.
+ghost use mathlib.Core.Path.{_≡_};
+ghost use Prim.Native.Nat.{_≤_};
+ghost use lib.ListN.{take};
+ghost use Rattle.mask_builder.specs.Centered.{centered, allCentered};
+use scene::MaskVoice;
+
+// The level up to which a voice is skipped.
+const SKIPPED_LEVEL: f32 = 1.0e-5;
+
+fn centered(voice: MaskVoice) -> bool
+    ensures { λ r. ⌜ r ≡ centered voice ⌝ }
+{
+    if voice.level <= SKIPPED_LEVEL {
+        return true;
+    }
+    lobes::pan::pan_of(voice) == 0.0
+}
+
+pub fn all_centered(voices: [MaskVoice; 128], count: usize) -> bool
+    requires { ⌜ count ≤ 128 ⌝ }
+    ensures { λ r. ⌜ r ≡ allCentered (take count voices) ⌝ }
+{
+    let mut i: usize = 0;
+    while i < count {
+        let voice = voices[i];
+        if centered(voice) {
+            i += 1;
+        } else {
+            return false;
+        }
+    }
+    true
+}

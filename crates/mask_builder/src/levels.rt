@@ -1,0 +1,40 @@
+// The voices of a bank of note levels.
+ghost use mathlib.Core.Path.{_≡_};
+ghost use lib.ListN.{length};
+ghost use Rattle.mask_builder.specs.Levels.{levelVoice, voicesOf};
+use scene::MaskVoice;
+
+// A note at a level, with nothing played on it.
+fn level_voice(note: u8, level: f32) -> MaskVoice
+    ensures { λ r. ⌜ r ≡ levelVoice note level ⌝ }
+{
+    MaskVoice {
+        note: note,
+        level: level,
+        tuning_semitones: 0.0,
+        pressure: 1.0,
+        timbre: 0.5,
+        volume_gain: 1.0,
+        expression_gain: 1.0,
+        pan: 0.0,
+    }
+}
+
+fn silent_voices() -> [MaskVoice; 128]
+    ensures { λ r. ⌜ length r ≡ 128 ⌝ }
+{
+    [level_voice(0, 0.0); 128]
+}
+
+pub fn voices_of(levels: &[f32]) -> [MaskVoice; 128]
+    requires { ⌜ length (now levels) ≡ 128 ⌝ }
+    ensures { λ r. ⌜ r ≡ voicesOf (now (levels .entry)) ⌝ }
+{
+    let mut voices = silent_voices();
+    let mut note: usize = 0;
+    while note < 128 {
+        voices[note] = level_voice(note as u8, levels[note]);
+        note += 1;
+    }
+    voices
+}

@@ -1,0 +1,74 @@
+use lib.ListN.{length, getD}
+use mathlib.Core.Path.{_≡_}
+use Rattle.openness.proofs.Runs.{turned-next}
+use Rattle.openness.specs.Stages.{openedBy}
+use Rattle.gaussian.specs.Bell.{between}
+use lib.Ieee.{nan}
+use mathlib.Core.Logic.{inl}
+use Prim.Native.Nat.{_+_, _-_, _≤_}
+use native.Mathlib.Omega.{arith}
+use Rattle.lists.specs.Turned.{Turned, turned-none, turned-more, turned-to}
+use borrow.Author.Needs.{needs}
+use Rattle.openness.proofs.chunk.openings_at_places.Statement.{statement}
+use Rattle.openness.proofs.chunk.openings_at_places.Tie as tie
+
+abbrev Inv-loop : tie.InvT-loop
+Inv-loop chunk₀ gaussians count strength k₀ chunk k = Turned (λ k place. openedBy strength (between place)) 0 chunk₀ chunk k × (k ≤ count)
+
+abbrev μ-loop : tie.MeasureT-loop
+μ-loop chunk₀ gaussians count strength k₀ chunk k = count - k
+
+loop-holds : tie.Need-loop-holds Inv-loop μ-loop
+loop-holds c = (turned-none _ _ _, omega arith)
+
+mul-between : tie.Need-mul-between Inv-loop μ-loop
+mul-between c = search needs
+
+slice-read-between : tie.Need-slice-read-between Inv-loop μ-loop
+slice-read-between c = search needs
+
+between-requires : tie.Need-between-requires Inv-loop μ-loop
+between-requires c κs = search needs
+
+opened-by-requires : tie.Need-opened-by-requires Inv-loop μ-loop
+opened-by-requires c κs = search needs
+
+mul-chunk : tie.Need-mul-chunk Inv-loop μ-loop
+mul-chunk c = search needs
+
+slice-write-chunk : tie.Need-slice-write-chunk Inv-loop μ-loop
+slice-write-chunk c = search needs
+
+add-k : tie.Need-add-k Inv-loop μ-loop
+add-k c = search needs
+
+loop-less : tie.Need-loop-less Inv-loop μ-loop
+loop-less c = omega arith
+
+loop-again : tie.Need-loop-again Inv-loop μ-loop
+loop-again c = (turned-next nan (c .before .before .before .before .loop .inv .0) (omega arith) (rw (← c .before .between .ensures) (c .opened-by .ensures)), omega arith)
+
+same-length : tie.Need-same-length Inv-loop μ-loop
+same-length c = c .before .loop .inv .0 .len
+
+returns : tie.Need-returns Inv-loop μ-loop
+returns c = turned-to _ (c .before .loop .inv .0) (inl (c .before .loop .inv .1)) (omega arith)
+
+pub openings-at-places-spec : {M : Type 1} → statement M
+openings-at-places-spec =
+    tie.close
+    (tie.spec
+    Inv-loop
+    μ-loop
+    loop-holds
+    mul-between
+    slice-read-between
+    between-requires
+    opened-by-requires
+    mul-chunk
+    slice-write-chunk
+    add-k
+    loop-less
+    loop-again
+    same-length
+    returns)

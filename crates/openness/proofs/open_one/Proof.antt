@@ -1,0 +1,35 @@
+use Rattle.openness.proofs.Opened.{opened}
+use borrow.Author.Needs.{needs}
+use Rattle.openness.proofs.open_one.Statement.{statement}
+use Rattle.openness.proofs.open_one.Tie as tie
+
+shut-requires : tie.Need-shut-requires
+shut-requires c κs = search needs
+
+slice-aggregate-raise-voices : tie.Need-slice-aggregate-raise-voices
+slice-aggregate-raise-voices c = search needs
+
+slice-aggregate-raise-voices-2 : tie.Need-slice-aggregate-raise-voices-2
+slice-aggregate-raise-voices-2 c = search needs
+
+raise-voices-requires : tie.Need-raise-voices-requires
+raise-voices-requires c κs = search needs
+
+same-length : tie.Need-same-length
+same-length c = search needs
+
+returns : tie.Need-returns
+returns c = 
+    let r = c .before .before .before .before in
+    opened _ _ _ _ _ (r .before .before .before .before .before .before .shut .ensures) (r .raise-voices .ensures .0)
+
+pub open-one-spec : {M : Type 1} → statement M
+open-one-spec =
+    tie.close
+    (tie.spec
+    shut-requires
+    slice-aggregate-raise-voices
+    slice-aggregate-raise-voices-2
+    raise-voices-requires
+    same-length
+    returns)

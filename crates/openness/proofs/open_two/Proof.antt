@@ -1,0 +1,41 @@
+use Rattle.openness.proofs.Opened.{opened}
+use borrow.Author.Needs.{needs}
+use Rattle.openness.proofs.open_two.Statement.{statement}
+use Rattle.openness.proofs.open_two.Tie as tie
+
+shut-requires : tie.Need-shut-requires
+shut-requires c κs = search needs
+
+shut-requires-2 : tie.Need-shut-requires-2
+shut-requires-2 c κs = search needs
+
+slice-aggregate-raise-voices : tie.Need-slice-aggregate-raise-voices
+slice-aggregate-raise-voices c = search needs
+
+raise-voices-requires : tie.Need-raise-voices-requires
+raise-voices-requires c κs = search needs
+
+same-length : tie.Need-same-length
+same-length c = search needs
+
+same-length-2 : tie.Need-same-length-2
+same-length-2 c = search needs
+
+returns : tie.Need-returns
+returns c = 
+    let r = c .before .before .before .before .before in
+    let second = r .before .before .before .before .before .before in
+    let first = second .before .before .before .before in
+    (opened _ _ _ _ _ (first .shut .ensures) (r .raise-voices .ensures .0), opened _ _ _ _ _ (second .shut2 .ensures) (r .raise-voices .ensures .1))
+
+pub open-two-spec : {M : Type 1} → statement M
+open-two-spec =
+    tie.close
+    (tie.spec
+    shut-requires
+    shut-requires-2
+    slice-aggregate-raise-voices
+    raise-voices-requires
+    same-length
+    same-length-2
+    returns)

@@ -1,0 +1,105 @@
+// Both sides of a mask raised together, lobe by lobe: what a lobe opens is worked out once, and joined to each side by that side's gain. A mono mask is a first side whose second has
+// no bins.
+ghost use mathlib.Core.Path.{_≡_};
+ghost use mathlib.Core.Bool.{true};
+ghost use Prim.Native.Nat.{_^_, _≤_, _<_};
+ghost use lib.ListN.{length};
+ghost use Rattle.lists.specs.Maps.{mapAt};
+ghost use Rattle.power.specs.Table.{powerTable};
+ghost use Rattle.gaussian.specs.Table.{gaussianTable};
+ghost use Rattle.lobes.specs.Distance.{logsOf};
+ghost use Rattle.openness.specs.Openness.{lobeJoined, toneJoined};
+use crate::chunk::openings;
+use crate::joins::join;
+use gaussian::GaussianTable;
+use lobes::Grid;
+use lobes::Lobe;
+use lobes::Tone;
+use lobes::counts::lesser;
+use lobes::reach::lobe_of;
+use lobes::tones::center_of;
+use power::table::PowerTable;
+
+// A voice's gain on each side.
+pub struct Gains {
+    pub first: f32,
+    pub second: f32,
+}
+
+// A lobe's bins, as many at a time as the chunk has room for.
+fn raise_lobe(
+    first: &mut [f32],
+    second: &mut [f32],
+    chunk: &mut [f32],
+    powers: &PowerTable,
+    gaussians: &GaussianTable,
+    tabled: bool,
+    table: &[f32],
+    grid: Grid,
+    lobe: Lobe,
+    gains: Gains,
+)
+    requires { ⌜ (now powers ≡ powerTable) × (now gaussians ≡ gaussianTable) × (0 < length (now chunk)) × (lobe .«last_bin» ≤ 2 ^ 24) × (tabled ≡ true → lobe .«last_bin» < length (now table)) ⌝ }
+    ensures { λ _. ⌜ (now (first .exit) ≡ mapAt (λ bin held. lobeJoined grid (logsOf tabled (now (table .entry))) (gains .first) bin held lobe) (now (first .entry))) × (now (second .exit) ≡ mapAt (λ bin held. lobeJoined grid (logsOf tabled (now (table .entry))) (gains .second) bin held lobe) (now (second .entry))) ⌝ }
+{
+    let center_log2 = power::log2::log2(powers, lobe.center);
+    let end = lobe.last_bin + 1;
+    let mut start = lobe.first_bin;
+    while start < end {
+        let count = lesser(end - start, chunk.len());
+        let next = start + count;
+        openings(
+            chunk,
+            powers,
+            gaussians,
+            tabled,
+            table,
+            grid,
+            lobe,
+            center_log2,
+            start,
+            count,
+        );
+        join(first, chunk, gains.first, start, next);
+        join(second, chunk, gains.second, start, next);
+        start = next;
+    }
+}
+
+// The partials of a tone, up to the first above nyquist.
+pub fn raise_tone(
+    first: &mut [f32],
+    second: &mut [f32],
+    chunk: &mut [f32],
+    powers: &PowerTable,
+    gaussians: &GaussianTable,
+    tabled: bool,
+    table: &[f32],
+    grid: Grid,
+    tone: Tone,
+    gains: Gains,
+)
+    requires { ⌜ (now powers ≡ powerTable) × (now gaussians ≡ gaussianTable) × (0 < length (now chunk)) × (grid .partials ≤ 24) × (grid .«last_bin» ≤ 2 ^ 24) × (tabled ≡ true → grid .«last_bin» < length (now table)) ⌝ }
+    ensures { λ _. ⌜ (now (first .exit) ≡ mapAt (toneJoined grid (logsOf tabled (now (table .entry))) (gains .first) tone) (now (first .entry))) × (now (second .exit) ≡ mapAt (toneJoined grid (logsOf tabled (now (table .entry))) (gains .second) tone) (now (second .entry))) ⌝ }
+{
+    let mut partial: usize = 1;
+    while partial <= grid.partials {
+        if grid.nyquist < center_of(tone, partial) {
+            return;
+        }
+        let lobe = lobe_of(powers, tabled, table, grid, tone, partial);
+        raise_lobe(
+            first,
+            second,
+            chunk,
+            powers,
+            gaussians,
+            tabled,
+            table,
+            grid,
+            lobe,
+            gains,
+        );
+        partial += 1;
+    }
+}

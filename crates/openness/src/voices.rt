@@ -1,0 +1,117 @@
+// The voices in their order.
+ghost use mathlib.Core.Path.{_≡_};
+ghost use mathlib.Core.Bool.{true};
+ghost use Prim.Native.Nat.{_^_, _≤_, _<_};
+ghost use lib.ListN.{length, take};
+ghost use Rattle.lists.specs.Folds.{fold};
+ghost use Rattle.lists.specs.Maps.{mapAt};
+ghost use Rattle.power.specs.Table.{powerTable};
+ghost use Rattle.sine.specs.Table.{sineTable};
+ghost use Rattle.gaussian.specs.Table.{gaussianTable};
+ghost use Rattle.lobes.specs.Pan.{channelGain};
+ghost use Rattle.lobes.specs.Distance.{logsOf};
+ghost use Rattle.openness.specs.Sides.{firstSide, secondSide};
+ghost use Rattle.openness.specs.Openness.{voiceJoined};
+use crate::raise::Gains;
+use crate::raise::raise_tone;
+use gaussian::GaussianTable;
+use lobes::Grid;
+use lobes::pan::left_gain;
+use lobes::pan::mono_gain;
+use lobes::pan::right_gain;
+use lobes::tones::tone_of;
+use power::table::PowerTable;
+use scene::MaskVoice;
+use sine::table::SineTable;
+
+// A voice at this level or below does nothing.
+const SKIPPED_LEVEL: f32 = 0.00001;
+
+fn gains_of(sines: &SineTable, stereo: bool, voice: MaskVoice) -> Gains
+    requires { ⌜ now sines ≡ sineTable ⌝ }
+    ensures { λ r. ⌜ (r .first ≡ channelGain (firstSide stereo) voice) × (r .second ≡ channelGain (secondSide stereo) voice) ⌝ }
+{
+    if stereo {
+        return Gains {
+            first: left_gain(sines, voice),
+            second: right_gain(sines, voice),
+        };
+    }
+    let gain = mono_gain(voice);
+    Gains {
+        first: gain,
+        second: gain,
+    }
+}
+
+fn raise_voice(
+    first: &mut [f32],
+    second: &mut [f32],
+    chunk: &mut [f32],
+    powers: &PowerTable,
+    sines: &SineTable,
+    gaussians: &GaussianTable,
+    tabled: bool,
+    table: &[f32],
+    stereo: bool,
+    grid: Grid,
+    voice: MaskVoice,
+)
+    requires { ⌜ (now powers ≡ powerTable) × (now sines ≡ sineTable) × (now gaussians ≡ gaussianTable) × (0 < length (now chunk)) × (grid .partials ≤ 24) × (grid .«last_bin» ≤ 2 ^ 24) × (tabled ≡ true → grid .«last_bin» < length (now table)) ⌝ }
+    ensures { λ _. ⌜ (now (first .exit) ≡ mapAt (λ bin held. voiceJoined grid (logsOf tabled (now (table .entry))) (channelGain (firstSide stereo)) bin held voice) (now (first .entry))) × (now (second .exit) ≡ mapAt (λ bin held. voiceJoined grid (logsOf tabled (now (table .entry))) (channelGain (secondSide stereo)) bin held voice) (now (second .entry))) ⌝ }
+{
+    if voice.level <= SKIPPED_LEVEL {
+        return;
+    }
+    let tone = tone_of(powers, grid, voice);
+    let gains = gains_of(sines, stereo, voice);
+    raise_tone(
+        first,
+        second,
+        chunk,
+        powers,
+        gaussians,
+        tabled,
+        table,
+        grid,
+        tone,
+        gains,
+    );
+}
+
+pub fn raise_voices(
+    first: &mut [f32],
+    second: &mut [f32],
+    chunk: &mut [f32],
+    powers: &PowerTable,
+    sines: &SineTable,
+    gaussians: &GaussianTable,
+    tabled: bool,
+    table: &[f32],
+    stereo: bool,
+    grid: Grid,
+    voices: [MaskVoice; 128],
+    count: usize,
+)
+    requires { ⌜ (now powers ≡ powerTable) × (now sines ≡ sineTable) × (now gaussians ≡ gaussianTable) × (0 < length (now chunk)) × (grid .partials ≤ 24) × (grid .«last_bin» ≤ 2 ^ 24) × (tabled ≡ true → grid .«last_bin» < length (now table)) × (count ≤ 128) ⌝ }
+    ensures { λ _. ⌜ (now (first .exit) ≡ mapAt (λ bin held. fold (voiceJoined grid (logsOf tabled (now (table .entry))) (channelGain (firstSide stereo)) bin) held (take count voices)) (now (first .entry))) × (now (second .exit) ≡ mapAt (λ bin held. fold (voiceJoined grid (logsOf tabled (now (table .entry))) (channelGain (secondSide stereo)) bin) held (take count voices)) (now (second .entry))) ⌝ }
+{
+    let mut index: usize = 0;
+    while index < count {
+        let voice = voices[index];
+        raise_voice(
+            first,
+            second,
+            chunk,
+            powers,
+            sines,
+            gaussians,
+            tabled,
+            table,
+            stereo,
+            grid,
+            voice,
+        );
+        index += 1;
+    }
+}
