@@ -69,6 +69,6 @@ module _ (voices : List MaskVoice) where
   stereo-few m n curve config table d = few config _ (tableReply table) d
 
   -- ---- what a slice holds: mask of the voices, where the call is done
-  pub heard : (mask : List MaskVoice → List Float) (old : List Float) (a : Reply) → (Done a → count ≤ 128) → written a (mask (take count (gathered voices))) old ≡ written a (mask voices) old
-  heard mask old (done values) few = ap mask (take-gathered voices (few tt))
-  heard mask old (refused number place) few = refl
+  pub written-same : (mask : List MaskVoice → List Float) (old : List Float) (a : Reply) → (Done a → count ≤ 128) → written a (mask (take count (gathered voices))) old ≡ written a (mask voices) old
+  written-same mask old (done values) few = ap mask (take-gathered voices (few tt))
+  written-same mask old (refused number place) few = refl

@@ -4,10 +4,10 @@ use Rattle.lent_voices.proofs.held.Statement.{statement}
 use Rattle.lent_voices.proofs.held.Tie as tie
 
 returns : tie.Need-returns
-returns c = simp (lt-ltb _ _ (c .if1 .taken))
+returns c = simp (le-ltb _ _ (c .if1 .taken))
 
 returns-2 : tie.Need-returns-2
-returns-2 c = simp (le-ltb _ _ (c .if1 .left))
+returns-2 c = simp (lt-ltb _ _ (c .if1 .left))
 
 pub held-spec : {M : Type 1} → statement M
 held-spec = tie.close (tie.spec returns returns-2)
