@@ -1,3 +1,4 @@
+pub mod Silence
 pub mod Unit
 pub mod Alpha
 pub mod Levels

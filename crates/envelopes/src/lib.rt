@@ -1,30 +1,25 @@
 // The envelopes of the 128 notes: each level moves toward 1 while its note is held and toward 0 while it is not.
 ghost use mathlib.Core.Path.{_≡_};
+ghost use Prim.Native.Nat.{_+_, _-_, _*_, _/_, _%_, _^_, _<_};
+ghost use lib.Dec.{eqb};
 ghost use lib.Ieee.{nan};
-ghost use lib.ListN.{getD};
-ghost use Rattle.lists.specs.Maps.{mapAt, tabulate};
+ghost use lib.ListN.{length, getD};
+ghost use Rattle.lists.specs.Maps.{mapAt, mapRange, tabulate};
 ghost use Rattle.power.specs.Table.{powerTable};
-ghost use Rattle.envelopes.specs.Envelope.{heldBit, isHeld, smoothingAlpha, targetOf, settled, levelToward, advanced};
+ghost use Rattle.envelopes.specs.Envelope.{isHeld, smoothingAlpha, targetOf, settled, levelToward, advanced};
 use power::table::PowerTable;
 
 const NOTES: usize = 128;
+
+// Held notes have a bit each, and note 0 is the top bit of byte 0.
+const BYTES: usize = 16;
 
 const SECONDS_PER_MS: f32 = 0.001;
 
 // A level below this in magnitude is silence.
 const SILENCE: f32 = 1.0e-6;
 
-// 1 where the note is held and 0 where it is not: 16 bytes have a bit for each note, and note 0 is the top bit of byte 0.
-fn held_bit(held: [u8; 16], note: usize) -> u8
-    ensures { λ r. ⌜ r ≡ heldBit held note ⌝ }
-{
-    if note < NOTES {
-        let byte = held[note / 8];
-        let place = (7 - note % 8) as u8;
-        return (byte >> place) & 1;
-    }
-    0
-}
+const MINUS_SILENCE: f32 = -1.0e-6;
 
 // The part of the way to its target that a level goes in the seconds elapsed, where a time of 0 or less is no time at all.
 pub fn smoothing_alpha(powers: &PowerTable, elapsed_seconds: f32, time_seconds: f32) -> f32
@@ -37,22 +32,26 @@ pub fn smoothing_alpha(powers: &PowerTable, elapsed_seconds: f32, time_seconds: 
     1.0 - power::decimal::exp(powers, -elapsed_seconds / time_seconds)
 }
 
-// The bit itself as a number: a choice by it would be a branch that no processor can foresee.
-fn target_of(held: [u8; 16], note: usize) -> f32
-    ensures { λ r. ⌜ r ≡ targetOf (isHeld held note) ⌝ }
+// A bit of a byte as the target of its note; bit 0 is the top one. The bit itself is the number: a choice by it would be a branch that no processor can foresee.
+fn target_of(byte: u8, bit: usize) -> f32
+    requires { ⌜ bit < 8 ⌝ }
+    ensures { λ r. ⌜ r ≡ targetOf (eqb (byte / 2 ^ (7 - bit) % 2) 1) ⌝ }
 {
-    held_bit(held, note) as f32
+    let place = (7 - bit) as u8;
+    ((byte >> place) & 1) as f32
 }
 
 // Silence becomes 0, so that a released level comes to rest.
 fn settle(level: f32) -> f32
     ensures { λ r. ⌜ r ≡ settled level ⌝ }
 {
-    if float32::order::abs(level) < SILENCE {
-        0.0
-    } else {
-        level
+    if level < SILENCE {
+        if MINUS_SILENCE < level {
+            return 0.0;
+        }
+        return level;
     }
+    level
 }
 
 fn next_level(target: f32, alpha: f32, level: f32) -> f32
@@ -61,29 +60,41 @@ fn next_level(target: f32, alpha: f32, level: f32) -> f32
     settle(level + (target - level) * alpha)
 }
 
-// The targets of all notes. They are read bit by bit here, so that the loop over the levels is plain arithmetic, done for several levels at once.
+// The targets of the eight notes of the byte at `index`.
+fn byte_targets(all: &mut [f32], byte: u8, index: usize)
+    requires { ⌜ (length (now all) ≡ 128) × (index < 16) ⌝ }
+    ensures { λ _. ⌜ now (all .exit) ≡ mapRange (λ note x. targetOf (eqb (byte / 2 ^ (7 - note % 8) % 2) 1)) (8 * index) (8 * index + 8) (now (all .entry)) ⌝ }
+{
+    let mut bit: usize = 0;
+    while bit < 8 {
+        all[8 * index + bit] = target_of(byte, bit);
+        bit += 1;
+    }
+}
+
+// The targets of all notes, read byte by byte before the loop over the levels, so that both loops are done for several notes at once.
 fn targets(held: [u8; 16]) -> [f32; 128]
     ensures { λ r. ⌜ r ≡ tabulate 128 (λ note. targetOf (isHeld held note)) ⌝ }
 {
     let mut all = [0.0f32; 128];
-    let mut note: usize = 0;
-    while note < NOTES {
-        all[note] = target_of(held, note);
-        note += 1;
+    let mut index: usize = 0;
+    while index < BYTES {
+        byte_targets(&mut all, held[index], index);
+        index += 1;
     }
     all
 }
 
-fn step(levels: [f32; 128], targets: [f32; 128], alpha: f32) -> [f32; 128]
-    ensures { λ r. ⌜ r ≡ mapAt (λ note level. levelToward (getD targets note nan) alpha level) levels ⌝ }
+// The bank is changed in place, and not copied.
+fn step(bank: &mut [f32], targets: &[f32], alpha: f32)
+    requires { ⌜ (length (now bank) ≡ 128) × (length (now targets) ≡ 128) ⌝ }
+    ensures { λ _. ⌜ now (bank .exit) ≡ mapAt (λ note level. levelToward (getD (now (targets .entry)) note nan) alpha level) (now (bank .entry)) ⌝ }
 {
-    let mut bank = levels;
     let mut note: usize = 0;
     while note < NOTES {
         bank[note] = next_level(targets[note], alpha, bank[note]);
         note += 1;
     }
-    bank
 }
 
 // The bank after one frame.
@@ -98,5 +109,8 @@ pub fn advance(
     ensures { λ r. ⌜ r ≡ advanced held «elapsed_seconds» «fade_ms» levels ⌝ }
 {
     let alpha = smoothing_alpha(powers, elapsed_seconds, fade_ms * SECONDS_PER_MS);
-    step(levels, targets(held), alpha)
+    let toward = targets(held);
+    let mut bank = levels;
+    step(&mut bank, &toward, alpha);
+    bank
 }

@@ -11,6 +11,7 @@ pub mod Power
 pub mod Exact
 pub mod Range
 pub mod Rise
+pub mod Same
 pub mod Bits
 pub mod Near
 pub mod Dual

@@ -6,6 +6,7 @@ ghost use Rattle.lists.specs.Maps.{tabulate};
 ghost use Rattle.power.specs.Table.{powerTable};
 ghost use Rattle.frequencies.specs.Frequency.{binHz, log2Hz, prepared};
 use power::table::PowerTable;
+use power::table::power_table;
 
 // The hertz between two bins that stand side by side. Up to 2^24 an f32 counts without a gap.
 pub fn bin_hz(sample_rate: f32, fft_size: usize) -> f32
@@ -26,8 +27,8 @@ pub fn log2_hz(powers: &PowerTable, bin: usize, bin_hz: f32) -> f32
     power::log2::log2(powers, bin as f32 * bin_hz)
 }
 
-// Fills the table, from bin 0 on.
-pub fn fill(powers: &PowerTable, table: &mut [f32], sample_rate: f32, fft_size: usize)
+// The loop over the bins, for the powers that `fill` lends it.
+fn fill_all(powers: &PowerTable, table: &mut [f32], sample_rate: f32, fft_size: usize)
     requires { ⌜ (now powers ≡ powerTable) × («fft_size» ≤ 2 ^ 24) × (length (now table) ≤ 2 ^ 24) ⌝ }
     ensures { λ _. ⌜ now (table .exit) ≡ tabulate (length (now (table .entry))) (prepared «sample_rate» «fft_size») ⌝ }
 {
@@ -37,4 +38,13 @@ pub fn fill(powers: &PowerTable, table: &mut [f32], sample_rate: f32, fft_size: 
         table[bin] = log2_hz(powers, bin, spacing);
         bin += 1;
     }
+}
+
+// Fills the table, from bin 0 on.
+pub fn fill(table: &mut [f32], sample_rate: f32, fft_size: usize)
+    requires { ⌜ («fft_size» ≤ 2 ^ 24) × (length (now table) ≤ 2 ^ 24) ⌝ }
+    ensures { λ _. ⌜ now (table .exit) ≡ tabulate (length (now (table .entry))) (prepared «sample_rate» «fft_size») ⌝ }
+{
+    let powers = power_table();
+    fill_all(&powers, table, sample_rate, fft_size);
 }

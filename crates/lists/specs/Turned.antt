@@ -10,7 +10,7 @@ use native.Mathlib.Omega.{arith}
 use borrow.Author.Tests.{lt-leb, lt-ltb, le-ltb}
 use lib.ListN.{length, getD, set, length-set}
 use lib.Seq.{ext-getD, getD-set-same, getD-set-other}
-use Rattle.lists.specs.Maps.{mapAt, mapRange, tabulate, between, between-in, between-high, length-mapRange, getD-mapRange, mapRange-empty, mapFrom-same, mapFrom-tab}
+use Rattle.lists.specs.Maps.{mapAt, mapRange, tabulate, between, between-low, between-in, between-high, length-mapRange, getD-mapRange, mapRange-empty, mapFrom-same, mapFrom-tab}
 
 module _ {A : Type 0} where
   pub record Turned (g : ℕ → A → A) (lo : ℕ) (xs₀ xs : List A) (i : ℕ) : Type 0 where
@@ -58,6 +58,35 @@ module _ {A : Type 0} where
               let z : k ≡ i = omega arith in
               rw z
               (getD-set-same xs i v d (omega (arith, t .len)) ∙ e ∙ sym (between-in g lo (i + 1) i (getD xs₀ i d) (t .low) (omega arith)) ∙ sym (getD-mapRange g lo (i + 1) xs₀ i d h))
+
+  -- the entries from i on and below j, all at once
+  pub turned-on : (d : A) {g : ℕ → A → A} {lo : ℕ} {xs₀ xs ys : List A} {i : ℕ} (j : ℕ) → Turned g lo xs₀ xs i → i ≤ j → ys ≡ mapRange g i j xs → Turned g lo xs₀ ys j
+  turned-on d {g} {lo} {xs₀} {xs} {ys} {i} j t h e =
+      let b : lo ≤ i = t .low in
+      record {
+        len = ap length e ∙ length-mapRange g i j xs ∙ t .len;
+        low = omega arith;
+        is =
+            e ∙ ap (mapRange g i j) (t .is)
+            ∙ ext-getD d (mapRange g i j (mapRange g lo i xs₀)) (mapRange g lo j xs₀)
+            (length-mapRange g i j (mapRange g lo i xs₀) ∙ length-mapRange g lo i xs₀ ∙ sym (length-mapRange g lo j xs₀))
+            (λ k p. at k (simp (length-mapRange g i j (mapRange g lo i xs₀), length-mapRange g lo i xs₀) at p));
+      }
+    where
+      at : (k : ℕ) → k < length xs₀ → getD (mapRange g i j (mapRange g lo i xs₀)) k d ≡ getD (mapRange g lo j xs₀) k d
+      at k p =
+          getD-mapRange g i j (mapRange g lo i xs₀) k d (rw (length-mapRange g lo i xs₀) p)
+          ∙ ap (between i j g k) (getD-mapRange g lo i xs₀ k d p) ∙ go (decLt k i) (decLt k j) ∙ sym (getD-mapRange g lo j xs₀ k d p)
+        where
+          x : A
+          x = getD xs₀ k d
+
+          go : Dec (k < i) → Dec (k < j) → between i j g k (between lo i g k x) ≡ between lo j g k x
+          go (yes q) r = between-low g i j k (between lo i g k x) q ∙ simp (lt-ltb k i q, lt-ltb k j (omega arith))
+          go (no q) (yes r) =
+              ap (between i j g k) (between-high g lo i k x (omega arith)) ∙ between-in g i j k x (omega arith) r
+              ∙ sym (between-in g lo j k x (let b = t .low in omega arith) r)
+          go (no q) (no r) = ap (between i j g k) (between-high g lo i k x (omega arith)) ∙ between-high g i j k x (omega arith) ∙ sym (between-high g lo j k x (omega arith))
 
   -- every entry is done
   pub turned-all : {g : ℕ → A → A} {xs₀ xs : List A} {i : ℕ} → Turned g 0 xs₀ xs i → length xs₀ ≤ i → xs ≡ mapAt g xs₀

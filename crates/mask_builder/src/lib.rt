@@ -2,3 +2,131 @@
 pub mod centers;
 pub mod gains;
 pub mod levels;
+
+ghost use mathlib.Core.Path.{_≡_};
+ghost use mathlib.Core.Bool.{true, false};
+ghost use Prim.Native.Nat.{_+_, _/_, _≤_};
+ghost use lib.ListN.{length, take};
+ghost use Rattle.lists.specs.Maps.{tabulate};
+ghost use Rattle.power.specs.Table.{powerTable};
+ghost use Rattle.sine.specs.Table.{sineTable};
+ghost use Rattle.masks.specs.Manual.{MANUAL-MASK-POINTS};
+ghost use Rattle.lobes.specs.Pan as side;
+ghost use Rattle.lobes.specs.Distance.{lent, logsOf};
+ghost use Rattle.mask_builder.specs.Mask.{opennessAt, maskOf};
+use power::table::PowerTable;
+use scene::MaskConfig;
+use scene::MaskVoice;
+use sine::table::SineTable;
+
+// How far the voices open each bin of a mono mask; with the note layer off nothing does.
+fn open_mono(
+    powers: &PowerTable,
+    sines: &SineTable,
+    out: &mut [f32],
+    voices: [MaskVoice; 128],
+    count: usize,
+    config: MaskConfig,
+    tabled: bool,
+    table: &[f32],
+)
+    requires { ⌜ (now powers ≡ powerTable) × (now sines ≡ sineTable) × (count ≤ 128) × (config .«fft_size» ≤ 16384) × (length (now out) ≡ config .«fft_size» / 2 + 1) × (tabled ≡ true → length (now table) ≡ config .«fft_size» / 2 + 1) ⌝ }
+    ensures { λ _. ⌜ now (out .exit) ≡ tabulate (length (now (out .entry))) (opennessAt config (logsOf tabled (now (table .entry))) side.mono (take count voices)) ⌝ }
+{
+    if config.note_layer_enabled {
+        let gaussians = gaussian::gaussian_table();
+        let grid = lobes::grids::grid_of(powers, config);
+        openness::open_one(
+            out,
+            powers,
+            sines,
+            &gaussians,
+            tabled,
+            table,
+            voices,
+            count,
+            grid,
+        );
+    } else {
+        slices::fill(out, 0.0);
+    }
+}
+
+// How far they open each bin of either side.
+fn open_sides(
+    powers: &PowerTable,
+    sines: &SineTable,
+    left: &mut [f32],
+    right: &mut [f32],
+    voices: [MaskVoice; 128],
+    count: usize,
+    config: MaskConfig,
+    table: &[f32],
+)
+    requires { ⌜ (now powers ≡ powerTable) × (now sines ≡ sineTable) × (count ≤ 128) × (config .«fft_size» ≤ 16384) × (length (now left) ≡ config .«fft_size» / 2 + 1) × (length (now right) ≡ config .«fft_size» / 2 + 1) × (length (now table) ≡ config .«fft_size» / 2 + 1) ⌝ }
+    ensures { λ _. ⌜ now (left .exit) ≡ tabulate (length (now (left .entry))) (opennessAt config (lent (now (table .entry))) side.left (take count voices)) ⌝ }
+    ensures { λ _. ⌜ now (right .exit) ≡ tabulate (length (now (right .entry))) (opennessAt config (lent (now (table .entry))) side.right (take count voices)) ⌝ }
+{
+    if config.note_layer_enabled {
+        let gaussians = gaussian::gaussian_table();
+        let grid = lobes::grids::grid_of(powers, config);
+        openness::open_two(
+            left,
+            right,
+            powers,
+            sines,
+            &gaussians,
+            table,
+            voices,
+            count,
+            grid,
+        );
+    } else {
+        slices::fill(left, 0.0);
+        slices::fill(right, 0.0);
+    }
+}
+
+// The mono mask, by the lent table where there is one.
+pub fn build_one(
+    out: &mut [f32],
+    curve: &[f32],
+    voices: [MaskVoice; 128],
+    count: usize,
+    config: MaskConfig,
+    tabled: bool,
+    table: &[f32],
+)
+    requires { ⌜ (length (now curve) ≡ MANUAL-MASK-POINTS) × (count ≤ 128) × (config .«fft_size» ≤ 16384) × (length (now out) ≡ config .«fft_size» / 2 + 1) × (tabled ≡ true → length (now table) ≡ config .«fft_size» / 2 + 1) ⌝ }
+    ensures { λ _. ⌜ now (out .exit) ≡ maskOf (now (curve .entry)) config (logsOf tabled (now (table .entry))) side.mono (take count voices) ⌝ }
+{
+    let powers = power::table::power_table();
+    let sines = sine::table::sine_table();
+    open_mono(&powers, &sines, out, voices, count, config, tabled, table);
+    gains::finish_one(&powers, &sines, out, curve, config);
+}
+
+// Both masks of a stereo pair. Where every voice stands at the centre the two are one, and the right is copied from the left.
+pub fn build_two(
+    left: &mut [f32],
+    right: &mut [f32],
+    curve: &[f32],
+    voices: [MaskVoice; 128],
+    count: usize,
+    config: MaskConfig,
+    table: &[f32],
+)
+    requires { ⌜ (length (now curve) ≡ MANUAL-MASK-POINTS) × (count ≤ 128) × (config .«fft_size» ≤ 16384) × (length (now left) ≡ config .«fft_size» / 2 + 1) × (length (now right) ≡ config .«fft_size» / 2 + 1) × (length (now table) ≡ config .«fft_size» / 2 + 1) ⌝ }
+    ensures { λ _. ⌜ now (left .exit) ≡ maskOf (now (curve .entry)) config (lent (now (table .entry))) side.left (take count voices) ⌝ }
+    ensures { λ _. ⌜ now (right .exit) ≡ maskOf (now (curve .entry)) config (lent (now (table .entry))) side.right (take count voices) ⌝ }
+{
+    if centers::all_centered(voices, count) {
+        build_one(left, curve, voices, count, config, true, table);
+        slices::copy(left, right);
+        return;
+    }
+    let powers = power::table::power_table();
+    let sines = sine::table::sine_table();
+    open_sides(&powers, &sines, left, right, voices, count, config, table);
+    gains::finish_two(&powers, &sines, left, right, curve, config);
+}

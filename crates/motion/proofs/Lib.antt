@@ -4,3 +4,4 @@ pub mod Gains
 pub mod Samples
 pub mod Compensated
 pub mod Accepted
+pub mod ZeroSigns

@@ -1,5 +1,5 @@
 -- The voices joined one after the other: a voice that is skipped leaves the bins as they are, and what is left to join from a voice on. Assumes nothing.
-use mathlib.Core.Path.{_≡_, refl, sym, ap, _∙_}
+use mathlib.Core.Path.{_≡_, sym, ap, _∙_}
 use mathlib.Core.Bool.{true, false}
 use mathlib.Core.List.{List}
 use Prim.Native.Nat.{ℕ, _+_, _≤_, _<_}
@@ -14,7 +14,7 @@ use Rattle.lobes.specs.declared.Tone.{Tone}
 use Rattle.lobes.specs.Tone.{toneOf}
 use Rattle.lobes.specs.Distance.{Logs}
 use Rattle.openness.specs.Openness.{SKIPPED-LEVEL, toneJoined, voiceJoined}
-use Rattle.openness.proofs.Runs.{map-none, map-same, runs, runs-step, runs-end}
+use Rattle.openness.proofs.Runs.{map-none, runs, runs-step, runs-end}
 
 module _ (grid : Grid) (logs : Logs) (gain : MaskVoice → Float) where
   abbrev pub with-voice : MaskVoice → List Float → List Float

@@ -1,12 +1,12 @@
 -- The partials of a tone, joined one after the other: what is left to join from a partial on. Assumes nothing.
-use mathlib.Core.Path.{_≡_, refl, sym, ap, _∙_}
+use mathlib.Core.Path.{_≡_, sym, ap, _∙_}
 use mathlib.Core.Bool.{Bool, true, false}
-use mathlib.Core.List.{List, []}
-use Prim.Native.Nat.{ℕ, _+_, _-_, _≤_, _<_, min}
+use mathlib.Core.List.{List}
+use Prim.Native.Nat.{ℕ, _+_, _-_, _≤_, _<_}
 use native.Mathlib.Omega.{arith}
 use lib.Ieee.{Float, lt}
 use Rattle.lists.specs.Maps.{mapAt}
-use Rattle.lists.specs.Folds.{fold, range, takeUntil, range-next, range-none, until-step, until-stop, until-end}
+use Rattle.lists.specs.Folds.{range, takeUntil, range-next, range-none, until-step, until-stop, until-end}
 use Rattle.lobes.specs.declared.Grid.{Grid}
 use Rattle.lobes.specs.declared.Tone.{Tone}
 use Rattle.lobes.specs.declared.Lobe.{Lobe}
@@ -14,7 +14,7 @@ use Rattle.lobes.specs.Tone.{centerOf}
 use Rattle.lobes.specs.Distance.{Logs}
 use Rattle.lobes.specs.Lobe.{lobeOf}
 use Rattle.openness.specs.Openness.{lobeJoined, toneJoined}
-use Rattle.openness.proofs.Runs.{map-same, runs, runs-step, runs-end}
+use Rattle.openness.proofs.Runs.{runs, runs-step, runs-end}
 
 -- a lobe ends with the bins
 pub last-bin : (grid : Grid) (logs : Logs) (tone : Tone) (partial : ℕ) → lobeOf grid logs tone partial .«last_bin» ≤ grid .«last_bin»

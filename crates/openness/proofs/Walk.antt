@@ -1,5 +1,5 @@
 -- A lobe walked chunk by chunk: a chunk that holds the openings of its bins joins them, and a walk from the lobe's first bin to its last joins the lobe. Assumes nothing.
-use mathlib.Core.Path.{_≡_, refl, sym, ap, _∙_}
+use mathlib.Core.Path.{_≡_, ap, _∙_}
 use mathlib.Core.Logic.{_⊎_}
 use mathlib.Core.List.{List}
 use Prim.Native.Nat.{ℕ, _+_, _-_, _≤_, _<_}
@@ -8,7 +8,7 @@ use native.Mathlib.Omega.{arith}
 use borrow.Author.Tests.{le-leb, lt-leb, lt-ltb, le-ltb}
 use lib.ListN.{length, getD}
 use lib.Ieee.{Float, nan}
-use Rattle.lists.specs.Maps.{mapAt, mapRange, between, between-in, between-low, between-high, getD-mapRange}
+use Rattle.lists.specs.Maps.{mapAt, mapRange, between, between-in, getD-mapRange}
 use Rattle.lists.specs.Turned.{Turned, turned-to}
 use Rattle.lobes.specs.declared.Grid.{Grid}
 use Rattle.lobes.specs.declared.Lobe.{Lobe}

@@ -58,7 +58,10 @@ fn places(
 {
     let mut k: usize = 0;
     while k < count {
-        chunk[k] = place_of(peak_squared, distance_by_table(table, width, center_log2, start + k));
+        chunk[k] = place_of(
+            peak_squared,
+            distance_by_table(table, width, center_log2, start + k),
+        );
         k += 1;
     }
 }
@@ -82,7 +85,10 @@ fn opening_by_frequency(powers: &PowerTable, grid: Grid, lobe: Lobe, bin: usize)
 {
     let distance = distance_by_hertz(powers, grid, lobe.center, bin);
     let square = relative_square(lobe.peak_squared, distance);
-    opened_by(lobe.strength, power::decimal::exp(powers, MINUS_HALF * square))
+    opened_by(
+        lobe.strength,
+        power::decimal::exp(powers, MINUS_HALF * square),
+    )
 }
 
 fn openings_by_frequency(

@@ -23,6 +23,9 @@ pub mod joins;
 pub mod raise;
 pub mod voices;
 
+// So many bins are worked out at a time: enough for a loop over them to pay, and few enough to stay close at hand.
+const CHUNK: usize = 64;
+
 // One mask for both sides.
 pub fn open_one(
     out: &mut [f32],
@@ -31,15 +34,16 @@ pub fn open_one(
     gaussians: &GaussianTable,
     tabled: bool,
     table: &[f32],
-    grid: Grid,
     voices: [MaskVoice; 128],
     count: usize,
+    grid: Grid,
 )
     requires { ⌜ (now powers ≡ powerTable) × (now sines ≡ sineTable) × (now gaussians ≡ gaussianTable) × (grid .partials ≤ 24) × (grid .«last_bin» ≤ 2 ^ 24) × (tabled ≡ true → grid .«last_bin» < length (now table)) × (count ≤ 128) ⌝ }
     ensures { λ _. ⌜ now (out .exit) ≡ tabulate (length (now (out .entry))) (openness grid (logsOf tabled (now (table .entry))) side.mono (take count voices)) ⌝ }
 {
+    // There is no second side: no lobe reaches bin 0.
     let mut nothing = [0.0f32; 1];
-    let mut chunk = [0.0f32; 64];
+    let mut chunk = [0.0f32; CHUNK];
     shut(out);
     raise_voices(
         out,
@@ -65,14 +69,14 @@ pub fn open_two(
     sines: &SineTable,
     gaussians: &GaussianTable,
     table: &[f32],
-    grid: Grid,
     voices: [MaskVoice; 128],
     count: usize,
+    grid: Grid,
 )
     requires { ⌜ (now powers ≡ powerTable) × (now sines ≡ sineTable) × (now gaussians ≡ gaussianTable) × (grid .partials ≤ 24) × (grid .«last_bin» ≤ 2 ^ 24) × (grid .«last_bin» < length (now table)) × (count ≤ 128) ⌝ }
     ensures { λ _. ⌜ (now (left .exit) ≡ tabulate (length (now (left .entry))) (openness grid (lent (now (table .entry))) side.left (take count voices))) × (now (right .exit) ≡ tabulate (length (now (right .entry))) (openness grid (lent (now (table .entry))) side.right (take count voices))) ⌝ }
 {
-    let mut chunk = [0.0f32; 64];
+    let mut chunk = [0.0f32; CHUNK];
     shut(left);
     shut(right);
     raise_voices(

@@ -1,5 +1,5 @@
-// Both sides of a mask raised together, lobe by lobe: what a lobe opens is worked out once, and joined to each side by that side's gain. A mono mask is a first side whose second has
-// no bins.
+// Both sides of a mask raised together, lobe by lobe: what a lobe opens is worked out once, and joined to each side by that side's gain. Of a mono mask the second side has bin 0
+// alone, which no lobe reaches.
 ghost use mathlib.Core.Path.{_≡_};
 ghost use mathlib.Core.Bool.{true};
 ghost use Prim.Native.Nat.{_^_, _≤_, _<_};

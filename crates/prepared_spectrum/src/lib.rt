@@ -2,9 +2,7 @@
 ghost use mathlib.Core.Path.{_≡_};
 ghost use Prim.Native.Nat.{_*_, _≤_, _<_};
 ghost use lib.ListN.{length};
-ghost use Rattle.power.specs.Table.{powerTable};
 ghost use Rattle.prepared_spectrum.specs.Block.{blockLength, pairOf, blockOf};
-use power::table::PowerTable;
 
 // A window and, after it, its dual.
 fn fill_pair(window: &[f32], overlap: usize, block: &mut [f32])
@@ -18,14 +16,13 @@ fn fill_pair(window: &[f32], overlap: usize, block: &mut [f32])
 
 // The frequency table begins after the four windows.
 pub fn fill_block(
-    powers: &PowerTable,
     sample_rate: f32,
     window: &[f32],
     smooth: &[f32],
     overlap: usize,
     block: &mut [f32],
 )
-    requires { ⌜ (now powers ≡ powerTable) × (length (now window) ≤ 16384) × (length (now smooth) ≡ length (now window)) × (length (now block) ≡ blockLength (length (now window))) × (0 < overlap) ⌝ }
+    requires { ⌜ (length (now window) ≤ 16384) × (length (now smooth) ≡ length (now window)) × (length (now block) ≡ blockLength (length (now window))) × (0 < overlap) ⌝ }
     ensures { λ _. ⌜ now (block .exit) ≡ blockOf «sample_rate» (now (window .entry)) (now (smooth .entry)) overlap ⌝ }
 {
     let size = window.len();
@@ -33,5 +30,5 @@ pub fn fill_block(
     let table = 4 * size;
     fill_pair(window, overlap, &mut block[..middle]);
     fill_pair(smooth, overlap, &mut block[middle..table]);
-    frequencies::fill(powers, &mut block[table..], sample_rate, size);
+    frequencies::fill(&mut block[table..], sample_rate, size);
 }

@@ -10,6 +10,7 @@ use decibels::gain;
 use power::decimal::exp;
 use power::decimal::log10;
 use power::table::PowerTable;
+use power::table::power_table;
 
 // A gain below this counts as this, so that silence has decibels too.
 const LEAST_GAIN: f32 = 1.0e-6;
@@ -59,15 +60,16 @@ fn soften_inside(powers: &PowerTable, source: &[f32], output: &mut [f32])
 }
 
 // Adjacent gains smoothed in decibels, the ends kept. Fewer than three bins have no inside.
-pub fn soften(powers: &PowerTable, source: &[f32], output: &mut [f32])
-    requires { ⌜ (now powers ≡ powerTable) × (length (now source) ≡ length (now output)) ⌝ }
+pub fn soften(source: &[f32], output: &mut [f32])
+    requires { ⌜ length (now source) ≡ length (now output) ⌝ }
     ensures { λ _. ⌜ now (output .exit) ≡ softenedOf (now (source .entry)) ⌝ }
 {
     slices::copy(source, output);
     if source.len() < 3 {
         return;
     }
-    soften_inside(powers, source, output);
+    let powers = power_table();
+    soften_inside(&powers, source, output);
 }
 
 // The part of the way to the target that a time takes.
@@ -89,8 +91,8 @@ fn toward(powers: &PowerTable, current: f32, target: f32, blend: f32) -> f32
     gain(powers, current_db + (target_db - current_db) * blend)
 }
 
-// Each gain moved toward its target with a 30 ms time constant.
-pub fn smooth(powers: &PowerTable, current: &mut [f32], target: &[f32], elapsed_seconds: f32)
+// The loop over the bins, for the table that `smooth` lends it.
+fn smooth_all(powers: &PowerTable, current: &mut [f32], target: &[f32], elapsed_seconds: f32)
     requires { ⌜ (now powers ≡ powerTable) × (length (now current) ≡ length (now target)) ⌝ }
     ensures { λ _. ⌜ now (current .exit) ≡ smoothedOf (now (current .entry)) (now (target .entry)) «elapsed_seconds» ⌝ }
 {
@@ -100,4 +102,13 @@ pub fn smooth(powers: &PowerTable, current: &mut [f32], target: &[f32], elapsed_
         current[bin] = toward(powers, current[bin], target[bin], part);
         bin += 1;
     }
+}
+
+// Each gain moved toward its target with a 30 ms time constant.
+pub fn smooth(current: &mut [f32], target: &[f32], elapsed_seconds: f32)
+    requires { ⌜ length (now current) ≡ length (now target) ⌝ }
+    ensures { λ _. ⌜ now (current .exit) ≡ smoothedOf (now (current .entry)) (now (target .entry)) «elapsed_seconds» ⌝ }
+{
+    let powers = power_table();
+    smooth_all(&powers, current, target, elapsed_seconds);
 }

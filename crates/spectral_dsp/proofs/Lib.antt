@@ -4,3 +4,4 @@ pub mod Tests
 pub mod Accepted
 pub mod DualWindow
 pub mod MaskAccepted
+pub mod MaskAnswers

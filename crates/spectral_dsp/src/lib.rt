@@ -1,7 +1,12 @@
 // The open calls of spectral-dsp, under the Rust's names. Each tests what it is given, in the order of document 01's numbers, and then makes one call of the core.
+mod builders;
 pub mod processing;
 mod refusals;
 
+pub use builders::build_mask;
+pub use builders::build_mask_with_voices;
+pub use builders::build_mask_with_voices_precomputed;
+pub use builders::build_stereo_masks_with_voices_precomputed;
 ghost use mathlib.Core.Path.{_≡_};
 ghost use lib.ListN.{length};
 ghost use Rattle.lists.specs.Maps.{tabulate};
@@ -123,8 +128,7 @@ impl MaskWorkspace {
         if table.len() != fft_size / 2 + 1 {
             return Outcome::Refused(4, 0);
         }
-        let powers = power::table::power_table();
-        frequencies::fill(&powers, table, sample_rate, fft_size);
+        frequencies::fill(table, sample_rate, fft_size);
         Outcome::Done
     }
 }

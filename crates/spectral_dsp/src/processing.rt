@@ -80,8 +80,7 @@ pub fn soften_spectral_edges(source: &[f32], output: &mut [f32]) -> Outcome
     if bin < length {
         return Outcome::Refused(7, bin);
     }
-    let powers = power::table::power_table();
-    smoothing::soften(&powers, source, output);
+    smoothing::soften(source, output);
     Outcome::Done
 }
 
@@ -104,8 +103,7 @@ pub fn smooth_mask_in_db(current: &mut [f32], target: &[f32], elapsed_seconds: f
     if place < length {
         return Outcome::Refused(7, place);
     }
-    let powers = power::table::power_table();
-    smoothing::smooth(&powers, current, target, elapsed_seconds);
+    smoothing::smooth(current, target, elapsed_seconds);
     Outcome::Done
 }
 
@@ -149,15 +147,7 @@ impl PreparedSpectrum {
         if !limits::overlap(overlap, size) {
             return Prepared::Refused(8, 0);
         }
-        let powers = power::table::power_table();
-        prepared_spectrum::fill_block(
-            &powers,
-            sample_rate,
-            window,
-            smooth_analysis_window,
-            overlap,
-            block,
-        );
+        prepared_spectrum::fill_block(sample_rate, window, smooth_analysis_window, overlap, block);
         Prepared::Gains(
             windows::coherent_gain(window),
             windows::coherent_gain(smooth_analysis_window),

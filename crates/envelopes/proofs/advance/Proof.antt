@@ -1,7 +1,7 @@
 -- `envelopes::advance` meets its contract, by those of the functions it calls: the targets' entry at a note is the note's target. Assumes nothing.
 use mathlib.Core.Path.{_≡_, ap, _∙_}
 use mathlib.Core.List.{List}
-use Prim.Native.Nat.{ℕ, _<_}
+use Prim.Native.Nat.{ℕ}
 use native.Mathlib.Omega.{arith}
 use lib.ListN.{length, getD}
 use lib.Ieee.{Float, nan}
@@ -23,14 +23,29 @@ smoothing-alpha-requires c κs = search needs
 targets-requires : tie.Need-targets-requires
 targets-requires c κs = search needs
 
+slice-aggregate-step : tie.Need-slice-aggregate-step
+slice-aggregate-step c = search needs
+
+slice-aggregate-step-2 : tie.Need-slice-aggregate-step-2
+slice-aggregate-step-2 c = search needs
+
 step-requires : tie.Need-step-requires
 step-requires c κs = search needs
 
 returns : tie.Need-returns
 returns c =
-    let s = c .before .before .before in
+    let t = c .before .before .before .before in
+    let s = t .before .before in
     let l : length (s .args .levels) ≡ 128 = search needs in
-    simp (c .step .ensures, c .before .targets .ensures, c .before .before .smoothing-alpha .ensures) (by-targets (s .args .held) _ (s .args .levels) l)
+    c .before .step .ensures ∙ simp (t .targets .ensures, t .before .smoothing-alpha .ensures) (by-targets (s .args .held) _ (s .args .levels) l)
 
 pub advance-spec : {M : Type 1} → statement M
-advance-spec = tie.close (tie.spec smoothing-alpha-requires targets-requires step-requires returns)
+advance-spec =
+    tie.close
+    (tie.spec
+    smoothing-alpha-requires
+    targets-requires
+    slice-aggregate-step
+    slice-aggregate-step-2
+    step-requires
+    returns)

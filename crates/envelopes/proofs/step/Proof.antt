@@ -11,10 +11,10 @@ use Rattle.envelopes.proofs.step.Statement.{statement}
 use Rattle.envelopes.proofs.step.Tie as tie
 
 abbrev Inv-loop : tie.InvT-loop
-Inv-loop alpha targets bank₀ note₀ bank note = Turned (λ n level. levelToward (getD targets n nan) alpha level) 0 bank₀ bank note × (length bank₀ ≡ 128)
+Inv-loop bank₀ targets alpha note₀ bank note = Turned (λ n level. levelToward (getD targets n nan) alpha level) 0 bank₀ bank note × (length bank₀ ≡ 128)
 
 abbrev μ-loop : tie.MeasureT-loop
-μ-loop alpha targets bank₀ note₀ bank note = 128 - note
+μ-loop bank₀ targets alpha note₀ bank note = 128 - note
 
 loop-holds : tie.Need-loop-holds Inv-loop μ-loop
 loop-holds c = (turned-none _ _ _, search needs)
@@ -22,14 +22,14 @@ loop-holds c = (turned-none _ _ _, search needs)
 mul-next-level : tie.Need-mul-next-level Inv-loop μ-loop
 mul-next-level c = search needs
 
-array-read-next-level : tie.Need-array-read-next-level Inv-loop μ-loop
-array-read-next-level c = search needs
+shared-slice-read-next-level : tie.Need-shared-slice-read-next-level Inv-loop μ-loop
+shared-slice-read-next-level c = search needs
 
 mul-next-level-2 : tie.Need-mul-next-level-2 Inv-loop μ-loop
 mul-next-level-2 c = search needs
 
-array-read-next-level-2 : tie.Need-array-read-next-level-2 Inv-loop μ-loop
-array-read-next-level-2 c = search needs
+slice-read-next-level : tie.Need-slice-read-next-level Inv-loop μ-loop
+slice-read-next-level c = search needs
 
 next-level-requires : tie.Need-next-level-requires Inv-loop μ-loop
 next-level-requires c κs = search needs
@@ -37,8 +37,8 @@ next-level-requires c κs = search needs
 mul-bank : tie.Need-mul-bank Inv-loop μ-loop
 mul-bank c = search needs
 
-array-write-bank : tie.Need-array-write-bank Inv-loop μ-loop
-array-write-bank c = search needs
+slice-write-bank : tie.Need-slice-write-bank Inv-loop μ-loop
+slice-write-bank c = search needs
 
 add-note : tie.Need-add-note Inv-loop μ-loop
 add-note c = search needs
@@ -48,9 +48,12 @@ loop-less c = search needs
 
 loop-again : tie.Need-loop-again Inv-loop μ-loop
 loop-again c =
-    let l = c .before .before in
+    let l = c .before .before .before .before in
     let t = l .loop .inv .0 in
     (turned-more nan t (omega arith) (c .next-level .ensures ∙ cc (turned-read nan t (omega arith))), l .loop .inv .1)
+
+same-length : tie.Need-same-length Inv-loop μ-loop
+same-length c = c .before .loop .inv .0 .len
 
 returns : tie.Need-returns Inv-loop μ-loop
 returns c = turned-all (c .before .loop .inv .0) (omega arith)
@@ -63,13 +66,14 @@ step-spec =
     μ-loop
     loop-holds
     mul-next-level
-    array-read-next-level
+    shared-slice-read-next-level
     mul-next-level-2
-    array-read-next-level-2
+    slice-read-next-level
     next-level-requires
     mul-bank
-    array-write-bank
+    slice-write-bank
     add-note
     loop-less
     loop-again
+    same-length
     returns)

@@ -1,3 +1,4 @@
+-- `open_one` joins the voices onto 0. Assumes nothing.
 use Rattle.openness.proofs.Opened.{opened}
 use borrow.Author.Needs.{needs}
 use Rattle.openness.proofs.open_one.Statement.{statement}
@@ -19,7 +20,7 @@ same-length : tie.Need-same-length
 same-length c = search needs
 
 returns : tie.Need-returns
-returns c = 
+returns c =
     let r = c .before .before .before .before in
     opened _ _ _ _ _ (r .before .before .before .before .before .before .shut .ensures) (r .raise-voices .ensures .0)
 

@@ -1,3 +1,4 @@
+-- `open_two` joins the voices onto 0 on both sides. Assumes nothing.
 use Rattle.openness.proofs.Opened.{opened}
 use borrow.Author.Needs.{needs}
 use Rattle.openness.proofs.open_two.Statement.{statement}
@@ -22,7 +23,7 @@ same-length-2 : tie.Need-same-length-2
 same-length-2 c = search needs
 
 returns : tie.Need-returns
-returns c = 
+returns c =
     let r = c .before .before .before .before .before in
     let second = r .before .before .before .before .before .before in
     let first = second .before .before .before .before in

@@ -83,10 +83,10 @@ returns c =
     let back : List Float = two .last .1 .1 .0 in
     let front-length : length front ≡ 2 * n = ap length (one .ensures) ∙ pair-length w (a .overlap) in
     let back-length : length back ≡ 2 * length (a .smooth .now) = ap length (two .ensures) ∙ pair-length (a .smooth .now) (a .overlap) in
-    let table : c .before .before .fill .last .1 .0 ≡ logarithms (a .sample-rate) n =
+    let table : c .before .before .fill .last .0 ≡ logarithms (a .sample-rate) n =
     c .before .before .fill .ensures ∙ ap (λ (k : ℕ). tabulate k (prepared (a .sample-rate) n)) (omega arith) in
-    fill-three (2 * n) (4 * n) front back (c .before .before .fill .last .1 .0) (drop (2 * n) (a .block .now)) front-length (omega (arith, length-append front back))
-    ∙ joined (a .sample-rate) w (a .smooth .now) front back (c .before .before .fill .last .1 .0) (a .overlap) (one .ensures) (two .ensures) table
+    fill-three (2 * n) (4 * n) front back (c .before .before .fill .last .0) (drop (2 * n) (a .block .now)) front-length (omega (arith, length-append front back))
+    ∙ joined (a .sample-rate) w (a .smooth .now) front back (c .before .before .fill .last .0) (a .overlap) (one .ensures) (two .ensures) table
 
 pub fill-block-spec : {M : Type 1} → statement M
 fill-block-spec =

@@ -25,6 +25,9 @@ returns c =
     let s = c .before .before .before .before .before .before .before .args .source .now in
     c .before .before .before .copy .ensures ∙ turned-to (length s - 1) (turned-none (λ b x. softenedAt s b) 1 s) (inr refl) (omega arith)
 
+power-table-requires : tie.Need-power-table-requires
+power-table-requires c κs = search needs
+
 soften-inside-requires : tie.Need-soften-inside-requires
 soften-inside-requires c κs = search needs
 
@@ -34,10 +37,10 @@ same-length-2 c = search needs
 returns-2 : tie.Need-returns-2
 unfolding softenedOf
 returns-2 c =
-    let s = c .before .before .before .before .before .before .before .before .before .before .before .args .source .now in
-    c .before .before .soften-inside .ensures ∙ ap (λ (l : List Float). mapRange (λ b x. softenedAt s b) 1 (length s - 1) l) (c .before .before .before .before .before .before .before .copy .ensures)
+    let s = c .before .before .before .before .before .before .before .before .before .before .before .before .before .args .source .now in
+    c .before .before .soften-inside .ensures ∙ ap (λ (l : List Float). mapRange (λ b x. softenedAt s b) 1 (length s - 1) l) (c .before .before .before .before .before .before .before .before .before .copy .ensures)
 
 pub soften-spec : {M : Type 1} → statement M
 soften-spec =
     tie.close
-    (tie.spec copy-requires same-length returns soften-inside-requires same-length-2 returns-2)
+    (tie.spec copy-requires same-length returns power-table-requires soften-inside-requires same-length-2 returns-2)

@@ -1,3 +1,4 @@
+-- `opening_by_frequency` is the lobe's opening without a table, of what its distance, relative square and bell ensure. Assumes nothing.
 use Rattle.openness.specs.Stages.{opening-none}
 use borrow.Author.Needs.{needs}
 use Rattle.openness.proofs.chunk.opening_by_frequency.Statement.{statement}
@@ -16,7 +17,7 @@ opened-by-requires : tie.Need-opened-by-requires
 opened-by-requires c κs = search needs
 
 returns : tie.Need-returns
-returns c = 
+returns c =
     rw (opening-none _ _ _, ← c .before .before .before .distance-by-hertz .ensures, ← c .before .before .relative-square .ensures, ← c .before .exp .ensures) (c .opened-by .ensures)
 
 pub opening-by-frequency-spec : {M : Type 1} → statement M

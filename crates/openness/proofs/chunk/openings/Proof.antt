@@ -1,3 +1,4 @@
+-- `openings` is the two stages, one after the other, where a table was lent, and else each bin by its frequency. Assumes nothing.
 use mathlib.Core.Path.{_∙_}
 use Rattle.openness.proofs.Staged.{staged}
 use borrow.Author.Needs.{needs}
@@ -5,7 +6,7 @@ use Rattle.openness.proofs.chunk.openings.Statement.{statement}
 use Rattle.openness.proofs.chunk.openings.Tie as tie
 
 places-requires : tie.Need-places-requires
-places-requires c κs = 
+places-requires c κs =
     let s = c .before .before .before .before in
     (s .pre .3, s .pre .5 (c .before .if1 .taken))
 
@@ -16,7 +17,7 @@ same-length : tie.Need-same-length
 same-length c = search needs
 
 returns : tie.Need-returns
-returns c = 
+returns c =
     let p = c .before .before .before .before .before .before in
     let s = p .before .before .before .before .before in
     let e = rw (p .places .ensures) at (c .before .before .openings-at-places .ensures) in

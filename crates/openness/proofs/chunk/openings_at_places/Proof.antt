@@ -1,13 +1,12 @@
-use lib.ListN.{length, getD}
-use mathlib.Core.Path.{_≡_}
-use Rattle.openness.proofs.Runs.{turned-next}
-use Rattle.openness.specs.Stages.{openedBy}
-use Rattle.gaussian.specs.Bell.{between}
-use lib.Ieee.{nan}
+-- `openings_at_places` replaces the first `count` entries: of those below k each is what the lobe opens at the place that stood there. Assumes nothing.
 use mathlib.Core.Logic.{inl}
-use Prim.Native.Nat.{_+_, _-_, _≤_}
+use Prim.Native.Nat.{_-_, _≤_}
 use native.Mathlib.Omega.{arith}
-use Rattle.lists.specs.Turned.{Turned, turned-none, turned-more, turned-to}
+use lib.Ieee.{nan}
+use Rattle.lists.specs.Turned.{Turned, turned-none, turned-to}
+use Rattle.gaussian.specs.Bell.{between}
+use Rattle.openness.specs.Stages.{openedBy}
+use Rattle.openness.proofs.Runs.{turned-next}
 use borrow.Author.Needs.{needs}
 use Rattle.openness.proofs.chunk.openings_at_places.Statement.{statement}
 use Rattle.openness.proofs.chunk.openings_at_places.Tie as tie

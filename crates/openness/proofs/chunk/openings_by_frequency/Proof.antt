@@ -1,12 +1,11 @@
-use lib.ListN.{length, getD}
-use mathlib.Core.Path.{_≡_}
-use Rattle.lobes.specs.Lobe.{opening}
-use Rattle.lobes.specs.Distance.{none}
-use lib.Ieee.{nan}
+-- `openings_by_frequency` replaces the first `count` entries: of those below k each is its bin's opening. Assumes nothing.
 use mathlib.Core.Logic.{inl}
 use Prim.Native.Nat.{_+_, _-_, _≤_}
 use native.Mathlib.Omega.{arith}
+use lib.Ieee.{nan}
 use Rattle.lists.specs.Turned.{Turned, turned-none, turned-more, turned-to}
+use Rattle.lobes.specs.Lobe.{opening}
+use Rattle.lobes.specs.Distance.{none}
 use borrow.Author.Needs.{needs}
 use Rattle.openness.proofs.chunk.openings_by_frequency.Statement.{statement}
 use Rattle.openness.proofs.chunk.openings_by_frequency.Tie as tie

@@ -1,3 +1,4 @@
+-- `place_of` is what `position` ensures, of what `relative_square` ensures. Assumes nothing.
 use borrow.Author.Needs.{needs}
 use Rattle.openness.proofs.chunk.place_of.Statement.{statement}
 use Rattle.openness.proofs.chunk.place_of.Tie as tie

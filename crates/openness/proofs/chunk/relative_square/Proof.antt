@@ -1,3 +1,4 @@
+-- `relative_square` is the definition's maximum, of what `powi2` ensures. Assumes nothing.
 use borrow.Author.Needs.{needs}
 use Rattle.openness.proofs.chunk.relative_square.Statement.{statement}
 use Rattle.openness.proofs.chunk.relative_square.Tie as tie

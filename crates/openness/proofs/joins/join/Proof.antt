@@ -1,12 +1,13 @@
+-- `join` joins every bin from `start` on and below `end` that there is: of those below the one at hand each is joined, and the others are as they were. Assumes nothing.
 use mathlib.Core.Path.{_≡_, refl}
 use mathlib.Core.Logic.{_⊎_, inl, inr}
 use Prim.Native.Nat.{_-_, _≤_, min}
-use lib.ListN.{length, getD}
 use native.Mathlib.Omega.{arith}
-use Rattle.lists.specs.Turned.{Turned, turned-none}
+use lib.ListN.{length, getD}
 use lib.Ieee.{nan}
-use Rattle.openness.proofs.Runs.{turned-within, turned-next}
+use Rattle.lists.specs.Turned.{Turned, turned-none}
 use Rattle.openness.specs.Openness.{joined}
+use Rattle.openness.proofs.Runs.{turned-within, turned-next}
 use borrow.Author.Needs.{needs}
 use Rattle.openness.proofs.joins.join.Statement.{statement}
 use Rattle.openness.proofs.joins.join.Tie as tie
@@ -55,7 +56,7 @@ loop-less : tie.Need-loop-less Inv-loop μ-loop
 loop-less c = omega arith
 
 loop-again : tie.Need-loop-again Inv-loop μ-loop
-loop-again c = 
+loop-again c =
     let l = c .before .before .before .before .loop in
     (turned-next nan (l .inv .0) (omega arith) (c .joined .ensures), l .inv .1, inl (omega arith))
 
@@ -63,7 +64,7 @@ same-length : tie.Need-same-length Inv-loop μ-loop
 same-length c = c .before .loop .inv .0 .len
 
 returns : tie.Need-returns Inv-loop μ-loop
-returns c = 
+returns c =
     let l = c .before .loop in
     turned-within _ _ (l .inv .0) (l .inv .1) (l .inv .2) (omega arith)
 

@@ -1,10 +1,11 @@
+-- `shut` leaves 0 in every bin: of the bins below the one at hand each is done. Assumes nothing.
 use mathlib.Core.Path.{refl}
 use Prim.Native.Nat.{_-_}
-use lib.ListN.{length}
 use native.Mathlib.Omega.{arith}
-use Rattle.float32.specs.Remainder.{zero}
-use Rattle.lists.specs.Turned.{Turned, turned-none, turned-more, turned-fill}
+use lib.ListN.{length}
 use lib.Ieee.{nan}
+use Rattle.lists.specs.Turned.{Turned, turned-none, turned-more, turned-fill}
+use Rattle.float32.specs.Remainder.{zero}
 use borrow.Author.Needs.{needs}
 use Rattle.openness.proofs.joins.shut.Statement.{statement}
 use Rattle.openness.proofs.joins.shut.Tie as tie

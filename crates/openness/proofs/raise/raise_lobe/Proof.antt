@@ -1,3 +1,4 @@
+-- `raise_lobe` joins the lobe to both sides: on each every bin from the lobe's first on and below `start` is joined, and a chunk holds the openings of those that come next. Assumes nothing.
 use mathlib.Core.Path.{_≡_, refl, _∙_}
 use mathlib.Core.Logic.{_⊎_, inl, inr}
 use Prim.Native.Nat.{_+_, _-_, _≤_}
@@ -42,7 +43,7 @@ add-next : tie.Need-add-next Inv-loop μ-loop
 add-next c = search needs
 
 openings-requires : tie.Need-openings-requires Inv-loop μ-loop
-openings-requires c κs = 
+openings-requires c κs =
     let l = c .before .before .before in
     let s = l .before .before .before .before .before .before .before in
     (s .pre .0, s .pre .1, l .loop .inv .0, omega (arith, c .before .lesser .ensures), omega (arith, c .before .lesser .ensures, s .pre .3), λ e. omega (arith, c .before .lesser .ensures, s .pre .4 e))
@@ -57,20 +58,20 @@ loop-less : tie.Need-loop-less Inv-loop μ-loop
 loop-less c = search needs
 
 loop-again : tie.Need-loop-again Inv-loop μ-loop
-loop-again c = 
+loop-again c =
     let j2 = c .before .before in
     let j1 = j2 .before .before .before .before .before in
     let o = j1 .before .before .before .before .before in
     let n = o .before .before in
     let l = n .before .before in
     let s = l .before .before .before .before .before .before .before in
-    let room : n .lesser .result ≤ length (l .loop .chunk) = omega (arith, n .lesser .ensures) in
-    (
+    let logs = logsOf (s .args .tabled) (s .args .table .now) in
+    let room : n .lesser .result ≤ length (l .loop .chunk) = omega (arith, n .lesser .ensures) in (
       l .loop .inv .0,
       o .openings .kept .0 ∙ l .loop .inv .1,
       inl (omega (arith, n .lesser .ensures)),
-      chunk-joined _ _ _ _ (l .loop .start) (n .lesser .result) (l .loop .chunk) _ room (o .openings .ensures) (l .loop .inv .3) (j1 .join .ensures),
-      chunk-joined _ _ _ _ (l .loop .start) (n .lesser .result) (l .loop .chunk) _ room (o .openings .ensures) (l .loop .inv .4) (j2 .join2 .ensures),
+      chunk-joined _ logs _ _ (l .loop .start) (n .lesser .result) (l .loop .chunk) _ room (o .openings .ensures) (l .loop .inv .3) (j1 .join .ensures),
+      chunk-joined _ logs _ _ (l .loop .start) (n .lesser .result) (l .loop .chunk) _ room (o .openings .ensures) (l .loop .inv .4) (j2 .join2 .ensures),
     )
 
 same-length : tie.Need-same-length Inv-loop μ-loop
@@ -83,7 +84,7 @@ same-length-3 : tie.Need-same-length-3 Inv-loop μ-loop
 same-length-3 c = c .before .loop .inv .1
 
 returns : tie.Need-returns Inv-loop μ-loop
-returns c = 
+returns c =
     let l = c .before .loop in
     (lobe-walked _ _ _ _ (l .inv .3) (l .inv .2) (c .loop-test .left), lobe-walked _ _ _ _ (l .inv .4) (l .inv .2) (c .loop-test .left))
 

@@ -1,3 +1,4 @@
+-- `raise_tone` joins the partials to both sides: joining those from the one at hand on, to what stands there now, is joining them all to what stood there. Assumes nothing.
 use mathlib.Core.Path.{_≡_, refl, sym, _∙_}
 use Prim.Native.Nat.{_+_, _-_, _≤_}
 use native.Mathlib.Omega.{arith}
@@ -27,7 +28,7 @@ loop-holds : tie.Need-loop-holds Inv-loop μ-loop
 loop-holds c = (omega arith, refl, refl, refl, rest-all _ _ _ _ _, rest-all _ _ _ _ _)
 
 center-of-requires : tie.Need-center-of-requires Inv-loop μ-loop
-center-of-requires c κs = 
+center-of-requires c κs =
     let s = c .before .before .before .before .before .before .before in
     omega (arith, s .pre .3)
 
@@ -41,23 +42,22 @@ same-length-3 : tie.Need-same-length-3 Inv-loop μ-loop
 same-length-3 c = c .before .before .before .before .before .loop .inv .3
 
 returns : tie.Need-returns Inv-loop μ-loop
-returns c = 
+returns c =
     let o = c .before .before in
     let l = o .before .before .before .loop in
-    let above = rw (o .center-of .ensures) at (c .if2 .taken) in
-    (
+    let above = rw (o .center-of .ensures) at (c .if2 .taken) in (
       sym (rest-stop _ _ _ _ _ _ (o .before .if1 .taken) above) ∙ l .inv .4,
       sym (rest-stop _ _ _ _ _ _ (o .before .if1 .taken) above) ∙ l .inv .5,
     )
 
 lobe-of-requires : tie.Need-lobe-of-requires Inv-loop μ-loop
-lobe-of-requires c κs = 
+lobe-of-requires c κs =
     let l = c .before .before .before .before .before in
     let s = l .before .before .before .before .before in
     (s .pre .0, s .pre .4, omega (arith, s .pre .3), s .pre .5)
 
 raise-lobe-requires : tie.Need-raise-lobe-requires Inv-loop μ-loop
-raise-lobe-requires c κs = 
+raise-lobe-requires c κs =
     let f = c .before .before .before in
     let l = f .before .before .before .before .before .before in
     let s = l .before .before .before .before .before in
@@ -71,13 +71,12 @@ loop-less : tie.Need-loop-less Inv-loop μ-loop
 loop-less c = omega arith
 
 loop-again : tie.Need-loop-again Inv-loop μ-loop
-loop-again c = 
+loop-again c =
     let r = c .before .before .before .before .before .before in
     let f = r .before .before .before .before in
     let o = f .before .before .before in
     let l = o .before .before .before .loop in
-    let below = rw (o .center-of .ensures) at (f .before .if2 .left) in
-    (
+    let below = rw (o .center-of .ensures) at (f .before .if2 .left) in (
       omega arith,
       r .raise-lobe .kept .0 ∙ l .inv .1,
       omega (arith, r .raise-lobe .kept .1 .0, l .inv .2),
@@ -96,7 +95,7 @@ same-length-6 : tie.Need-same-length-6 Inv-loop μ-loop
 same-length-6 c = c .before .before .loop .inv .3
 
 returns-2 : tie.Need-returns-2 Inv-loop μ-loop
-returns-2 c = 
+returns-2 c =
     let l = c .before .before .loop in
     (sym (rest-end _ _ _ _ _ _ (c .if1 .left)) ∙ l .inv .4, sym (rest-end _ _ _ _ _ _ (c .if1 .left)) ∙ l .inv .5)
 

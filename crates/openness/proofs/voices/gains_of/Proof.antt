@@ -1,3 +1,4 @@
+-- `gains_of` is what the gain of each side ensures. Assumes nothing.
 use borrow.Author.Needs.{needs}
 use Rattle.openness.proofs.voices.gains_of.Statement.{statement}
 use Rattle.openness.proofs.voices.gains_of.Tie as tie

@@ -1,3 +1,4 @@
+-- `raise_voice` leaves both sides as they are where the voice is skipped, and else joins its tone by its gains. Assumes nothing.
 use Rattle.openness.proofs.EachVoice.{voice-skipped, voice-joined}
 use borrow.Author.Needs.{needs}
 use Rattle.openness.proofs.voices.raise_voice.Statement.{statement}
@@ -25,12 +26,11 @@ same-length-3 : tie.Need-same-length-3
 same-length-3 c = search needs
 
 returns-2 : tie.Need-returns-2
-returns-2 c = 
+returns-2 c =
     let r = c .before .before .before .before .before .before in
     let g = r .before .before .before .before in
     let t = g .before in
-    let kept = t .before .if1 .left in
-    (
+    let kept = t .before .if1 .left in (
       voice-joined _ _ _ _ _ kept (g .gains-of .ensures .0) (t .tone-of .ensures) (r .raise-tone .ensures .0),
       voice-joined _ _ _ _ _ kept (g .gains-of .ensures .1) (t .tone-of .ensures) (r .raise-tone .ensures .1),
     )

@@ -1,3 +1,4 @@
+-- `raise_voices` joins the voices to both sides: joining those from the one at hand on, to what stands there now, is joining them all to what stood there. Assumes nothing.
 use mathlib.Core.Path.{_≡_, refl, sym, _∙_}
 use Prim.Native.Nat.{_-_, _≤_}
 use native.Mathlib.Omega.{arith}
@@ -33,7 +34,7 @@ array-copy-out-voice : tie.Need-array-copy-out-voice Inv-loop μ-loop
 array-copy-out-voice c = omega arith
 
 raise-voice-requires : tie.Need-raise-voice-requires Inv-loop μ-loop
-raise-voice-requires c κs = 
+raise-voice-requires c κs =
     let l = c .before .before .before .before .before in
     let s = l .before .before .before .before .before in
     (s .pre .0, s .pre .1, s .pre .2, omega (arith, s .pre .3, l .loop .inv .3), s .pre .4, s .pre .5, s .pre .6)
@@ -45,13 +46,12 @@ loop-less : tie.Need-loop-less Inv-loop μ-loop
 loop-less c = omega arith
 
 loop-again : tie.Need-loop-again Inv-loop μ-loop
-loop-again c = 
+loop-again c =
     let r = c .before .before .before .before .before .before in
     let n = r .before .before .before .before .before in
     let l = n .before in
     let s = l .before .before .before .before .before in
-    let some : s .args .count ≤ length (s .args .t11) = omega (arith, s .pre .7, l .loop .inv .0) in
-    (
+    let some : s .args .count ≤ length (s .args .t11) = omega (arith, s .pre .7, l .loop .inv .0) in (
       l .loop .inv .0,
       omega (arith, r .raise-voice .kept .0, l .loop .inv .1),
       omega (arith, r .raise-voice .kept .1 .0, l .loop .inv .2),
@@ -70,7 +70,7 @@ same-length-3 : tie.Need-same-length-3 Inv-loop μ-loop
 same-length-3 c = c .before .loop .inv .3
 
 returns : tie.Need-returns Inv-loop μ-loop
-returns c = 
+returns c =
     let l = c .before .loop in
     (sym (voices-end _ _ _ _ _ _ _ (c .loop-test .left)) ∙ l .inv .4, sym (voices-end _ _ _ _ _ _ _ (c .loop-test .left)) ∙ l .inv .5)
 

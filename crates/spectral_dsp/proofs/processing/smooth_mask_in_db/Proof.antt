@@ -46,9 +46,6 @@ returns-4 c =
       refl,
     )
 
-power-table-requires : tie.Need-power-table-requires
-power-table-requires c κs = search needs
-
 smooth-requires : tie.Need-smooth-requires
 smooth-requires c κs = search needs
 
@@ -58,7 +55,7 @@ same-length-2 c = search needs
 returns-5 : tie.Need-returns-5
 unfolding smoothReply
 returns-5 c =
-    let g = c .before .before .before .before .before .before in
+    let g = c .before .before .before .before in
     let f = g .before .before .before in
     let e = f .before in
     let d = e .before .before in (
@@ -79,7 +76,6 @@ smooth-mask-in-db-spec =
     first-pair-outside-requires
     same-length
     returns-4
-    power-table-requires
     smooth-requires
     same-length-2
     returns-5)

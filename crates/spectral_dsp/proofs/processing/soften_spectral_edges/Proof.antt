@@ -26,9 +26,6 @@ returns-3 c =
     let e = c .before .before in
     (passes _ _ (e .before .before .gains-length .ensures) (e .before .if1 .left) (agree _ _ (e .if2 .left) (found 7 _ (c .before .first-outside .ensures) (c .if3 .taken))), refl)
 
-power-table-requires : tie.Need-power-table-requires
-power-table-requires c κs = search needs
-
 soften-requires : tie.Need-soften-requires
 soften-requires c κs = search needs
 
@@ -38,7 +35,7 @@ same-length c = search needs
 returns-4 : tie.Need-returns-4
 unfolding softenReply
 returns-4 c =
-    let d = c .before .before .before .before .before .before in
+    let d = c .before .before .before .before in
     let e = d .before .before in (
       passes _ _ (e .before .before .gains-length .ensures) (e .before .if1 .left) (agree _ _ (e .if2 .left) (none-found _ _ (d .before .first-outside .ensures) (d .if3 .left) refl)),
       c .before .before .soften .ensures,
@@ -53,7 +50,6 @@ soften-spectral-edges-spec =
     returns-2
     first-outside-requires
     returns-3
-    power-table-requires
     soften-requires
     same-length
     returns-4)

@@ -82,26 +82,23 @@ returns-6 c =
       refl,
     )
 
-power-table-requires : tie.Need-power-table-requires
-power-table-requires c κs = search needs
-
 -- the size of the tests passed
 small : (c : tie.Else6) → length (c .before .before .before .before .before .before .before .before .before .before .before .before .before .before .args .window .now) ≤ 16384
 small c = let s = c .before .before .before .before .before .before .before .before .before in size-at-most _ (passed (s .before .size .ensures) (s .if1 .left))
 
 fill-block-requires : tie.Need-fill-block-requires
 fill-block-requires c κs =
-    let o = c .before .before .before in
+    let o = c .before in
     let b = o .before .before .before .before in
     let w = b .before .before in
-    (c .before .before .power-table .ensures, small o, sym (w .if3 .left), b .if4 .left ∙ b .before .block-length .ensures, overlap-positive _ _ (passed (o .before .overlap .ensures) (o .if6 .left)))
+    (small o, sym (w .if3 .left), b .if4 .left ∙ b .before .block-length .ensures, overlap-positive _ _ (passed (o .before .overlap .ensures) (o .if6 .left)))
 
 coherent-gain-requires : tie.Need-coherent-gain-requires
-coherent-gain-requires c κs = small (c .before .before .before .before .before .before)
+coherent-gain-requires c κs = small (c .before .before .before .before)
 
 coherent-gain-requires-2 : tie.Need-coherent-gain-requires-2
 coherent-gain-requires-2 c κs =
-    let o = c .before .before .before .before .before .before .before in
+    let o = c .before .before .before .before .before in
     omega (arith, small o, o .before .before .before .before .before .before .if3 .left)
 
 same-length : tie.Need-same-length
@@ -110,7 +107,7 @@ same-length c = search needs
 returns-7 : tie.Need-returns-7
 unfolding preparedReply
 returns-7 c =
-    let o = c .before .before .before .before .before .before .before .before in
+    let o = c .before .before .before .before .before .before in
     let f = o .before .before in
     let b = f .before .before in
     let w = b .before .before in
@@ -139,7 +136,6 @@ new-spec =
     returns-5
     overlap-requires
     returns-6
-    power-table-requires
     fill-block-requires
     coherent-gain-requires
     coherent-gain-requires-2

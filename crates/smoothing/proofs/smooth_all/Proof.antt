@@ -1,4 +1,4 @@
--- `smooth` moves every gain: of the gains below the bin each is moved, and the others are as they were. Assumes nothing.
+-- `smooth_all` moves every gain: of the gains below the bin each is moved, and the others are as they were. Assumes nothing.
 use mathlib.Core.Path.{_≡_, ap, _∙_}
 use Prim.Native.Nat.{_-_}
 use native.Mathlib.Omega.{arith}
@@ -7,8 +7,8 @@ use lib.ListN.{length, getD}
 use lib.Ieee.{Float, nan}
 use Rattle.lists.specs.Turned.{Turned, turned-none, turned-read, turned-more, turned-all}
 use Rattle.smoothing.specs.Smoothing.{blendOf, toward}
-use Rattle.smoothing.proofs.smooth.Statement.{statement}
-use Rattle.smoothing.proofs.smooth.Tie as tie
+use Rattle.smoothing.proofs.smooth_all.Statement.{statement}
+use Rattle.smoothing.proofs.smooth_all.Tie as tie
 
 abbrev Inv-loop : tie.InvT-loop
 Inv-loop powers current₀ target elapsed-seconds part bin₀ current bin = (part ≡ blendOf elapsed-seconds) × Turned (λ b x. toward (blendOf elapsed-seconds) x (getD target b nan)) 0 current₀ current bin
@@ -63,8 +63,8 @@ same-length c = c .before .loop .inv .1 .len
 returns : tie.Need-returns Inv-loop μ-loop
 returns c = turned-all (c .before .loop .inv .1) (omega arith)
 
-pub smooth-spec : {M : Type 1} → statement M
-smooth-spec =
+pub smooth-all-spec : {M : Type 1} → statement M
+smooth-all-spec =
     tie.close
     (tie.spec
     Inv-loop

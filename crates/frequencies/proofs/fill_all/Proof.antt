@@ -1,4 +1,4 @@
--- `frequencies::fill` meets its contract: after b turns the first b entries are written, and the others are as they were. Assumes nothing.
+-- `frequencies::fill_all` meets its contract: after b turns the first b entries are written, and the others are as they were. Assumes nothing.
 use mathlib.Core.Path.{_∙_}
 use Prim.Native.Nat.{_≤_, _-_}
 use native.Mathlib.Omega.{arith}
@@ -7,8 +7,8 @@ use lib.Ieee.{nan}
 use borrow.Author.Needs.{needs}
 use Rattle.lists.specs.Turned.{Turned, turned-none, turned-more, turned-fill}
 use Rattle.frequencies.specs.Frequency.{prepared}
-use Rattle.frequencies.proofs.fill.Statement.{statement}
-use Rattle.frequencies.proofs.fill.Tie as tie
+use Rattle.frequencies.proofs.fill_all.Statement.{statement}
+use Rattle.frequencies.proofs.fill_all.Tie as tie
 
 abbrev Inv-loop : tie.InvT-loop
 Inv-loop powers table₀ sample-rate fft-size spacing bin₀ table bin = Turned (λ b x. prepared sample-rate fft-size b) 0 table₀ table bin × (bin ≤ length table₀)
@@ -48,8 +48,8 @@ same-length c = c .before .loop .inv .0 .len
 returns : tie.Need-returns Inv-loop μ-loop
 returns c = turned-fill (c .before .loop .inv .0) (omega arith)
 
-pub fill-spec : {M : Type 1} → statement M
-fill-spec =
+pub fill-all-spec : {M : Type 1} → statement M
+fill-all-spec =
     tie.close
     (tie.spec
     Inv-loop
