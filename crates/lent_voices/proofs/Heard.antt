@@ -1,6 +1,6 @@
 -- Of the array that `gather` gives, the mask builders hear what they hear of the list itself: a list of more than 128 voices is refused, and of another they read
 -- the first `length` entries of the array. Assumes nothing.
-use mathlib.Core.Path.{_≡_, refl, sym, ap, subst, _∙_}
+use mathlib.Core.Path.{_≡_, refl, sym, ap, _∙_}
 use mathlib.Core.Bool.{Bool, true, false, cond, not}
 use mathlib.Core.List.{List, []}
 use Prim.Native.Nat.{ℕ, _≤_}
@@ -13,7 +13,7 @@ use Rattle.answer.specs.Reply.{Reply, done, refused}
 use Rattle.answer.specs.Written.{written}
 use Rattle.scene.specs.declared.MaskVoice.{MaskVoice}
 use Rattle.scene.specs.declared.MaskConfig.{MaskConfig}
-use Rattle.scene.specs.Accepted.{voiceAccepted, firstVoiceOutside}
+use Rattle.scene.specs.Accepted.{voiceAccepted}
 use Rattle.spectral_dsp.specs.Masks.{MOST-VOICES, first, settingsReply, voicesReply, tableReply, voicesMaskReply, tabledMaskReply, stereoReply}
 use Rattle.spectral_dsp.proofs.MaskAccepted.{Done, both-done, voices-done}
 use Rattle.lent_voices.specs.Gathered.{gathered}

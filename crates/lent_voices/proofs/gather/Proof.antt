@@ -9,8 +9,7 @@ use mathlib.Core.Bool.{Bool}
 use mathlib.Core.List.{List, [], _∷_, head-eq-of-cons-eq}
 use lib.ListN.{length, getD, set, replicate}
 use lib.WfN.{Nat·lt-wfRel}
-use lib.Dec.{lit<}
-use lib.Dec.{T as Holds}
+use lib.Dec.{T as Holds, lit<}
 use borrow.Author.Tests.{lt-ltb, le-ltb}
 use borrow.Author.Needs.{scaled-fits}
 use borrow.Table.OneValue.{part-in, part-out}
