@@ -105,6 +105,27 @@ pub fn prepare(table: &mut [f32], sample_rate: f32, fft_size: usize) -> Outcome 
     Ok(())
 }
 
+/// Refusal 4 of the mask builders: the curve's length, and that of each slice with an entry for
+/// each bin.
+fn mask_lengths(config: MaskConfig, manual_mask_db: &[f32], bins: &[&[f32]]) -> Outcome {
+    let whole = |slice: &&[f32]| slice.len() == config.fft_size / 2 + 1;
+    refuse::length(bins.iter().all(whole))?;
+    refuse::length(manual_mask_db.len() == MANUAL_MASK_POINTS)
+}
+
+/// The tests of a builder that is given voices, from 1 to 5.
+fn mask_with_voices(
+    config: MaskConfig,
+    manual_mask_db: &[f32],
+    voices: &[MaskVoice],
+    bins: &[&[f32]],
+) -> Outcome {
+    refuse::config(config)?;
+    refuse::count(voices)?;
+    mask_lengths(config, manual_mask_db, bins)?;
+    refuse::voices(voices)
+}
+
 pub fn build_mask(
     output: &mut [f32],
     manual_mask_db: &[f32],
@@ -112,8 +133,7 @@ pub fn build_mask(
     config: MaskConfig,
 ) -> Outcome {
     refuse::config(config)?;
-    refuse::length(output.len() == config.fft_size / 2 + 1)?;
-    refuse::length(manual_mask_db.len() == MANUAL_MASK_POINTS)?;
+    mask_lengths(config, manual_mask_db, &[output])?;
     refuse::length(note_levels.len() == MIDI_NOTES)?;
     refuse::values(note_levels, refuse::LEVEL)?;
     let note_levels = note_levels.try_into().expect("the length was tested");
@@ -127,11 +147,7 @@ pub fn build_mask_with_voices(
     voices: &[MaskVoice],
     config: MaskConfig,
 ) -> Outcome {
-    refuse::config(config)?;
-    refuse::count(voices)?;
-    refuse::length(output.len() == config.fft_size / 2 + 1)?;
-    refuse::length(manual_mask_db.len() == MANUAL_MASK_POINTS)?;
-    refuse::voices(voices)?;
+    mask_with_voices(config, manual_mask_db, voices, &[output])?;
     dsp::build_mask_with_voices(output, whole_curve(manual_mask_db), voices, config);
     Ok(())
 }
@@ -143,12 +159,7 @@ pub fn build_mask_with_voices_precomputed(
     config: MaskConfig,
     table: &[f32],
 ) -> Outcome {
-    refuse::config(config)?;
-    refuse::count(voices)?;
-    refuse::length(output.len() == config.fft_size / 2 + 1)?;
-    refuse::length(manual_mask_db.len() == MANUAL_MASK_POINTS)?;
-    refuse::length(table.len() == config.fft_size / 2 + 1)?;
-    refuse::voices(voices)?;
+    mask_with_voices(config, manual_mask_db, voices, &[output, table])?;
     refuse::table(table)?;
     dsp::build_mask_with_voices_precomputed(
         output,
@@ -168,13 +179,7 @@ pub fn build_stereo_masks_with_voices_precomputed(
     config: MaskConfig,
     table: &[f32],
 ) -> Outcome {
-    refuse::config(config)?;
-    refuse::count(voices)?;
-    refuse::length(left.len() == config.fft_size / 2 + 1)?;
-    refuse::length(right.len() == config.fft_size / 2 + 1)?;
-    refuse::length(manual_mask_db.len() == MANUAL_MASK_POINTS)?;
-    refuse::length(table.len() == config.fft_size / 2 + 1)?;
-    refuse::voices(voices)?;
+    mask_with_voices(config, manual_mask_db, voices, &[left, right, table])?;
     refuse::table(table)?;
     dsp::build_stereo_masks_with_voices_precomputed(
         left,

@@ -4,9 +4,12 @@
 #![forbid(unsafe_code)]
 
 pub mod bignum;
+pub mod builders;
 pub mod calls;
+pub mod edges;
 pub mod functions;
 pub mod lists;
+pub mod mask_calls;
 pub mod numbers;
 pub mod random;
 pub mod refusals;

@@ -6,10 +6,11 @@ mod notes;
 mod numbers;
 mod oiko_dsp;
 mod processing;
-mod slices;
+pub mod slices;
 mod spectral_dsp;
 
 use crate::calls::Answer;
+use crate::edges::{around_finite, around_limits};
 use crate::numbers::bits_of;
 use crate::refusals::{Outcome, Refusal};
 use slices::Slice;
@@ -80,28 +81,6 @@ fn answer_text(answer: Answer) -> String {
 
 fn outcome_text(outcome: Outcome) -> String {
     outcome.map_or_else(refusal_text, |()| "done".to_string())
-}
-
-/// The ends of limits, one step past each, and the numbers that lie in no limits.
-fn around_limits((low, high): (f32, f32)) -> Vec<f32> {
-    let middle = low + (high - low) / 2.0;
-    let inside = [low, low.next_up(), middle, high.next_down(), high];
-    let outside = [low.next_down(), high.next_up(), -high];
-    let small = [
-        0.0,
-        -0.0,
-        f32::from_bits(1),
-        -f32::from_bits(1),
-        f32::MIN_POSITIVE,
-    ];
-    let none = [f32::NAN, f32::INFINITY, f32::NEG_INFINITY];
-    [&inside[..], &outside[..], &small[..], &none[..]].concat()
-}
-
-/// The numbers at which something that may be any finite number shows most.
-fn around_finite() -> Vec<f32> {
-    let limits = around_limits((-1.0, 1.0));
-    [&limits[..], &[f32::MAX, f32::MIN, 2.0, 0.5]].concat()
 }
 
 pub struct Named {

@@ -18,6 +18,13 @@ pub fn bits_of(x: f32) -> u32 {
     if x.is_nan() { 0x7fc0_0000 } else { x.to_bits() }
 }
 
+/// The first entry at which two slices differ, every NaN being one.
+pub fn first_difference(a: &[f32], b: &[f32]) -> Option<usize> {
+    a.iter()
+        .zip(b)
+        .position(|(&a, &b)| bits_of(a) != bits_of(b))
+}
+
 impl Function {
     pub fn of(&self, bits: [u32; 3]) -> Value {
         (self.apply)(bits.map(f32::from_bits))

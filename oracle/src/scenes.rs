@@ -17,6 +17,11 @@ pub const SHAPES: [MotionShape; 8] = [
     MotionShape::Cloud,
 ];
 
+/// A voice sounds above this level.
+pub const SILENT_LEVEL: f32 = 1.0e-5;
+/// Motion moves above this depth.
+pub const RESTING_DEPTH: f32 = 0.001;
+
 #[derive(Clone, Debug)]
 pub struct Scene {
     pub config: MaskConfig,
@@ -72,6 +77,58 @@ impl Scene {
     }
 }
 
+/// A scene's settings, voices and curve in the types of one of the modules that hold the ported
+/// text.
+#[macro_export]
+macro_rules! given {
+    ($scene:expr, $($dsp:ident)::+) => {{
+        use $($dsp)::+ as dsp;
+        let scene: &$crate::scenes::Scene = $scene;
+        let shapes = [
+            dsp::MotionShape::Ripple,
+            dsp::MotionShape::Harmonic,
+            dsp::MotionShape::Drift,
+            dsp::MotionShape::Scan,
+            dsp::MotionShape::Notch,
+            dsp::MotionShape::Saw,
+            dsp::MotionShape::Sprinkle,
+            dsp::MotionShape::Cloud,
+        ];
+        let config = dsp::MaskConfig {
+            sample_rate: scene.config.sample_rate,
+            fft_size: scene.config.fft_size,
+            note_depth_db: scene.config.note_depth_db,
+            note_layer_enabled: scene.config.note_layer_enabled,
+            width_cents: scene.config.width_cents,
+            partials: scene.config.partials,
+            harmonic_rolloff_db_per_octave: scene.config.harmonic_rolloff_db_per_octave,
+            motion: dsp::MotionConfig {
+                shape: shapes[scene.config.motion.shape as usize],
+                depth_db: scene.config.motion.depth_db,
+                phase: scene.config.motion.phase,
+                size_octaves: scene.config.motion.size_octaves,
+            },
+        };
+        let voices: Vec<dsp::MaskVoice> = scene
+            .voices
+            .iter()
+            .map(|voice| dsp::MaskVoice {
+                note: voice.note,
+                level: voice.level,
+                tuning_semitones: voice.tuning_semitones,
+                pressure: voice.pressure,
+                timbre: voice.timbre,
+                volume_gain: voice.volume_gain,
+                expression_gain: voice.expression_gain,
+                pan: voice.pan,
+            })
+            .collect();
+        let curve: &[f32; dsp::MANUAL_MASK_POINTS] =
+            scene.curve.as_slice().try_into().expect("a whole curve");
+        (config, voices, curve)
+    }};
+}
+
 /// One of the given numbers, or one from between the limits.
 fn mostly(random: &mut Random, usual: &[f32], limits: (f32, f32)) -> f32 {
     if random.once_in(2) {
@@ -84,7 +141,7 @@ fn mostly(random: &mut Random, usual: &[f32], limits: (f32, f32)) -> f32 {
 pub fn motion(random: &mut Random) -> MotionConfig {
     MotionConfig {
         shape: random.pick(&SHAPES),
-        depth_db: mostly(random, &[0.0, 0.001, 96.0], (0.0, 96.0)),
+        depth_db: mostly(random, &[0.0, RESTING_DEPTH, 96.0], (0.0, 96.0)),
         phase: mostly(random, &[0.0, 1.0, -1.0e-9, 1.0e9], (-3.0, 3.0)),
         size_octaves: mostly(random, &[0.0, 0.05, 1.0, 100.0], (0.05, 4.0)),
     }
@@ -112,7 +169,7 @@ pub fn config(random: &mut Random) -> MaskConfig {
 pub fn voice(random: &mut Random) -> MaskVoice {
     MaskVoice {
         note: random.below(128) as u8,
-        level: mostly(random, &[1.0, 1.0, 1.0e-5, 0.0], (0.0, 1.0)),
+        level: mostly(random, &[1.0, 1.0, SILENT_LEVEL, 0.0], (0.0, 1.0)),
         tuning_semitones: mostly(random, &[0.0, 0.0, 0.0, 48.0, -48.0], (-48.0, 48.0)),
         pressure: mostly(random, &[1.0], (-0.5, 1.5)),
         timbre: mostly(random, &[0.5], (-0.5, 1.5)),

@@ -14,7 +14,7 @@ use Rattle.limits.specs.Limits as limits
 use Rattle.masks.specs.Manual.{MANUAL-MASK-POINTS}
 use Rattle.scene.specs.declared.MaskVoice.{MaskVoice}
 use Rattle.scene.specs.Accepted.{noVoice, sizeAccepted, settingsAccepted, voiceAccepted, firstVoiceOutside}
-use Rattle.spectral_dsp.specs.Masks.{MOST-VOICES, bins, entryAccepted, firstEntryOutside, first, settingsReply, voicesReply, tableReply, stereoReply}
+use Rattle.spectral_dsp.specs.Masks.{MOST-VOICES, bins, entryAccepted, first, settingsReply, voicesReply, tableReply, stereoReply}
 use Rattle.spectral_dsp.proofs.MaskAccepted.{Done, is-done, both-done, settings-done, voices-done, table-done}
 use Rattle.chord_law.specs.Calls.{Call, Accepted, given}
 

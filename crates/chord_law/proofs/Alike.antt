@@ -1,17 +1,15 @@
 -- What equal settings, equal entries and matched voices are worth to the laws below: settings that differ at most in signs of zeros, and a voice raised above another. Assumes nothing.
-use mathlib.Core.Path.{_≡_, refl, sym, ap, _∙_, subst}
-use mathlib.Core.Bool.{Bool, true, false, not}
-use Prim.Native.Nat.{ℕ, _/_, _+_, _≤_, _<_}
-use native.Mathlib.Nat.{le-of-eq}
+use mathlib.Core.Path.{_≡_, refl, sym, ap, _∙_}
+use mathlib.Core.Bool.{true, false, not}
+use Prim.Native.Nat.{ℕ, _/_, _+_, _<_}
 use native.Mathlib.Omega.{arith}
 use lib.Dec.{T, T-not}
 use lib.Count.{trailingZeros}
 use lib.ListN.{length, getD}
-use lib.Ieee.{Float, nan, binary32, le, lt, eq, odd, ofBits, ofFields}
-use Rattle.float_laws.specs.Units.{number, real, real-number}
+use lib.Ieee.{Float, nan, binary32, le, eq, odd, ofBits, ofFields}
+use Rattle.float_laws.specs.Units.{real, real-number}
 use Rattle.float_laws.specs.Order.{not-lt-f}
 use Rattle.float_laws.specs.Same.{Same, same, noughts, nought, eq-same}
-use Rattle.float_laws.specs.Rise.{Rise}
 use Rattle.float32.proofs.Limits.{within-low}
 use Rattle.limits.specs.Limits.{LEAST-RATE, MOST-RATE, LEAST-WIDTH, MOST-WIDTH}
 use Rattle.scene.specs.declared.MaskVoice.{MaskVoice}
@@ -23,7 +21,7 @@ use Rattle.lobes.proofs.ZeroSigns.{SameTable, pitch-same, timbre-same, balance-
 use Rattle.mask_builder.proofs.ZeroSigns.{SameConfig}
 use Rattle.chord_law.specs.Calls.{Call, Accepted, F32Settings, F32Call}
 use Rattle.chord_law.specs.Voices.{NoLower, Matched}
-use Rattle.chord_law.specs.Settings.{SameMotion, SameSettings, SameEntries}
+use Rattle.chord_law.specs.Settings.{SameSettings, SameEntries}
 use Rattle.chord_law.proofs.Numbers as numbers
 use Rattle.chord_law.proofs.Acceptance.{table-length}
 

@@ -3,25 +3,23 @@
 use mathlib.Core.Path.{_≡_, refl, sym, subst}
 use mathlib.Core.Bool.{not}
 use mathlib.Core.List.{List, [], _∷_}
-use Prim.Native.Nat.{ℕ, zero, suc, _<_}
+use Prim.Native.Nat.{ℕ, zero, suc}
 use native.Mathlib.Omega.{arith}
 use lib.Dec.{T, lit<}
 use lib.Count.{trailingZeros}
-use lib.ListN.{length, getD}
-use lib.Ieee.{Float, binary32, ofBits, ofFields, odd, eq, lt}
+use lib.Ieee.{Float, ofBits, ofFields, odd, eq, lt}
 use Rattle.scene.specs.declared.MaskVoice.{MaskVoice}
-use Rattle.scene.specs.Accepted.{noVoice}
 use Rattle.float32.specs.Remainder as remainder
 use Rattle.lobes.specs.Grid.{half}
 use Rattle.chord_law.specs.Calls.{Call, F32Call, given}
-use Rattle.chord_law.specs.Voices.{SamePitch, Matched, MatchIn, MatchedIn}
+use Rattle.chord_law.specs.Voices.{Matched, MatchIn, MatchedIn}
 use Rattle.chord_law.specs.Curves.{NowhereAbove}
 use Rattle.chord_law.specs.Masks.{MasksNotAbove, MasksEqual}
 use Rattle.chord_law.specs.Premises.{Comparable, Beneath}
 use Rattle.chord_law.proofs.Law.{chord-law, chord-law-equal}
 
 -- a note at a level, with full pressure and volume, at the centre
-abbrev voice : ℕ → Float → MaskVoice
+abbrev pub voice : ℕ → Float → MaskVoice
 voice note level =
     record {
       note = note;
@@ -34,16 +32,16 @@ voice note level =
       pan = remainder.zero;
     }
 
-abbrev C : MaskVoice
+abbrev pub C : MaskVoice
 C = voice 60 half
 
-abbrev E : MaskVoice
+abbrev pub E : MaskVoice
 E = voice 64 half
 
-abbrev G : MaskVoice
+abbrev pub G : MaskVoice
 G = voice 67 half
 
-abbrev louder-G : MaskVoice
+abbrev pub louder-G : MaskVoice
 louder-G = voice 67 remainder.one
 
 abbrev pub chord : List MaskVoice

@@ -1,23 +1,22 @@
 -- The chord law: where two stereo calls are accepted, on the same settings, table entries and curves without NaN, and each voice of A is matched by one of B and A's curve is nowhere above B's,
 -- then on every bin, left and right, A's mask is not above B's. Where B is beneath A too the masks are equal.
 -- A's mask is that on B's settings and table (`mask-same`); there each bin rises with the voices and with the curve (`mask-rises`). Assumes nothing.
-use mathlib.Core.Path.{_≡_, refl, sym, ap, _∙_, subst}
+use mathlib.Core.Path.{_≡_, sym, subst}
 use mathlib.Core.List.{List}
 use Prim.Native.Nat.{ℕ, zero, suc, _/_, _+_, _^_, _≤_, _<_}
 use native.Mathlib.Omega.{arith}
 use lib.Dec.{T}
 use lib.Pow.{pow-mono}
 use lib.ListN.{length, getD}
-use lib.Ieee.{Float, nan, binary32, le, eq, lt, isNan}
+use lib.Ieee.{Float, nan, binary32}
 use Rattle.lists.specs.Maps.{tabFrom}
 use Rattle.lists.specs.Pairs.{All2, none, more}
 use Rattle.float_laws.specs.Units.{number, real-number}
 use Rattle.float_laws.specs.Order.{fits-number, not-lt-f, le-antisymm-f}
 use Rattle.float_laws.specs.Rise.{Rise}
 use Rattle.limits.specs.Limits as limits
-use Rattle.scene.specs.declared.MaskVoice.{MaskVoice}
 use Rattle.scene.specs.declared.MaskConfig.{MaskConfig}
-use Rattle.scene.specs.Accepted.{noVoice, sizeAccepted, settingsAccepted}
+use Rattle.scene.specs.Accepted.{noVoice}
 use Rattle.frequencies.proofs.Sizes.{size-power}
 use Rattle.masks.specs.Manual.{MANUAL-MASK-POINTS, curvePoint, manualGain}
 use Rattle.masks.proofs.Points.{point-le}
@@ -27,10 +26,8 @@ use Rattle.openness.proofs.RaisedVoices.{RaisedIn}
 use Rattle.mask_builder.specs.Mask.{maskAt}
 use Rattle.mask_builder.proofs.Rising.{manual-rises, mask-rises}
 use Rattle.mask_builder.proofs.ZeroSigns.{mask-same}
-use Rattle.chord_law.specs.Calls.{Call, Accepted, F32Call, F32Settings, given, maskOn}
-use Rattle.chord_law.specs.Voices.{MatchedIn}
-use Rattle.chord_law.specs.Settings.{SameMotion, SameSettings, SameEntries}
-use Rattle.chord_law.specs.Curves.{NoNan, NowhereAbove}
+use Rattle.chord_law.specs.Calls.{Call, Accepted, F32Call, given, maskOn}
+use Rattle.chord_law.specs.Curves.{NoNan}
 use Rattle.chord_law.specs.Masks.{NotAbove, EqualMasks}
 use Rattle.chord_law.specs.Premises.{Comparable, Beneath}
 use Rattle.chord_law.specs.Law.{ChordLaw, ChordLawEqual}

@@ -5,3 +5,4 @@ pub mod Turned
 pub mod Law
 pub mod Instances
 pub mod Parameters
+pub mod Scene

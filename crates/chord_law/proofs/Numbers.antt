@@ -1,31 +1,30 @@
 -- The numbers of an accepted call are finite: its voices, as the laws of lobes take them, its settings and its table entries. Assumes nothing.
-use mathlib.Core.Path.{_≡_, sym, subst}
+use mathlib.Core.Path.{sym, subst}
 use mathlib.Core.Bool.{Bool, _&&_}
 use mathlib.Core.List.{List}
-use Prim.Native.Nat.{ℕ, _/_, _+_, _≤_, _<_}
-use native.Mathlib.Nat.{lt-of-lt-of-le}
+use Prim.Native.Nat.{ℕ, _<_}
 use native.Mathlib.Omega.{arith}
 use lib.Dec.{T}
 use lib.Count.{trailingZeros}
 use lib.ListN.{length, getD, take, length-take}
 use lib.Seq.{getD-take}
-use lib.Ieee.{Float, nan, binary32, fits, le, odd, ofBits, ofFields}
+use lib.Ieee.{nan, binary32, fits, odd, ofBits, ofFields}
 use lib.Ieee.Fits.{and-l, and-r}
 use Rattle.lists.specs.Totals.{All}
 use Rattle.float_laws.specs.Units.{number, real, real-number}
 use Rattle.float32.specs.Order.{within}
-use Rattle.float32.proofs.Limits.{within-low, within-number, within-real}
+use Rattle.float32.proofs.Limits.{within-number, within-real}
 use Rattle.limits.specs.Limits as limits
 use Rattle.limits.specs.Limits.{LEAST-RATE, MOST-RATE, LEAST-NOTE-DEPTH, MOST-NOTE-DEPTH, LEAST-WIDTH, MOST-WIDTH, LEAST-ROLLOFF, MOST-ROLLOFF, LEAST-TABLE-ENTRY, MOST-TABLE-ENTRY}
 use Rattle.scene.specs.declared.MaskVoice.{MaskVoice}
 use Rattle.scene.specs.declared.MaskConfig.{MaskConfig}
-use Rattle.scene.specs.Accepted.{noVoice, sizeAccepted, settingsAccepted, motionAccepted, voiceAccepted}
+use Rattle.scene.specs.Accepted.{noVoice, sizeAccepted, settingsAccepted, motionAccepted}
 use Rattle.scene.proofs.Voices.{RealVoice, accepted-real}
 use Rattle.scene.proofs.Settings.{depth-real, phase-real, size-real}
 use Rattle.openness.proofs.Entries.{all-places}
 use Rattle.mask_builder.proofs.Rising.{RealSettings}
 use Rattle.chord_law.specs.Calls.{Call, Accepted, given, F32Voice, F32Settings, F32Call}
-use Rattle.chord_law.proofs.Acceptance.{size-accepted, settings-accepted, voice-accepted, entry-accepted}
+use Rattle.chord_law.proofs.Acceptance.{voice-accepted, entry-accepted}
 
 -- ---- the settings
 module _ (config : MaskConfig) (s : T (sizeAccepted config)) (t : T (settingsAccepted config)) (f : F32Settings config) where

@@ -1,10 +1,10 @@
 -- What two calls are compared by holds the other way round: equality is symmetric, as all its numbers are numbers. Assumes nothing.
 use mathlib.Core.Path.{sym}
-use Prim.Native.Nat.{ℕ, _<_}
+use Prim.Native.Nat.{_<_}
 use native.Mathlib.Omega.{arith}
 use lib.Dec.{T}
 use lib.ListN.{length, getD}
-use lib.Ieee.{Float, nan, binary32, eq}
+use lib.Ieee.{nan, binary32}
 use Rattle.float_laws.specs.Units.{real-number}
 use Rattle.float_laws.specs.Order.{eq-sym-f}
 use Rattle.scene.specs.declared.MaskConfig.{MaskConfig}

@@ -1,16 +1,15 @@
 -- A partial's gain is from 0 to 1: the rolloff is not negative, nor is the logarithm of a whole number from 1 on, so the decibels are not above 0. Assumes nothing.
 use mathlib.Core.Path.{_≡_, refl, sym, ap, _∙_, subst}
-use mathlib.Core.Bool.{true, false}
 use Prim.Native.Nat.{ℕ, _≤_}
 use native.Mathlib.Nat.{le-trans}
 use lib.Dec.{T, lit≤}
 use lib.IntN.{pos}
 use lib.Count.{trailingZeros}
-use lib.Ieee.{Float, fin, binary32, fits, le, neg, add, sub, sum, mul, round, size, span, climb, units, odd, ofBits, ofFields, ofInt}
+use lib.Ieee.{Float, binary32, fits, le, neg, add, sub, sum, mul, round, size, span, climb, units, odd, ofBits, ofFields, ofInt}
 use lib.Ieee.Fits.{and-i}
 use Rattle.float_laws.specs.Units.{number, real, real-number}
 use Rattle.float_laws.specs.Order as order
-use Rattle.float_laws.specs.Order.{le-trans-f, le-refl-f}
+use Rattle.float_laws.specs.Order.{le-trans-f}
 use Rattle.float_laws.specs.Round.{plus-zero}
 use Rattle.float_laws.specs.Ops.{mul-comm-f, mul-neg}
 use Rattle.float_laws.specs.Mono.{add-number, sub-number, sub-mono, mul-number, mul-nonneg, mul-mono-l, le-neg, number-neg}
@@ -24,12 +23,12 @@ use Rattle.float32.proofs.OrderAgrees.{clamp-agrees}
 use Rattle.power.specs.Power.{positiveZero, largest}
 use Rattle.power.specs.Log.{leastNormal, positiveNormal, rounded, L2}
 use Rattle.power.proofs.LogRising.{L2-mono}
-use Rattle.power.proofs.LogRange.{L2-of-power, L2-number, L2-real}
+use Rattle.power.proofs.LogRange.{L2-of-power, L2-real}
 use Rattle.decibels.proofs.Gains.{gain-real, gain-nonneg, gain-at-most-one}
 use Rattle.pitch.proofs.Range.{whole-le}
 use Rattle.lobes.specs.Grid.{half}
 use Rattle.lobes.specs.Tone.{TIMBRE-RANGE-DB, MAX-ROLLOFF-DB, timbreRolloff, harmonicGain}
-use Rattle.lobes.proofs.NoteLevels.{zero-is, one-is, clamp-unit, at-most-one}
+use Rattle.lobes.proofs.NoteLevels.{zero-is, clamp-unit, at-most-one}
 
 -- ---- what a timbre adds: from -12 to 12 dB, and so finite
 record TimbreEnds : Type 0 where

@@ -1,18 +1,18 @@
 -- A voice's level never falls as its own level, its volume or its pressure rises: each operation keeps the order. It is finite and not negative. Assumes nothing.
-use mathlib.Core.Path.{_≡_, refl, subst₂, sym}
+use mathlib.Core.Path.{_≡_, refl}
 use mathlib.Core.Bool.{Bool, true, false, cond}
 use native.Mathlib.Omega.{arith}
 use lib.Dec.{T, lit≤}
 use lib.Count.{trailingZeros}
 use lib.Ieee.{Float, Format, binary32, fits, le, lt, add, sum, mul, round, size, span, climb, units, odd, ofBits}
-use Rattle.float_laws.specs.Units.{mag, key, number, real, real-number, key→le}
+use Rattle.float_laws.specs.Units.{mag, number, real, real-number, key→le}
 use Rattle.float_laws.specs.Order as order
 use Rattle.float_laws.specs.Order.{le-trans-f, le-refl-f}
 use Rattle.float_laws.specs.Round.{plus-zero}
 use Rattle.float_laws.specs.Mono.{add-mono, size-nonneg}
 use Rattle.float_laws.specs.Bounds as bounds
 use Rattle.float_laws.specs.Bounds.{mul-le-left}
-use Rattle.float_laws.specs.Rise.{Upto, Rise, Up, upto-level, upto-clamp, rise-refl, rise-mul, rise-add, up-scale, scale-up, rise-up}
+use Rattle.float_laws.specs.Rise.{Upto, Rise, Up, upto-level, upto-clamp, rise-refl, rise-mul, rise-add, up-scale, scale-up}
 use Rattle.float32.specs.Order.{maximum, clamp}
 use Rattle.float32.specs.Remainder.{zero, one}
 use Rattle.float32.proofs.OrderAgrees.{clamp-agrees, maximum-larger}

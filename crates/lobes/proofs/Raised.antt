@@ -1,13 +1,12 @@
 -- A voice and one that is raised above it: the same pitch, the same fall of the partials and the same balance, and level, pressure, volume and expression no lower. Partial by partial the two have
 -- lobes on the same bins, and at each bin what the raised voice opens is at least what the other opens. The bell is the same, and the rest are products that keep the order. Assumes nothing.
-use mathlib.Core.Path.{_≡_, refl, sym, ap, _∙_, subst₂}
-use mathlib.Core.Bool.{Bool, true, false, cond}
+use mathlib.Core.Path.{_≡_, refl}
 use mathlib.Core.List.{List}
 use Prim.Native.Nat.{ℕ, _≤_}
 use lib.Dec.{T, lit≤}
-use lib.Ieee.{Float, nan, inf, fin, binary32, fits, le, lt, isNan, sub, mul, ofBits}
+use lib.Ieee.{Float, nan, inf, fin, binary32, fits, le, mul}
 use lib.Ieee.Fits.{sub-fits}
-use Rattle.float_laws.specs.Units.{number, real, real-number}
+use Rattle.float_laws.specs.Units.{number, real}
 use Rattle.float_laws.specs.Order as order
 use Rattle.float_laws.specs.Round.{plus-zero}
 use Rattle.float_laws.specs.Rise.{Upto, Rise, Up, rise-refl, rise-mul, up-scale, up-clamp}
@@ -21,7 +20,7 @@ use Rattle.scene.proofs.Voices.{RealVoice}
 use Rattle.lobes.specs.declared.Grid.{Grid}
 use Rattle.lobes.specs.declared.Lobe.{Lobe}
 use Rattle.lobes.specs.Pan.{Side, balance, panOf, channelGain}
-use Rattle.lobes.specs.Tone.{noteLevel, timbreRolloff, fundamentalOf, toneOf, centerOf, harmonicGain}
+use Rattle.lobes.specs.Tone.{timbreRolloff, fundamentalOf, toneOf}
 use Rattle.lobes.specs.Distance.{Logs, lent, distance, bell}
 use Rattle.lobes.specs.Lobe.{lobeOf, relativeSquare, opening}
 use Rattle.lobes.proofs.NoteLevels.{zero-is, one-is, note-level-rises}

@@ -1,24 +1,22 @@
 -- The sign of a zero does not count in a lobe. Of a voice: its tuning only enters a power, its timbre is taken from a half, and a pan of either zero is the centre. Of the settings: the rolloff
 -- only enters a gain. Of the table: an entry only enters a square. So equal voices have one pitch, one fall of the partials and one balance, and with equal settings and entries a lobe is the
 -- same and opens the same. Assumes nothing.
-use mathlib.Core.Path.{_≡_, refl, sym, ap, _∙_, subst}
-use mathlib.Core.Bool.{Bool, true, false, cond}
+use mathlib.Core.Path.{_≡_, refl, sym, ap, _∙_}
+use mathlib.Core.Bool.{true, false, cond}
 use mathlib.Core.List.{List}
 use Prim.Native.Nat.{ℕ, _≤_}
 use native.Mathlib.Omega.{arith}
-use lib.IntN.{pos}
 use lib.Count.{trailingZeros}
 use lib.ListN.{getD}
-use lib.Ieee.{Float, nan, binary32, ofBits, ofFields, ofInt, isNan, neg, add, sub, sum, mul, div, lt, eq, round, size, span, climb, units, odd}
+use lib.Ieee.{Float, nan, binary32, ofBits, ofFields, isNan, neg, add, sub, sum, mul, lt, eq, round, size, span, climb, units, odd}
 use Rattle.lists.specs.Interpolation.{interp}
 use Rattle.float_laws.specs.Same.{Same, same, nought, through, carried, same-mul, same-add, same-sub, same-div, same-neg}
-use Rattle.float32.specs.Order.{maximum, clamp, finite}
+use Rattle.float32.specs.Order.{clamp, finite}
 use Rattle.float32.specs.Powers.{square}
 use Rattle.float32.specs.Remainder.{zero, one}
 use Rattle.float32.specs.Value.{moved}
 use Rattle.power.specs.Table.{powerTable}
 use Rattle.power.specs.Power.{powerAt, powerOf, E2}
-use Rattle.power.specs.Log.{L2}
 use Rattle.decibels.specs.Gain.{gainOf}
 use Rattle.pitch.specs.Pitch.{A4-HERTZ}
 use Rattle.scene.specs.declared.MaskVoice.{MaskVoice}
@@ -27,7 +25,7 @@ use Rattle.lobes.specs.declared.Lobe.{Lobe}
 use Rattle.lobes.specs.Grid.{half}
 use Rattle.lobes.specs.Pan.{Side, HARD-LEFT, HARD-RIGHT, balance, panOf}
 use Rattle.lobes.specs.Tone.{TIMBRE-RANGE-DB, MAX-ROLLOFF-DB, noteLevel, timbreRolloff, fundamentalOf, toneOf, centerOf, harmonicGain}
-use Rattle.lobes.specs.Distance.{Logs, lent, distance, bell}
+use Rattle.lobes.specs.Distance.{lent, distance, bell}
 use Rattle.lobes.specs.Peak.{closestBin}
 use Rattle.lobes.specs.Lobe.{firstBin, lastBin, lobeOf, relativeSquare, opening}
 use Rattle.lobes.proofs.Closest.{closest-le, closest-pos}

@@ -1,6 +1,5 @@
 -- A bin of a mask never falls as its curve point rises and as voices are raised: the manual gain and the gate never fall, the motion is the same, and all three are finite and not negative, so
 -- the product of the three rises. Assumes nothing.
-use mathlib.Core.Path.{_≡_, refl}
 use mathlib.Core.Bool.{Bool, true, false, cond}
 use mathlib.Core.List.{List}
 use Prim.Native.Nat.{ℕ, _≤_, _<_, min, max}
@@ -8,7 +7,7 @@ use native.Mathlib.Nat.{le-trans, le-of-eq}
 use native.Mathlib.Omega.{arith}
 use lib.Dec.{T, lit≤}
 use lib.ListN.{length, getD}
-use lib.Ieee.{Float, nan, binary32, fits, le, lt, sub, mul, ofBits}
+use lib.Ieee.{Float, nan, binary32, fits, le, lt, sub, ofBits}
 use Rattle.lists.specs.Totals.{All}
 use Rattle.float_laws.specs.Units.{mag, number, real}
 use Rattle.float_laws.specs.Order.{number-fits}

@@ -1,19 +1,18 @@
 -- With equal settings and table entries a bin of the mask is the same, whatever the signs of zeros among them. Assumes nothing.
-use mathlib.Core.Path.{_≡_, refl, sym, ap, _∙_, subst₂}
-use mathlib.Core.Logic.{_⊎_, inl, inr}
+use mathlib.Core.Path.{_≡_, refl, ap, _∙_}
+use mathlib.Core.Logic.{inl, inr}
 use mathlib.Core.Bool.{Bool, true, false, cond}
 use mathlib.Core.List.{List}
 use Prim.Native.Nat.{ℕ, _/_, _≤_}
 use lib.Count.{trailingZeros}
-use lib.Ieee.{Float, binary32, ofBits, ofFields, isNan, lt, neg, mul, odd}
+use lib.Ieee.{Float, binary32, ofBits, ofFields, isNan, lt, mul, odd}
 use Rattle.float_laws.specs.Same.{Same, carried, same-neg}
 use Rattle.float32.specs.Order.{maximum}
 use Rattle.float32.specs.Remainder.{zero, one}
 use Rattle.scene.specs.declared.MaskVoice.{MaskVoice}
 use Rattle.scene.specs.declared.MaskConfig.{MaskConfig}
 use Rattle.frequencies.specs.Frequency.{binHz, hertz}
-use Rattle.masks.specs.Gates.{emphasisGain, floorGain, gateGain}
-use Rattle.masks.specs.Manual.{manualGain}
+use Rattle.masks.specs.Gates.{floorGain}
 use Rattle.motion.specs.Field.{RESTING-DEPTH-DB, motionGain}
 use Rattle.motion.specs.Compensation.{compensation}
 use Rattle.motion.proofs.ZeroSigns.{one-or-resting, motion-gain-same, compensation-same}

@@ -7,10 +7,9 @@ use mathlib.Core.Bool.{Bool, true, false, cond, _||_}
 use Prim.Native.Nat.{ℕ, zero as none, suc, _+_, _%_, _^_}
 use lib.IntN.{pos}
 use lib.Count.{trailingZeros}
-use lib.Ieee.{Float, binary32, ofBits, ofFields, ofInt, isNan, add, sub, sum, mul, div, neg, rem, lt, le, eq, round, size, span, climb, units, odd}
+use lib.Ieee.{Float, binary32, ofBits, ofFields, ofInt, isNan, add, sub, sum, mul, div, neg, rem, lt, le, round, size, span, climb, units, odd}
 use Rattle.lists.specs.Folds.{fold, range}
-use Rattle.lists.specs.Interpolation.{interp}
-use Rattle.float_laws.specs.Same.{Same, same, nought, noughts, same-of, through, carried, same-mul, same-add, same-sub, same-div}
+use Rattle.float_laws.specs.Same.{Same, same, nought, noughts, same-of, through, carried, same-mul, same-add, same-sub}
 use Rattle.float32.specs.Order.{maximum, minimum, clamp, magnitude}
 use Rattle.float32.specs.Remainder.{zero, one, remEuclidOne}
 use Rattle.float32.specs.Value.{moved}
@@ -22,7 +21,7 @@ use Rattle.sine.specs.Sine.{U, wave, sinOf, cosOf}
 use Rattle.scene.specs.declared.MotionShape.{MotionShape}
 use Rattle.scene.specs.declared.MotionShape.the-variants.{Ripple, Harmonic, Drift, Scan, Notch, Saw, Sprinkle, Cloud}
 use Rattle.scene.specs.declared.MotionConfig.{MotionConfig}
-use Rattle.motion.specs.Shapes.{DISPLAY-OCTAVES, half, ripple, harmonic, broad, middle, detail, drift, wrapped, window, smoothstep, sawAt, saw}
+use Rattle.motion.specs.Shapes.{DISPLAY-OCTAVES, half, ripple, harmonic, broad, middle, detail, drift, wrapped, window, sawAt, saw}
 use Rattle.motion.specs.Field.{MIN-DISPLAY-FREQUENCY-HZ, RESTING-DEPTH-DB, MIN-SIZE-OCTAVES, shapeAt, resting, openness, attenuation, motionGain}
 use Rattle.motion.specs.Compensation.{MOTION-COMPENSATION-SAMPLES, MAX-MOTION-COMPENSATION-DB, sampleFrequency, samplePower, meanSquare, compensation}
 

@@ -7,7 +7,7 @@ use lib.Ieee.{Float, binary32, le}
 use Rattle.lists.specs.Folds.{fold}
 use Rattle.lists.specs.Totals.{All}
 use Rattle.float_laws.specs.Units.{number, real-number}
-use Rattle.float_laws.specs.Order.{le-trans-f, le-refl-f, larger, larger-left, larger-right, larger-least}
+use Rattle.float_laws.specs.Order.{le-trans-f, le-refl-f, larger-left, larger-right, larger-least}
 use Rattle.float_laws.specs.Rise.{Upto, upto-maximum}
 use Rattle.float32.specs.Order.{maximum}
 use Rattle.float32.proofs.OrderAgrees.{maximum-agrees, maximum-larger}
@@ -55,7 +55,14 @@ module _ {A : Type 0} (there : A → Bool) (opens : A → Float) where
     under z w h k = rw (maximum-larger binary32 s t (is-number u)) (larger-least binary32 s t (is-number u) (is-number v) z (is-number w) h k)
 
   pub where-join : Join FitWhere BelowWhere joinWhere
-  where-join = record { keeps = λ s x f u. keeps (there x) s (opens x) f u; grows = λ s x f u. grows (there x) s (opens x) f u; reaches = λ s x f u. reaches (there x) s (opens x) f u; least = λ s x z f u w h b. least (there x) s (opens x) z f u w h b; higher = λ x z z' f w w' h b t. le-join (f t) w w' (b t) h }
+  where-join =
+      record {
+        keeps = λ s x f u. keeps (there x) s (opens x) f u;
+        grows = λ s x f u. grows (there x) s (opens x) f u;
+        reaches = λ s x f u. reaches (there x) s (opens x) f u;
+        least = λ s x z f u w h b. least (there x) s (opens x) z f u w h b;
+        higher = λ x z z' f w w' h b t. le-join (f t) w w' (b t) h;
+      }
     where
       keeps : (c : Bool) (s t : Float) → (T c → Openness t) → Openness s → Openness (cond c (maximum s t) s)
       keeps true s t f u = maximum-keeps s t u (f tt)
@@ -94,8 +101,10 @@ module _ {A : Type 0} {Fit : A → Type 0} {Below : A → Float → Type 0} {ste
   unfolding fold
   run-reaches s [] f u = tt
   run-reaches s (x ∷ xs) f u =
-      let v = j .keeps s x (f .0) u in
-      (j .higher x (step s x) (fold step (step s x) xs) (f .0) v (run-keeps (step s x) xs (f .1) v) (run-grows (step s x) xs (f .1) v) (j .reaches s x (f .0) u), run-reaches (step s x) xs (f .1) v)
+      let v = j .keeps s x (f .0) u in (
+        j .higher x (step s x) (fold step (step s x) xs) (f .0) v (run-keeps (step s x) xs (f .1) v) (run-grows (step s x) xs (f .1) v) (j .reaches s x (f .0) u),
+        run-reaches (step s x) xs (f .1) v,
+      )
 
   run-least : (s : Float) (xs : List A) (z : Float) → All Fit xs → Openness s → Openness z → T (le s z) → AllBelow xs z → T (le (fold step s xs) z)
   unfolding fold
@@ -108,4 +117,3 @@ module _ {A : Type 0} {Fit : A → Type 0} {Below : A → Float → Type 0} {ste
 
   pub fold-join : Join (All Fit) AllBelow (fold step)
   fold-join = record { keeps = run-keeps; grows = run-grows; reaches = run-reaches; least = run-least; higher = run-higher }
-

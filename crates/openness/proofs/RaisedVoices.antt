@@ -1,19 +1,18 @@
 -- The openness of a bin under a list of voices: it is an openness, every lobe is at most it, and it is at most every openness that no lobe is above. So it does not depend on the order of
 -- the voices, nor falls where each voice has one raised above it. Assumes nothing.
-use mathlib.Core.Path.{_≡_, refl, sym, ap, subst, subst₂}
+use mathlib.Core.Path.{_≡_, refl, sym, subst, subst₂}
 use mathlib.Core.Bool.{Bool, true, false, not, cond, _&&_}
 use mathlib.Core.List.{List}
 use Prim.Native.Nat.{ℕ, _+_, _≤_, _<_}
-use native.Mathlib.Nat.{le-trans}
 use native.Mathlib.Omega.{arith}
 use lib.Dec.{T, T-not, not-T, leb, lit≤}
 use lib.ListN.{length, getD}
 use lib.Ieee.{Float, binary32, fits, le, mul, ofBits}
-use Rattle.lists.specs.Folds.{fold, range, takeUntil}
+use Rattle.lists.specs.Folds.{fold, range}
 use Rattle.lists.specs.Totals.{All, all-at}
 use Rattle.float_laws.specs.Units.{mag, number, real, real-number}
 use Rattle.float_laws.specs.Order.{le-trans-f, le-refl-f}
-use Rattle.float_laws.specs.Rise.{Upto, Rise, rise-refl}
+use Rattle.float_laws.specs.Rise.{Rise, rise-refl}
 use Rattle.float32.specs.Remainder.{zero}
 use Rattle.scene.specs.declared.MaskVoice.{MaskVoice}
 use Rattle.scene.specs.Accepted.{noVoice}

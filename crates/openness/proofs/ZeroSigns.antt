@@ -1,20 +1,20 @@
 -- With equal settings and table entries the openness of a bin is the same, whatever the signs of zeros among them: each lobe is the same and opens the same on the bins that it is on. Assumes nothing.
-use mathlib.Core.Path.{_≡_, refl, sym, ap, _∙_, subst}
+use mathlib.Core.Path.{_≡_, refl, ap, _∙_}
 use mathlib.Core.Bool.{Bool, true, false, cond, _&&_}
 use mathlib.Core.List.{List, [], _∷_}
 use Prim.Native.Nat.{ℕ, _≤_}
 use native.Mathlib.Nat.{le-trans}
 use lib.Dec.{T, leb, leb→le}
-use lib.Ieee.{Float, binary32, le, lt, mul}
+use lib.Ieee.{Float, binary32, le, mul}
 use lib.Ieee.Fits.{and-l, and-r}
-use Rattle.lists.specs.Folds.{fold, takeUntil, range}
+use Rattle.lists.specs.Folds.{fold}
 use Rattle.float32.specs.Order.{maximum}
 use Rattle.float32.specs.Remainder.{zero}
 use Rattle.scene.specs.declared.MaskVoice.{MaskVoice}
 use Rattle.lobes.specs.declared.Grid.{Grid}
 use Rattle.lobes.specs.declared.Lobe.{Lobe}
 use Rattle.lobes.specs.Pan.{Side, channelGain}
-use Rattle.lobes.specs.Tone.{toneOf, centerOf}
+use Rattle.lobes.specs.Tone.{toneOf}
 use Rattle.lobes.specs.Distance.{lent}
 use Rattle.lobes.specs.Lobe.{lobeOf, opening}
 use Rattle.lobes.proofs.ZeroSigns.{SameGrid, SameTable, lobe-same, opening-same, lobe-bins}

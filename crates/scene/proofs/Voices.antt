@@ -3,13 +3,11 @@ use mathlib.Core.Bool.{Bool, _&&_}
 use Prim.Native.Nat.{_≤_}
 use lib.Dec.{T, leb→le}
 use lib.Count.{trailingZeros}
-use lib.Ieee.{Float, binary32, fits, le, odd, ofBits, ofFields}
+use lib.Ieee.{Float, binary32, fits, odd, ofBits, ofFields}
 use lib.Ieee.Fits.{and-l, and-r}
 use Rattle.float_laws.specs.Units.{real}
-use Rattle.float_laws.specs.Bounds.{one}
-use Rattle.float_laws.specs.Round.{plus-zero}
 use Rattle.float_laws.specs.Rise.{Upto, upto-level}
-use Rattle.float32.specs.Order.{finite, within}
+use Rattle.float32.specs.Order.{finite}
 use Rattle.float32.proofs.Limits.{within-low, within-high, within-real, finite-real}
 use Rattle.limits.specs.Limits.{LEAST-LEVEL, MOST-LEVEL, LEAST-TUNING, MOST-TUNING, note, tuning, level}
 use Rattle.scene.specs.declared.MaskVoice.{MaskVoice}

@@ -6,6 +6,7 @@ mod refusals;
 pub use builders::build_mask;
 pub use builders::build_mask_with_voices;
 pub use builders::build_mask_with_voices_precomputed;
+pub use builders::build_stereo_masks_with_prepared_spectrum;
 pub use builders::build_stereo_masks_with_voices_precomputed;
 ghost use mathlib.Core.Path.{_≡_};
 ghost use lib.ListN.{length};

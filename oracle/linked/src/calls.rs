@@ -2,6 +2,7 @@
 //! those of one slice.
 
 use crate::*;
+use oracle::builders::{Builder, Lent, Masks};
 use oracle::spectral_dsp::MotionConfig;
 
 /// What a call gives: its number, and what it leaves in the place and the values that are lent.
@@ -140,6 +141,55 @@ pub fn advance_note_envelopes(levels: &mut [f32], held: &[u8], elapsed: f32, fad
 pub fn prepare(table: &mut [f32], rate: f32, size: usize) -> Given {
     let (entries, n) = (table.as_mut_ptr(), table.len());
     outcome(|place| unsafe { dovetable_prepare(entries, n, rate, size, place) })
+}
+
+/// What a mask builder is lent that crosses in another form: the settings and the voices.
+#[derive(Clone, Debug)]
+pub struct Crossing {
+    pub settings: Settings,
+    pub voices: Vec<MaskVoice>,
+}
+
+impl From<&Lent> for Crossing {
+    fn from(lent: &Lent) -> Self {
+        Self {
+            settings: lent.config.into(),
+            voices: lent.voices.iter().map(MaskVoice::from).collect(),
+        }
+    }
+}
+
+/// One of the four mask builders.
+pub fn build(
+    builder: Builder,
+    lent: &Lent,
+    crossing: &Crossing,
+    [left, right]: &mut Masks,
+) -> Given {
+    let settings = crossing.settings;
+    let (voices, count) = (crossing.voices.as_ptr(), crossing.voices.len());
+    let (curve, points) = (lent.curve.as_ptr(), lent.curve.len());
+    let (levels, notes) = (lent.levels.as_ptr(), lent.levels.len());
+    let (table, entries) = (lent.table.as_ptr(), lent.table.len());
+    let (left, bins) = (left.as_mut_ptr(), left.len());
+    let (right, right_bins) = (right.as_mut_ptr(), right.len());
+    outcome(|place| unsafe {
+        match builder {
+            Builder::Mask => {
+                dovetable_build_mask(left, bins, curve, points, levels, notes, settings, place)
+            }
+            Builder::WithVoices => dovetable_build_mask_with_voices(
+                left, bins, curve, points, voices, count, settings, place,
+            ),
+            Builder::WithVoicesPrecomputed => dovetable_build_mask_with_voices_precomputed(
+                left, bins, curve, points, voices, count, settings, table, entries, place,
+            ),
+            Builder::StereoPrecomputed => dovetable_build_stereo_masks_with_voices_precomputed(
+                left, bins, right, right_bins, curve, points, voices, count, settings, table,
+                entries, place,
+            ),
+        }
+    })
 }
 
 pub fn build_dual_synthesis_window(

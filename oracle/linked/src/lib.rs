@@ -1,10 +1,76 @@
-//! The port's exported functions, as its static library has them: every declaration stands here,
-//! and for each open call a safe function over it.
+//! The port's exported functions and records, as its static library has them: every declaration
+//! stands here, and `calls` has for each open call a safe function over it.
 
 pub mod calls;
 
+use oracle::spectral_dsp as dsp;
+
 /// Works on `n` numbers in place.
 pub type All = unsafe extern "C" fn(xs: *mut f32, n: usize);
+
+/// A voice as it crosses.
+#[repr(C)]
+#[derive(Clone, Copy, Debug)]
+pub struct MaskVoice {
+    pub note: u8,
+    pub level: f32,
+    pub tuning_semitones: f32,
+    pub pressure: f32,
+    pub timbre: f32,
+    pub volume_gain: f32,
+    pub expression_gain: f32,
+    pub pan: f32,
+}
+
+impl From<&dsp::MaskVoice> for MaskVoice {
+    fn from(voice: &dsp::MaskVoice) -> Self {
+        Self {
+            note: voice.note,
+            level: voice.level,
+            tuning_semitones: voice.tuning_semitones,
+            pressure: voice.pressure,
+            timbre: voice.timbre,
+            volume_gain: voice.volume_gain,
+            expression_gain: voice.expression_gain,
+            pan: voice.pan,
+        }
+    }
+}
+
+/// The settings of a mask as they cross, the shape as a number, which may be none of the eight.
+#[repr(C)]
+#[derive(Clone, Copy, Debug)]
+pub struct Settings {
+    pub sample_rate: f32,
+    pub fft_size: usize,
+    pub note_depth_db: f32,
+    pub note_layer_enabled: bool,
+    pub width_cents: f32,
+    pub partials: usize,
+    pub harmonic_rolloff_db_per_octave: f32,
+    pub motion_shape: u32,
+    pub motion_depth_db: f32,
+    pub motion_phase: f32,
+    pub motion_size_octaves: f32,
+}
+
+impl From<dsp::MaskConfig> for Settings {
+    fn from(config: dsp::MaskConfig) -> Self {
+        Self {
+            sample_rate: config.sample_rate,
+            fft_size: config.fft_size,
+            note_depth_db: config.note_depth_db,
+            note_layer_enabled: config.note_layer_enabled,
+            width_cents: config.width_cents,
+            partials: config.partials,
+            harmonic_rolloff_db_per_octave: config.harmonic_rolloff_db_per_octave,
+            motion_shape: config.motion.shape as u32,
+            motion_depth_db: config.motion.depth_db,
+            motion_phase: config.motion.phase,
+            motion_size_octaves: config.motion.size_octaves,
+        }
+    }
+}
 
 unsafe extern "C" {
     pub fn dovetable_exp2_all(xs: *mut f32, n: usize);
@@ -97,6 +163,53 @@ unsafe extern "C" {
         entries: usize,
         sample_rate: f32,
         fft_size: usize,
+        place: &mut usize,
+    ) -> u32;
+
+    pub fn dovetable_build_mask(
+        output: *mut f32,
+        output_bins: usize,
+        manual_mask_db: *const f32,
+        points: usize,
+        note_levels: *const f32,
+        notes: usize,
+        config: Settings,
+        place: &mut usize,
+    ) -> u32;
+    pub fn dovetable_build_mask_with_voices(
+        output: *mut f32,
+        output_bins: usize,
+        manual_mask_db: *const f32,
+        points: usize,
+        voices: *const MaskVoice,
+        count: usize,
+        config: Settings,
+        place: &mut usize,
+    ) -> u32;
+    pub fn dovetable_build_mask_with_voices_precomputed(
+        output: *mut f32,
+        output_bins: usize,
+        manual_mask_db: *const f32,
+        points: usize,
+        voices: *const MaskVoice,
+        count: usize,
+        config: Settings,
+        table: *const f32,
+        entries: usize,
+        place: &mut usize,
+    ) -> u32;
+    pub fn dovetable_build_stereo_masks_with_voices_precomputed(
+        left: *mut f32,
+        left_bins: usize,
+        right: *mut f32,
+        right_bins: usize,
+        manual_mask_db: *const f32,
+        points: usize,
+        voices: *const MaskVoice,
+        count: usize,
+        config: Settings,
+        table: *const f32,
+        entries: usize,
         place: &mut usize,
     ) -> u32;
 

@@ -2,60 +2,11 @@
 
 use crate::measure::Distance;
 use crate::variants;
+use oracle::given;
 use oracle::random::Random;
 use oracle::scenes::Scene;
 
 pub type Masks = [Vec<f32>; 2];
-
-/// A scene in the types of one of the modules that hold the ported text.
-macro_rules! given {
-    ($scene:expr, $($dsp:ident)::+) => {{
-        use $($dsp)::+ as dsp;
-        let scene: &Scene = $scene;
-        let shapes = [
-            dsp::MotionShape::Ripple,
-            dsp::MotionShape::Harmonic,
-            dsp::MotionShape::Drift,
-            dsp::MotionShape::Scan,
-            dsp::MotionShape::Notch,
-            dsp::MotionShape::Saw,
-            dsp::MotionShape::Sprinkle,
-            dsp::MotionShape::Cloud,
-        ];
-        let config = dsp::MaskConfig {
-            sample_rate: scene.config.sample_rate,
-            fft_size: scene.config.fft_size,
-            note_depth_db: scene.config.note_depth_db,
-            note_layer_enabled: scene.config.note_layer_enabled,
-            width_cents: scene.config.width_cents,
-            partials: scene.config.partials,
-            harmonic_rolloff_db_per_octave: scene.config.harmonic_rolloff_db_per_octave,
-            motion: dsp::MotionConfig {
-                shape: shapes[scene.config.motion.shape as usize],
-                depth_db: scene.config.motion.depth_db,
-                phase: scene.config.motion.phase,
-                size_octaves: scene.config.motion.size_octaves,
-            },
-        };
-        let voices: Vec<dsp::MaskVoice> = scene
-            .voices
-            .iter()
-            .map(|voice| dsp::MaskVoice {
-                note: voice.note,
-                level: voice.level,
-                tuning_semitones: voice.tuning_semitones,
-                pressure: voice.pressure,
-                timbre: voice.timbre,
-                volume_gain: voice.volume_gain,
-                expression_gain: voice.expression_gain,
-                pan: voice.pan,
-            })
-            .collect();
-        let curve: &[f32; dsp::MANUAL_MASK_POINTS] =
-            scene.curve.as_slice().try_into().expect("a whole curve");
-        (config, voices, curve)
-    }};
-}
 
 /// The stereo call, on a table that the module prepares at a rate.
 macro_rules! stereo_at {

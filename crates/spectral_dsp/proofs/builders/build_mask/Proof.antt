@@ -53,8 +53,8 @@ voices-of-requires c κs =
     let v = k .before in
     let a = v .before .before .before .before .before .before .before .before .args in
     let e =
-        mask-answer (a .manual-mask-db .now) (a .config) (length (a .output .now)) (a .note-levels .now) (k .first .ensures) (v .before .of-settings .ensures) (v .of-levels .ensures)
-        (v .before .before .both2 .ensures) (v .before .before .before .both .ensures) in
+    mask-answer (a .manual-mask-db .now) (a .config) (length (a .output .now)) (a .note-levels .now) (k .first .ensures) (v .before .of-settings .ensures) (v .of-levels .ensures)
+    (v .before .before .both2 .ensures) (v .before .before .before .both .ensures) in
     let d = is-done _ (sym e ∙ ap ofOutcome (told .enum-told .given .1)) in
     let f = mask-accepted (a .manual-mask-db .now) (a .config) (length (a .output .now)) (a .note-levels .now) d in
     f .1
@@ -66,8 +66,8 @@ build-one-requires c κs =
     let v = k .before in
     let a = v .before .before .before .before .before .before .before .before .args in
     let e =
-        mask-answer (a .manual-mask-db .now) (a .config) (length (a .output .now)) (a .note-levels .now) (k .first .ensures) (v .before .of-settings .ensures) (v .of-levels .ensures)
-        (v .before .before .both2 .ensures) (v .before .before .before .both .ensures) in
+    mask-answer (a .manual-mask-db .now) (a .config) (length (a .output .now)) (a .note-levels .now) (k .first .ensures) (v .before .of-settings .ensures) (v .of-levels .ensures)
+    (v .before .before .both2 .ensures) (v .before .before .before .both .ensures) in
     let d = is-done _ (sym e ∙ ap ofOutcome (told .enum-told .given .1)) in
     let f = mask-accepted (a .manual-mask-db .now) (a .config) (length (a .output .now)) (a .note-levels .now) d in
     (f .0 .0, lit≤ tt, f .0 .1, f .2, (λ t. absurd (true≢false (sym t))))
@@ -78,8 +78,8 @@ returns c =
     let v = k .before in
     let a = v .before .before .before .before .before .before .before .before .args in
     let e =
-        mask-answer (a .manual-mask-db .now) (a .config) (length (a .output .now)) (a .note-levels .now) (k .first .ensures) (v .before .of-settings .ensures) (v .of-levels .ensures)
-        (v .before .before .both2 .ensures) (v .before .before .before .both .ensures) in
+    mask-answer (a .manual-mask-db .now) (a .config) (length (a .output .now)) (a .note-levels .now) (k .first .ensures) (v .before .of-settings .ensures) (v .of-levels .ensures)
+    (v .before .before .both2 .ensures) (v .before .before .before .both .ensures) in
     (ap ofOutcome (sym (c .before .outcome .given .1)) ∙ e, refl)
 
 same-length : tie.Need-same-length
@@ -93,8 +93,8 @@ returns-2 c =
     let v = k .before in
     let a = v .before .before .before .before .before .before .before .before .args in
     let e =
-        mask-answer (a .manual-mask-db .now) (a .config) (length (a .output .now)) (a .note-levels .now) (k .first .ensures) (v .before .of-settings .ensures) (v .of-levels .ensures)
-        (v .before .before .both2 .ensures) (v .before .before .before .both .ensures) in
+    mask-answer (a .manual-mask-db .now) (a .config) (length (a .output .now)) (a .note-levels .now) (k .first .ensures) (v .before .of-settings .ensures) (v .of-levels .ensures)
+    (v .before .before .both2 .ensures) (v .before .before .before .both .ensures) in
     (ap ofOutcome (sym (told .enum-told .given .1)) ∙ e, built .build-one .ensures ∙ ap (maskOf (a .manual-mask-db .now) (a .config) none mono) (ap (take 128) (built .before .before .voices-of .ensures) ∙ all-voices (a .note-levels .now)))
 
 pub build-mask-spec : {M : Type 1} → statement M

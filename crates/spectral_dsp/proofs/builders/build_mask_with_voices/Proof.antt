@@ -37,8 +37,8 @@ build-one-requires c κs =
     let v = k .before in
     let a = v .before .before .before .before .before .before .args in
     let e =
-        voices-mask-answer (a .manual-mask-db .now) (a .config) (a .voices) (a .count) (length (a .output .now)) (k .first .ensures) (v .before .of-settings .ensures) (v .of-voices .ensures)
-        (v .before .before .both .ensures) in
+    voices-mask-answer (a .manual-mask-db .now) (a .config) (a .voices) (a .count) (length (a .output .now)) (k .first .ensures) (v .before .of-settings .ensures) (v .of-voices .ensures)
+    (v .before .before .both .ensures) in
     let d = is-done _ (sym e ∙ ap ofOutcome (told .enum-told .given .1)) in
     let f = voices-mask-accepted (a .manual-mask-db .now) (a .config) (a .voices) (a .count) (length (a .output .now)) d in
     (f .0 .0, f .1, f .0 .1, f .2, (λ t. absurd (true≢false (sym t))))
@@ -49,8 +49,8 @@ returns c =
     let v = k .before in
     let a = v .before .before .before .before .before .before .args in
     let e =
-        voices-mask-answer (a .manual-mask-db .now) (a .config) (a .voices) (a .count) (length (a .output .now)) (k .first .ensures) (v .before .of-settings .ensures) (v .of-voices .ensures)
-        (v .before .before .both .ensures) in
+    voices-mask-answer (a .manual-mask-db .now) (a .config) (a .voices) (a .count) (length (a .output .now)) (k .first .ensures) (v .before .of-settings .ensures) (v .of-voices .ensures)
+    (v .before .before .both .ensures) in
     (ap ofOutcome (sym (c .before .outcome .given .1)) ∙ e, refl)
 
 same-length : tie.Need-same-length
@@ -64,8 +64,8 @@ returns-2 c =
     let v = k .before in
     let a = v .before .before .before .before .before .before .args in
     let e =
-        voices-mask-answer (a .manual-mask-db .now) (a .config) (a .voices) (a .count) (length (a .output .now)) (k .first .ensures) (v .before .of-settings .ensures) (v .of-voices .ensures)
-        (v .before .before .both .ensures) in
+    voices-mask-answer (a .manual-mask-db .now) (a .config) (a .voices) (a .count) (length (a .output .now)) (k .first .ensures) (v .before .of-settings .ensures) (v .of-voices .ensures)
+    (v .before .before .both .ensures) in
     (ap ofOutcome (sym (told .enum-told .given .1)) ∙ e, built .build-one .ensures)
 
 pub build-mask-with-voices-spec : {M : Type 1} → statement M

@@ -47,8 +47,8 @@ build-one-requires c κs =
     let v = k .before .before .before .before in
     let a = v .before .before .before .before .before .before .before .args in
     let e =
-        tabled-mask-answer (a .manual-mask-db .now) (a .config) (a .voices) (a .count) (a .table .now) (k .first2 .ensures) (k .before .of-settings .ensures) (k .before .before .first .ensures)
-        (v .of-voices .ensures) (k .before .before .before .of-table .ensures) (v .before .before .both .ensures) (length (a .output .now)) (v .before .both2 .ensures) in
+    tabled-mask-answer (a .manual-mask-db .now) (a .config) (a .voices) (a .count) (a .table .now) (k .first2 .ensures) (k .before .of-settings .ensures) (k .before .before .first .ensures)
+    (v .of-voices .ensures) (k .before .before .before .of-table .ensures) (v .before .before .both .ensures) (length (a .output .now)) (v .before .both2 .ensures) in
     let d = is-done _ (sym e ∙ ap ofOutcome (told .enum-told .given .1)) in
     let f = tabled-mask-accepted (a .manual-mask-db .now) (a .config) (a .voices) (a .count) (a .table .now) (length (a .output .now)) d in
     (f .0 .0, f .1, f .0 .1, f .3, (λ t. f .2))
@@ -59,8 +59,8 @@ returns c =
     let v = k .before .before .before .before in
     let a = v .before .before .before .before .before .before .before .args in
     let e =
-        tabled-mask-answer (a .manual-mask-db .now) (a .config) (a .voices) (a .count) (a .table .now) (k .first2 .ensures) (k .before .of-settings .ensures) (k .before .before .first .ensures)
-        (v .of-voices .ensures) (k .before .before .before .of-table .ensures) (v .before .before .both .ensures) (length (a .output .now)) (v .before .both2 .ensures) in
+    tabled-mask-answer (a .manual-mask-db .now) (a .config) (a .voices) (a .count) (a .table .now) (k .first2 .ensures) (k .before .of-settings .ensures) (k .before .before .first .ensures)
+    (v .of-voices .ensures) (k .before .before .before .of-table .ensures) (v .before .before .both .ensures) (length (a .output .now)) (v .before .both2 .ensures) in
     (ap ofOutcome (sym (c .before .outcome .given .1)) ∙ e, refl)
 
 same-length : tie.Need-same-length
@@ -74,8 +74,8 @@ returns-2 c =
     let v = k .before .before .before .before in
     let a = v .before .before .before .before .before .before .before .args in
     let e =
-        tabled-mask-answer (a .manual-mask-db .now) (a .config) (a .voices) (a .count) (a .table .now) (k .first2 .ensures) (k .before .of-settings .ensures) (k .before .before .first .ensures)
-        (v .of-voices .ensures) (k .before .before .before .of-table .ensures) (v .before .before .both .ensures) (length (a .output .now)) (v .before .both2 .ensures) in
+    tabled-mask-answer (a .manual-mask-db .now) (a .config) (a .voices) (a .count) (a .table .now) (k .first2 .ensures) (k .before .of-settings .ensures) (k .before .before .first .ensures)
+    (v .of-voices .ensures) (k .before .before .before .of-table .ensures) (v .before .before .both .ensures) (length (a .output .now)) (v .before .both2 .ensures) in
     (ap ofOutcome (sym (told .enum-told .given .1)) ∙ e, built .build-one .ensures)
 
 pub build-mask-with-voices-precomputed-spec : {M : Type 1} → statement M

@@ -50,8 +50,8 @@ build-two-requires c κs =
     let v = k .before .before .before .before in
     let a = v .before .before .before .before .before .before .before .before .before .args in
     let e =
-        stereo-answer (a .manual-mask-db .now) (a .config) (a .voices) (a .count) (a .table .now) (k .first2 .ensures) (k .before .of-settings .ensures) (k .before .before .first .ensures) (v .of-voices .ensures) (k .before .before .before .of-table .ensures)
-        (v .before .before .both2 .ensures) (length (a .left .now)) (length (a .right .now)) (v .before .both3 .ensures) (v .before .before .before .both .ensures) in
+    stereo-answer (a .manual-mask-db .now) (a .config) (a .voices) (a .count) (a .table .now) (k .first2 .ensures) (k .before .of-settings .ensures) (k .before .before .first .ensures) (v .of-voices .ensures) (k .before .before .before .of-table .ensures)
+    (v .before .before .both2 .ensures) (length (a .left .now)) (length (a .right .now)) (v .before .both3 .ensures) (v .before .before .before .both .ensures) in
     let d = is-done _ (sym e ∙ ap ofOutcome (told .enum-told .given .1)) in
     let f = stereo-accepted (a .manual-mask-db .now) (a .config) (a .voices) (a .count) (a .table .now) (length (a .left .now)) (length (a .right .now)) d in
     (f .0 .0, f .1, f .0 .1, f .3, f .4, f .2)
@@ -62,8 +62,8 @@ returns c =
     let v = k .before .before .before .before in
     let a = v .before .before .before .before .before .before .before .before .before .args in
     let e =
-        stereo-answer (a .manual-mask-db .now) (a .config) (a .voices) (a .count) (a .table .now) (k .first2 .ensures) (k .before .of-settings .ensures) (k .before .before .first .ensures) (v .of-voices .ensures) (k .before .before .before .of-table .ensures)
-        (v .before .before .both2 .ensures) (length (a .left .now)) (length (a .right .now)) (v .before .both3 .ensures) (v .before .before .before .both .ensures) in
+    stereo-answer (a .manual-mask-db .now) (a .config) (a .voices) (a .count) (a .table .now) (k .first2 .ensures) (k .before .of-settings .ensures) (k .before .before .first .ensures) (v .of-voices .ensures) (k .before .before .before .of-table .ensures)
+    (v .before .before .both2 .ensures) (length (a .left .now)) (length (a .right .now)) (v .before .both3 .ensures) (v .before .before .before .both .ensures) in
     (ap ofOutcome (sym (c .before .outcome .given .1)) ∙ e, (refl, refl))
 
 same-length : tie.Need-same-length
@@ -80,8 +80,8 @@ returns-2 c =
     let v = k .before .before .before .before in
     let a = v .before .before .before .before .before .before .before .before .before .args in
     let e =
-        stereo-answer (a .manual-mask-db .now) (a .config) (a .voices) (a .count) (a .table .now) (k .first2 .ensures) (k .before .of-settings .ensures) (k .before .before .first .ensures) (v .of-voices .ensures) (k .before .before .before .of-table .ensures)
-        (v .before .before .both2 .ensures) (length (a .left .now)) (length (a .right .now)) (v .before .both3 .ensures) (v .before .before .before .both .ensures) in
+    stereo-answer (a .manual-mask-db .now) (a .config) (a .voices) (a .count) (a .table .now) (k .first2 .ensures) (k .before .of-settings .ensures) (k .before .before .first .ensures) (v .of-voices .ensures) (k .before .before .before .of-table .ensures)
+    (v .before .before .both2 .ensures) (length (a .left .now)) (length (a .right .now)) (v .before .both3 .ensures) (v .before .before .before .both .ensures) in
     (ap ofOutcome (sym (told .enum-told .given .1)) ∙ e, built .build-two .ensures)
 
 pub build-stereo-masks-with-voices-precomputed-spec : {M : Type 1} → statement M

@@ -4,7 +4,7 @@ use crate::draw;
 use crate::tally::Tally;
 use linked::calls::{self as port, BEFORE, Given, Motion};
 use oracle::calls;
-use oracle::numbers::bits_of;
+use oracle::numbers::{bits_of, first_difference};
 use oracle::random::Random;
 use oracle::refusals::{self as refuse, *};
 use oracle::scenes::{self, SHAPES};
@@ -32,13 +32,6 @@ fn same_given(a: Given, b: Given) -> bool {
     (a.number, a.place, a.values.map(bits_of)) == (b.number, b.place, b.values.map(bits_of))
 }
 
-/// The first entry at which two slices differ, every NaN being one.
-fn first_difference(a: &[f32], b: &[f32]) -> Option<usize> {
-    a.iter()
-        .zip(b)
-        .position(|(&a, &b)| bits_of(a) != bits_of(b))
-}
-
 /// The first entry at which two slices differ in any bit.
 fn first_change(a: &[f32], b: &[f32]) -> Option<usize> {
     a.iter()
@@ -56,7 +49,7 @@ fn note_value(tally: &mut Tally, arguments: impl Debug, port: Given, oracle: cal
 
 /// A call that may write one slice: what it held before, and what either side has left there. A
 /// refused call must leave every bit as it was.
-fn note_slice<const N: usize>(
+pub fn note_slice<const N: usize>(
     tally: &mut Tally,
     arguments: impl Debug,
     port: Given,

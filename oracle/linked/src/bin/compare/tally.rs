@@ -38,7 +38,7 @@ impl Tally {
         }
         self.differences += 1;
         if self.differences <= SHOWN {
-            println!("  {}{}", self.name, text());
+            println!("  {} {}", self.name, text());
         }
     }
 
@@ -53,7 +53,7 @@ impl Tally {
             true => refused,
             false => format!("  refused{refused}"),
         };
-        println!("{name:<28}{calls:>12} calls{differences:>6} differences{refused}");
+        println!("{name:<44}{calls:>12} calls{differences:>6} differences{refused}");
         differences
     }
 }

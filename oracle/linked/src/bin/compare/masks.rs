@@ -1,0 +1,136 @@
+//! The mask builders on whole scenes: answers, places, and every bin of every mask.
+
+use crate::open_calls::note_slice;
+use crate::tally::Tally;
+use linked::calls::{self as port, Crossing};
+use oracle::builders::{Builder, Lent, Masks};
+use oracle::edges::around;
+use oracle::mask_calls::{Call, fault, other_table};
+use oracle::random::Random;
+use oracle::refusals::{self as refuse, LEVEL, Outcome, TABLE, within};
+use oracle::scenes::{SHAPES, SILENT_LEVEL, Scene};
+use oracle::spectral_dsp::{MANUAL_MASK_POINTS, MaskVoice};
+
+/// Voices times partials times size of a scene that is taken as it is drawn. Most of those above
+/// get a smaller size, so that many scenes take little time.
+const WORK: usize = 1 << 20;
+
+/// What the builders are lent, what crosses in another form, and what the masks hold before.
+struct Drawn {
+    lent: Lent,
+    crossing: Crossing,
+    before: Masks,
+}
+
+/// A scene from all over the limits, now and then centred, on a table of any kind; and its curve.
+fn scene(random: &mut Random) -> (Call, Vec<f32>) {
+    let mut scene = Scene::anywhere(random);
+    let lobes = scene.voices.len() * scene.config.partials;
+    while lobes * scene.config.fft_size > WORK && !random.once_in(64) {
+        scene.config.fft_size /= 2;
+    }
+    if random.once_in(8) {
+        let centre = |voice: &mut MaskVoice| voice.pan = random.pick(&[0.0, -0.0]);
+        scene.voices.iter_mut().for_each(centre);
+    }
+    let mut call = Call::good(random, scene.config, scene.voices);
+    if random.once_in(2) {
+        other_table(random, &mut call);
+    }
+    (call, scene.curve)
+}
+
+/// Brings nothing, one thing or several to the limits or past them, most often what has many
+/// limits.
+fn faults(random: &mut Random, call: &mut Call) {
+    let times = random.pick(&[0, 1, 2, 4]);
+    for _ in 0..times {
+        let number = random.pick(&[1, 2, 2, 2, 3, 4, 5, 5, 5, 6, 6, 7]);
+        fault(random, number, call);
+    }
+}
+
+/// Puts most notes of a bank to silence, so that it takes little time, and a few to where sound
+/// begins; those past the limits stay.
+fn thin_out(random: &mut Random, levels: &mut [f32]) {
+    for level in levels.iter_mut().filter(|level| within(**level, LEVEL)) {
+        match random.below(64) {
+            0 => *level = random.pick(&around(SILENT_LEVEL)),
+            1..4 => (),
+            _ => *level = 0.0,
+        }
+    }
+}
+
+/// Puts the ends of the limits at some entries of a table, and anything at entry 0.
+fn strew(random: &mut Random, table: &mut [f32]) {
+    let (low, high) = TABLE;
+    let rare = random.pick(&[2, 16, 256]);
+    for (index, entry) in table.iter_mut().enumerate() {
+        if index == 0 {
+            *entry = random.float();
+        } else if random.once_in(rare) {
+            *entry = random.pick(&[low, high]);
+        }
+    }
+}
+
+impl Drawn {
+    fn new(random: &mut Random) -> Self {
+        let (mut call, curve) = scene(random);
+        faults(random, &mut call);
+        let mut lent = call.lent();
+        if lent.curve.len() == MANUAL_MASK_POINTS {
+            lent.curve = curve;
+        }
+        if lent.config.fft_size > 256 || !random.once_in(4) {
+            thin_out(random, &mut lent.levels);
+        }
+        if random.once_in(4) {
+            strew(random, &mut lent.table);
+        }
+        let mut crossing = Crossing::from(&lent);
+        if random.once_in(64) {
+            crossing.settings.motion_shape = random.pick(&[8, 9, 255, 256, u32::MAX]);
+        }
+        let masks = call.masks();
+        let before = masks.map(|mask| mask.iter().map(|_| random.float()).collect());
+        Self {
+            lent,
+            crossing,
+            before,
+        }
+    }
+
+    /// What the oracle answers; a shape that is none of the eight is refusal 2.
+    fn agreed(&self, builder: Builder, masks: &mut Masks) -> Outcome {
+        let config = self.lent.config;
+        refuse::size_and_rate(config.fft_size, config.sample_rate)?;
+        refuse::setting((self.crossing.settings.motion_shape as usize) < SHAPES.len())?;
+        builder.build(&self.lent, masks)
+    }
+
+    fn compare(&self, number: u64, builder: Builder, tally: &mut Tally) {
+        let (mut ours, mut theirs) = (self.before.clone(), self.before.clone());
+        let given = port::build(builder, &self.lent, &self.crossing, &mut ours);
+        let answer = self.agreed(builder, &mut theirs).map(|()| []);
+        let lengths = self.before.each_ref().map(Vec::len);
+        let slices = [&self.before, &ours, &theirs].map(|masks| masks.concat());
+        let slices = slices.each_ref().map(Vec::as_slice);
+        let crossing = &self.crossing;
+        let arguments = (number, lengths, crossing.settings, &crossing.voices);
+        note_slice(tally, arguments, given, answer, slices);
+    }
+}
+
+pub fn compare(seed: u64, scenes: u64) -> u64 {
+    let mut random = Random::new(seed);
+    let mut tallies = Builder::ALL.map(|builder| Tally::new(builder.name()));
+    for number in 0..scenes {
+        let drawn = Drawn::new(&mut random);
+        for (builder, tally) in Builder::ALL.into_iter().zip(&mut tallies) {
+            drawn.compare(number, builder, tally);
+        }
+    }
+    tallies.into_iter().map(Tally::close).sum()
+}

@@ -1,0 +1,76 @@
+//! The four mask builders by name, and all that any of them is lent.
+
+use crate::calls;
+use crate::refusals::Outcome;
+use crate::spectral_dsp::{MaskConfig, MaskVoice};
+
+#[derive(Clone, Copy, Debug, Eq, PartialEq)]
+pub enum Builder {
+    Mask,
+    WithVoices,
+    WithVoicesPrecomputed,
+    StereoPrecomputed,
+}
+
+/// What a builder is given beside the masks that it writes. Each reads its own part.
+#[derive(Clone, Debug)]
+pub struct Lent {
+    pub config: MaskConfig,
+    pub curve: Vec<f32>,
+    pub levels: Vec<f32>,
+    pub voices: Vec<MaskVoice>,
+    pub table: Vec<f32>,
+}
+
+/// Left and right. The mono builders write the left alone.
+pub type Masks = [Vec<f32>; 2];
+
+impl Builder {
+    pub const ALL: [Self; 4] = [
+        Self::Mask,
+        Self::WithVoices,
+        Self::WithVoicesPrecomputed,
+        Self::StereoPrecomputed,
+    ];
+
+    pub fn name(self) -> &'static str {
+        match self {
+            Self::Mask => "build_mask",
+            Self::WithVoices => "build_mask_with_voices",
+            Self::WithVoicesPrecomputed => "build_mask_with_voices_precomputed",
+            Self::StereoPrecomputed => "build_stereo_masks_with_voices_precomputed",
+        }
+    }
+
+    pub fn is_stereo(self) -> bool {
+        self == Self::StereoPrecomputed
+    }
+
+    pub fn takes_voices(self) -> bool {
+        self != Self::Mask
+    }
+
+    pub fn takes_table(self) -> bool {
+        matches!(self, Self::WithVoicesPrecomputed | Self::StereoPrecomputed)
+    }
+
+    pub fn build(self, lent: &Lent, [left, right]: &mut Masks) -> Outcome {
+        let Lent {
+            config,
+            curve,
+            levels,
+            voices,
+            table,
+        } = lent;
+        match self {
+            Self::Mask => calls::build_mask(left, curve, levels, *config),
+            Self::WithVoices => calls::build_mask_with_voices(left, curve, voices, *config),
+            Self::WithVoicesPrecomputed => {
+                calls::build_mask_with_voices_precomputed(left, curve, voices, *config, table)
+            }
+            Self::StereoPrecomputed => calls::build_stereo_masks_with_voices_precomputed(
+                left, right, curve, voices, *config, table,
+            ),
+        }
+    }
+}
