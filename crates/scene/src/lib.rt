@@ -7,7 +7,8 @@ ghost use Rattle.scene.specs.Accepted.{motionAccepted, sizeAccepted, set
 // A call is given at most so many voices.
 pub const MOST_VOICES: usize = 128;
 
-// A note that is held, with its expression.
+// A note that is held, with its expression. Laid out as in C, so that a slice of them crosses to other languages.
+#[repr(C)]
 pub struct MaskVoice {
     pub note: u8,
     // The level of the note's envelope: at 0 the note does nothing.

@@ -1,3 +1,4 @@
 pub mod Banks
+pub mod Configs
 pub mod Replies
 pub mod Shapes

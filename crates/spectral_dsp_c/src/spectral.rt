@@ -78,7 +78,7 @@ fn shape_of(number: u32) -> MotionShape
     }
 }
 
-fn motion_of(shape: u32, depth_db: f32, phase: f32, size_octaves: f32) -> MotionConfig
+pub fn motion_of(shape: u32, depth_db: f32, phase: f32, size_octaves: f32) -> MotionConfig
     ensures { λ r. ⌜ r ≡ motionOf shape «depth_db» phase «size_octaves» ⌝ }
 {
     MotionConfig {

@@ -1,0 +1,23 @@
+-- The voices of a list of any length in the core's array of 128. Assumes nothing.
+use mathlib.Core.Bool.{cond}
+use mathlib.Core.List.{List, _++_}
+use Prim.Native.Nat.{ℕ, _-_}
+use lib.Dec.{ltb}
+use lib.ListN.{length, take, replicate}
+use Rattle.float32.specs.Remainder.{zero}
+use Rattle.scene.specs.declared.MaskVoice.{MaskVoice}
+
+-- what stands in the array where there is no voice
+abbrev pub silentVoice : MaskVoice
+silentVoice = record { note = 0; level = zero; «tuning_semitones» = zero; pressure = zero; timbre = zero; «volume_gain» = zero; «expression_gain» = zero; pan = zero }
+
+-- how many of n voices the array holds
+abbrev pub held : ℕ → ℕ
+held n = cond (ltb 128 n) 128 n
+
+-- the array with the first n of the voices at its start
+unfoldable pub gatheredTo : ℕ → List MaskVoice → List MaskVoice
+gatheredTo n voices = take n voices ++ replicate (128 - n) silentVoice
+
+abbrev pub gathered : List MaskVoice → List MaskVoice
+gathered voices = gatheredTo (held (length voices)) voices

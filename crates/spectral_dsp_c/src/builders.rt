@@ -1,0 +1,238 @@
+// The mask builders. The voices cross as a slice of records and the settings as one record by value, each laid out as in C.
+ghost use mathlib.Core.Path.{_≡_};
+ghost use mathlib.Core.Bool.{cond};
+ghost use lib.ListN.{length, take};
+ghost use Rattle.answer.specs.Reply.{ofOutcome, refused};
+ghost use Rattle.answer.specs.Written.{written};
+ghost use Rattle.scene.specs.Accepted.{sizeAccepted};
+ghost use Rattle.lobes.specs.Distance.{lent, none};
+ghost use Rattle.lobes.specs.Pan as side;
+ghost use Rattle.mask_builder.specs.Levels.{voicesOf};
+ghost use Rattle.mask_builder.specs.Mask.{maskOf};
+ghost use Rattle.spectral_dsp.specs.Masks.{maskReply, voicesMaskReply, tabledMaskReply, stereoReply};
+ghost use Rattle.spectral_dsp_c.specs.Given.{Given};
+ghost use Rattle.spectral_dsp_c.specs.MaskSettings.{configOf, withSettings};
+use crate::answers::give_outcome;
+use crate::spectral::motion_of;
+use answer::Outcome;
+use scene::MaskConfig;
+use scene::MaskVoice;
+
+// A mask's settings, its motion's among them. The shape is a number, 0..7 in the Rust's order.
+#[repr(C)]
+pub struct Settings {
+    pub sample_rate: f32,
+    pub fft_size: usize,
+    pub note_depth_db: f32,
+    pub note_layer_enabled: bool,
+    pub width_cents: f32,
+    pub partials: usize,
+    pub harmonic_rolloff_db_per_octave: f32,
+    pub motion_shape: u32,
+    pub motion_depth_db: f32,
+    pub motion_phase: f32,
+    pub motion_size_octaves: f32,
+}
+
+fn config_of(settings: Settings) -> MaskConfig
+    ensures { λ r. ⌜ r ≡ configOf settings ⌝ }
+{
+    let motion = motion_of(
+        settings.motion_shape,
+        settings.motion_depth_db,
+        settings.motion_phase,
+        settings.motion_size_octaves,
+    );
+    MaskConfig {
+        sample_rate: settings.sample_rate,
+        fft_size: settings.fft_size,
+        note_depth_db: settings.note_depth_db,
+        note_layer_enabled: settings.note_layer_enabled,
+        width_cents: settings.width_cents,
+        partials: settings.partials,
+        harmonic_rolloff_db_per_octave: settings.harmonic_rolloff_db_per_octave,
+        motion: motion,
+    }
+}
+
+// Another shape than 0..7 is refusal 2, where there is no refusal 1.
+fn shape_refused(config: MaskConfig) -> Outcome
+    ensures { λ r. ⌜ ofOutcome r ≡ cond (sizeAccepted config) (refused 2 0) (refused 1 0) ⌝ }
+{
+    if scene::size_accepted(config) {
+        return Outcome::Refused(2, 0);
+    }
+    Outcome::Refused(1, 0)
+}
+
+fn mono(
+    output: &mut [f32],
+    manual_mask_db: &[f32],
+    voices: [MaskVoice; 128],
+    count: usize,
+    settings: Settings,
+    place: &mut usize,
+) -> u32
+    ensures { λ r. ⌜ Given (withSettings settings (λ config. voicesMaskReply (length (now (output .entry))) (now («manual_mask_db» .entry)) voices count config)) r (now (place .entry)) (now (place .exit)) ⌝ }
+    ensures { λ _. ⌜ now (output .exit) ≡ written (withSettings settings (λ config. voicesMaskReply (length (now (output .entry))) (now («manual_mask_db» .entry)) voices count config)) (maskOf (now («manual_mask_db» .entry)) (configOf settings) none side.mono (take count voices)) (now (output .entry)) ⌝ }
+{
+    let config = config_of(settings);
+    if 7 < settings.motion_shape {
+        return give_outcome(shape_refused(config), place);
+    }
+    let outcome = spectral_dsp::build_mask_with_voices(
+        output,
+        manual_mask_db,
+        voices,
+        count,
+        config,
+    );
+    give_outcome(outcome, place)
+}
+
+#[no_mangle]
+pub extern "C" fn dovetable_build_mask_with_voices(
+    output: &mut [f32],
+    manual_mask_db: &[f32],
+    voices: &[MaskVoice],
+    settings: Settings,
+    place: &mut usize,
+) -> u32
+    ensures { λ r. ⌜ Given (withSettings settings (λ config. voicesMaskReply (length (now (output .entry))) (now («manual_mask_db» .entry)) (now (voices .entry)) (length (now (voices .entry))) config)) r (now (place .entry)) (now (place .exit)) ⌝ }
+    ensures { λ _. ⌜ now (output .exit) ≡ written (withSettings settings (λ config. voicesMaskReply (length (now (output .entry))) (now («manual_mask_db» .entry)) (now (voices .entry)) (length (now (voices .entry))) config)) (maskOf (now («manual_mask_db» .entry)) (configOf settings) none side.mono (now (voices .entry))) (now (output .entry)) ⌝ }
+{
+    mono(
+        output,
+        manual_mask_db,
+        lent_voices::gather(voices),
+        voices.len(),
+        settings,
+        place,
+    )
+}
+
+fn tabled(
+    output: &mut [f32],
+    manual_mask_db: &[f32],
+    voices: [MaskVoice; 128],
+    count: usize,
+    settings: Settings,
+    table: &[f32],
+    place: &mut usize,
+) -> u32
+    ensures { λ r. ⌜ Given (withSettings settings (λ config. tabledMaskReply (length (now (output .entry))) (now («manual_mask_db» .entry)) voices count config (now (table .entry)))) r (now (place .entry)) (now (place .exit)) ⌝ }
+    ensures { λ _. ⌜ now (output .exit) ≡ written (withSettings settings (λ config. tabledMaskReply (length (now (output .entry))) (now («manual_mask_db» .entry)) voices count config (now (table .entry)))) (maskOf (now («manual_mask_db» .entry)) (configOf settings) (lent (now (table .entry))) side.mono (take count voices)) (now (output .entry)) ⌝ }
+{
+    let config = config_of(settings);
+    if 7 < settings.motion_shape {
+        return give_outcome(shape_refused(config), place);
+    }
+    let outcome = spectral_dsp::build_mask_with_voices_precomputed(
+        output,
+        manual_mask_db,
+        voices,
+        count,
+        config,
+        table,
+    );
+    give_outcome(outcome, place)
+}
+
+#[no_mangle]
+pub extern "C" fn dovetable_build_mask_with_voices_precomputed(
+    output: &mut [f32],
+    manual_mask_db: &[f32],
+    voices: &[MaskVoice],
+    settings: Settings,
+    table: &[f32],
+    place: &mut usize,
+) -> u32
+    ensures { λ r. ⌜ Given (withSettings settings (λ config. tabledMaskReply (length (now (output .entry))) (now («manual_mask_db» .entry)) (now (voices .entry)) (length (now (voices .entry))) config (now (table .entry)))) r (now (place .entry)) (now (place .exit)) ⌝ }
+    ensures { λ _. ⌜ now (output .exit) ≡ written (withSettings settings (λ config. tabledMaskReply (length (now (output .entry))) (now («manual_mask_db» .entry)) (now (voices .entry)) (length (now (voices .entry))) config (now (table .entry)))) (maskOf (now («manual_mask_db» .entry)) (configOf settings) (lent (now (table .entry))) side.mono (now (voices .entry))) (now (output .entry)) ⌝ }
+{
+    tabled(
+        output,
+        manual_mask_db,
+        lent_voices::gather(voices),
+        voices.len(),
+        settings,
+        table,
+        place,
+    )
+}
+
+fn stereo(
+    left: &mut [f32],
+    right: &mut [f32],
+    manual_mask_db: &[f32],
+    voices: [MaskVoice; 128],
+    count: usize,
+    settings: Settings,
+    table: &[f32],
+    place: &mut usize,
+) -> u32
+    ensures { λ r. ⌜ Given (withSettings settings (λ config. stereoReply (length (now (left .entry))) (length (now (right .entry))) (now («manual_mask_db» .entry)) voices count config (now (table .entry)))) r (now (place .entry)) (now (place .exit)) ⌝ }
+    ensures { λ _. ⌜ now (left .exit) ≡ written (withSettings settings (λ config. stereoReply (length (now (left .entry))) (length (now (right .entry))) (now («manual_mask_db» .entry)) voices count config (now (table .entry)))) (maskOf (now («manual_mask_db» .entry)) (configOf settings) (lent (now (table .entry))) side.left (take count voices)) (now (left .entry)) ⌝ }
+    ensures { λ _. ⌜ now (right .exit) ≡ written (withSettings settings (λ config. stereoReply (length (now (left .entry))) (length (now (right .entry))) (now («manual_mask_db» .entry)) voices count config (now (table .entry)))) (maskOf (now («manual_mask_db» .entry)) (configOf settings) (lent (now (table .entry))) side.right (take count voices)) (now (right .entry)) ⌝ }
+{
+    let config = config_of(settings);
+    if 7 < settings.motion_shape {
+        return give_outcome(shape_refused(config), place);
+    }
+    let outcome = spectral_dsp::build_stereo_masks_with_voices_precomputed(
+        left,
+        right,
+        manual_mask_db,
+        voices,
+        count,
+        config,
+        table,
+    );
+    give_outcome(outcome, place)
+}
+
+#[no_mangle]
+pub extern "C" fn dovetable_build_stereo_masks_with_voices_precomputed(
+    left: &mut [f32],
+    right: &mut [f32],
+    manual_mask_db: &[f32],
+    voices: &[MaskVoice],
+    settings: Settings,
+    table: &[f32],
+    place: &mut usize,
+) -> u32
+    ensures { λ r. ⌜ Given (withSettings settings (λ config. stereoReply (length (now (left .entry))) (length (now (right .entry))) (now («manual_mask_db» .entry)) (now (voices .entry)) (length (now (voices .entry))) config (now (table .entry)))) r (now (place .entry)) (now (place .exit)) ⌝ }
+    ensures { λ _. ⌜ now (left .exit) ≡ written (withSettings settings (λ config. stereoReply (length (now (left .entry))) (length (now (right .entry))) (now («manual_mask_db» .entry)) (now (voices .entry)) (length (now (voices .entry))) config (now (table .entry)))) (maskOf (now («manual_mask_db» .entry)) (configOf settings) (lent (now (table .entry))) side.left (now (voices .entry))) (now (left .entry)) ⌝ }
+    ensures { λ _. ⌜ now (right .exit) ≡ written (withSettings settings (λ config. stereoReply (length (now (left .entry))) (length (now (right .entry))) (now («manual_mask_db» .entry)) (now (voices .entry)) (length (now (voices .entry))) config (now (table .entry)))) (maskOf (now («manual_mask_db» .entry)) (configOf settings) (lent (now (table .entry))) side.right (now (voices .entry))) (now (right .entry)) ⌝ }
+{
+    stereo(
+        left,
+        right,
+        manual_mask_db,
+        lent_voices::gather(voices),
+        voices.len(),
+        settings,
+        table,
+        place,
+    )
+}
+
+// `build_mask` on 128 note levels.
+#[no_mangle]
+pub extern "C" fn dovetable_build_mask(
+    output: &mut [f32],
+    manual_mask_db: &[f32],
+    note_levels: &[f32],
+    settings: Settings,
+    place: &mut usize,
+) -> u32
+    ensures { λ r. ⌜ Given (withSettings settings (λ config. maskReply (length (now (output .entry))) (now («manual_mask_db» .entry)) (now («note_levels» .entry)) config)) r (now (place .entry)) (now (place .exit)) ⌝ }
+    ensures { λ _. ⌜ now (output .exit) ≡ written (withSettings settings (λ config. maskReply (length (now (output .entry))) (now («manual_mask_db» .entry)) (now («note_levels» .entry)) config)) (maskOf (now («manual_mask_db» .entry)) (configOf settings) none side.mono (voicesOf (now («note_levels» .entry)))) (now (output .entry)) ⌝ }
+{
+    let config = config_of(settings);
+    if 7 < settings.motion_shape {
+        return give_outcome(shape_refused(config), place);
+    }
+    let outcome = spectral_dsp::build_mask(output, manual_mask_db, note_levels, config);
+    give_outcome(outcome, place)
+}
