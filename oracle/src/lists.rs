@@ -5,6 +5,7 @@ mod masks;
 mod notes;
 mod numbers;
 mod oiko_dsp;
+mod panel;
 mod processing;
 pub mod slices;
 mod spectral_dsp;
@@ -15,11 +16,13 @@ use crate::numbers::bits_of;
 use crate::refusals::{Outcome, Refusal};
 use slices::Slice;
 
-/// A list's two files.
+/// A list's files: the calls, where the program reads any, what it prints, and what it draws, where
+/// it does.
 #[derive(Default)]
 pub struct List {
     pub calls: Vec<u8>,
     pub stdout: String,
+    pub plot: String,
 }
 
 /// A replay program holds no more bytes of calls than this.
@@ -90,7 +93,7 @@ pub struct Named {
     pub write: fn() -> List,
 }
 
-pub const ALL: [Named; 7] = [
+pub const ALL: [Named; 8] = [
     Named {
         name: "notes",
         program: "note_frequencies",
@@ -125,5 +128,10 @@ pub const ALL: [Named; 7] = [
         name: "mask_refusals",
         program: "replay_mask_refusals",
         write: masks::refusals,
+    },
+    Named {
+        name: "panel",
+        program: "panel",
+        write: panel::list,
     },
 ];

@@ -14,12 +14,16 @@ fn stdout(folder: &Path, named: &Named) -> PathBuf {
     folder.join(named.program).join("stdout")
 }
 
-/// The files of a list with their contents. One without calls is its text alone.
+/// The files of a list with their contents. One without calls or without a drawing has no file of it.
 fn files(folder: &Path, named: &Named, list: &List) -> Vec<(PathBuf, Vec<u8>)> {
     let mut files = vec![(stdout(folder, named), list.stdout.clone().into_bytes())];
     if !list.calls.is_empty() {
         let calls = folder.join(named.program).join("data").join("calls.bin");
         files.push((calls, list.calls.clone()));
+    }
+    if !list.plot.is_empty() {
+        let plot = folder.join(named.program).join("plot.svg");
+        files.push((plot, list.plot.clone().into_bytes()));
     }
     files
 }

@@ -1,0 +1,85 @@
+// Text and numbers on standard output, also to the right of a column, and a gain in the units of the panel.
+use libc::STDOUT_FILENO;
+
+pub fn print(text: &[u8]) {
+    io::write_all(STDOUT_FILENO, text);
+}
+
+pub fn print_count(n: usize) {
+    io::print_decimal(STDOUT_FILENO, n as u64);
+}
+
+fn print_spaces(count: usize) {
+    let mut left = count;
+    while 0 < left {
+        print(b" ");
+        left -= 1;
+    }
+}
+
+// The spaces before a text of that length which ends where the column does.
+fn print_margin(width: usize, length: usize) {
+    if length < width {
+        print_spaces(width - length);
+    }
+}
+
+pub fn print_in_column(width: usize, n: u64) {
+    let mut text = [0u8; 20];
+    let digits = io::decimal(n, &mut text);
+    print_margin(width, digits);
+    print(&text[..digits]);
+}
+
+pub fn decibels(gain: f32) -> f32 {
+    let powers = power::table::power_table();
+    20.0 * power::decimal::log10(&powers, gain)
+}
+
+// gain · 10^6 without its fraction, of a gain from 2^-39 up and below 2^24; of any other 0.
+pub fn millionths(gain: f32) -> u64 {
+    if gain != gain {
+        return 0;
+    }
+    let parts = float32::bits::decode(gain);
+    let mant = parts.mant as u64;
+    let expo = parts.expo;
+    if expo < 87 {
+        return 0;
+    }
+    if 148 < expo {
+        return 0;
+    }
+    (mant * 1000000) >> (149 - expo)
+}
+
+// The sign and the whole decibels end four places before the column does.
+fn print_hundredths(width: usize, sign: &[u8], n: u64) {
+    let mut text = [0u8; 20];
+    let digits = io::decimal(n / 100, &mut text);
+    print_margin(width, std::num::wrapping_add_usize(digits, sign.len() + 3));
+    print(sign);
+    print(&text[..digits]);
+    print(b".");
+    print_in_column(1, n / 10 % 10);
+    print_in_column(1, n % 10);
+}
+
+// The size to the nearest hundredth, a half up.
+fn hundredths(db: f32) -> u64 {
+    float32::counts::floor_to_count(float32::order::abs(db) * 100.0 + 0.5) as u64
+}
+
+pub fn print_decibels(width: usize, gain: f32) {
+    if gain == 0.0 {
+        print_margin(width, 4);
+        print(b"-inf");
+        return;
+    }
+    let db = decibels(gain);
+    if db < 0.0 {
+        print_hundredths(width, b"-", hundredths(db));
+        return;
+    }
+    print_hundredths(width, b"", hundredths(db));
+}
