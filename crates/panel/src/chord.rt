@@ -8,14 +8,19 @@ pub const SAMPLE_RATE: f32 = 48000.0;
 
 pub const FFT_SIZE: usize = 8192;
 
+pub const BINS: usize = 4097;
+
+// The rate divided by the size, exactly.
+pub const BIN_HZ: f32 = 5.859375;
+
 pub const VOICES: usize = 4;
 
 pub const PARTIALS: u8 = 8;
 
 const MUTE_DB: f32 = -144.0;
 
-// What the drawn curve falls from one point to the next: 3 dB in 1,024 points.
-const SLOPE_DB: f32 = 0.0029296875;
+// From one point of the drawn curve to the next: 3 dB down in 1,024 points.
+const SLOPE_DB: f32 = -0.0029296875;
 
 pub fn config() -> MaskConfig {
     let motion = MotionConfig {
@@ -61,13 +66,12 @@ pub fn voices() -> [MaskVoice; 128] {
 
 // Silent around the seventh's highest partial.
 fn drawn_db(point: u16) -> f32 {
-    if point < 1200 {
-        return 0.0 - point as f32 * SLOPE_DB;
+    if 1200 <= point {
+        if point < 1300 {
+            return MUTE_DB;
+        }
     }
-    if point < 1300 {
-        return MUTE_DB;
-    }
-    0.0 - point as f32 * SLOPE_DB
+    point as f32 * SLOPE_DB
 }
 
 pub fn curve() -> [f32; 8193] {

@@ -53,7 +53,7 @@ pub fn millionths(gain: f32) -> u64 {
     (mant * 1000000) >> (149 - expo)
 }
 
-// The sign and the whole decibels end four places before the column does.
+// n hundredths, with two places after the point.
 fn print_hundredths(width: usize, sign: &[u8], n: u64) {
     let mut text = [0u8; 20];
     let digits = io::decimal(n / 100, &mut text);
@@ -65,11 +65,12 @@ fn print_hundredths(width: usize, sign: &[u8], n: u64) {
     print_in_column(1, n % 10);
 }
 
-// The size to the nearest hundredth, a half up.
+// How far from 0, in hundredths to the nearest, a half away from 0.
 fn hundredths(db: f32) -> u64 {
     float32::counts::floor_to_count(float32::order::abs(db) * 100.0 + 0.5) as u64
 }
 
+// To the nearest hundredth; silence has no logarithm.
 pub fn print_decibels(width: usize, gain: f32) {
     if gain == 0.0 {
         print_margin(width, 4);

@@ -5,6 +5,7 @@ mod plot;
 mod rows;
 
 use answer::Outcome;
+use chord::BINS;
 use figures::print;
 use figures::print_count;
 
@@ -16,7 +17,7 @@ fn print_refusal(number: u8, place: usize) {
     print(b"\n");
 }
 
-fn show(plotted: bool, table: &[f32; 4097], left: &[f32; 4097], right: &[f32; 4097]) {
+fn show(plotted: bool, table: &[f32; BINS], left: &[f32; BINS], right: &[f32; BINS]) {
     if plotted {
         plot::print_plot(table, left, right);
         return;
@@ -24,9 +25,9 @@ fn show(plotted: bool, table: &[f32; 4097], left: &[f32; 4097], right: &[f32; 40
     rows::print_rows(left, right);
 }
 
-fn build_and_show(plotted: bool, table: &[f32; 4097]) {
-    let mut left = [0.0f32; 4097];
-    let mut right = [0.0f32; 4097];
+fn build_and_show(plotted: bool, table: &[f32; BINS]) {
+    let mut left = [0.0f32; BINS];
+    let mut right = [0.0f32; BINS];
     let curve = chord::curve();
     let outcome = spectral_dsp::build_stereo_masks_with_voices_precomputed(
         &mut left,
@@ -44,7 +45,7 @@ fn build_and_show(plotted: bool, table: &[f32; 4097]) {
 }
 
 fn run(plotted: bool) {
-    let mut table = [0.0f32; 4097];
+    let mut table = [0.0f32; BINS];
     let outcome = spectral_dsp::MaskWorkspace::prepare(
         &mut table,
         chord::SAMPLE_RATE,

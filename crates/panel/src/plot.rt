@@ -1,4 +1,5 @@
 // Both masks as a drawing in SVG, over log frequency: 1,000 units to the octave from 20 Hz on, 60 to the decibel from +12 dB down.
+use crate::chord::BINS;
 use crate::figures::decibels;
 use crate::figures::print;
 use crate::figures::print_count;
@@ -118,13 +119,13 @@ fn print_point(log2_hz: f32, gain: f32) {
 }
 
 // The bins from 20 to 20,480 Hz.
-fn print_points(table: &[f32; 4097], mask: &[f32; 4097]) {
+fn print_points(table: &[f32; BINS], mask: &[f32; BINS]) {
     for bin in 4usize..3496 {
         print_point(table[bin], mask[bin]);
     }
 }
 
-fn print_mask_line(table: &[f32; 4097], mask: &[f32; 4097], style: &[u8]) {
+fn print_mask_line(table: &[f32; BINS], mask: &[f32; BINS], style: &[u8]) {
     print(b"<polyline class='");
     print(style);
     print(b"' points='\n");
@@ -132,7 +133,7 @@ fn print_mask_line(table: &[f32; 4097], mask: &[f32; 4097], style: &[u8]) {
     print(b"'/>\n");
 }
 
-pub fn print_plot(table: &[f32; 4097], left: &[f32; 4097], right: &[f32; 4097]) {
+pub fn print_plot(table: &[f32; BINS], left: &[f32; BINS], right: &[f32; BINS]) {
     print_head();
     print_frequency_lines();
     print_level_lines();

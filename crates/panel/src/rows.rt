@@ -1,29 +1,32 @@
 // The gains at the bins closest to the chord's partials, in rising order, one row to a bin.
 use crate::chord;
+use crate::chord::BIN_HZ;
+use crate::chord::BINS;
 use crate::figures::millionths;
 use crate::figures::print;
 use crate::figures::print_decibels;
 use crate::figures::print_in_column;
 use answer::Answer;
+use float32::counts::floor_to_count;
 use scene::MaskVoice;
 
-fn mark(marked: &mut [bool; 4097], bin: usize) {
-    if bin < 4097 {
+fn mark(marked: &mut [bool; BINS], bin: usize) {
+    if bin < BINS {
         marked[bin] = true;
     }
 }
 
 fn closest_bin(hertz: f32) -> usize {
-    float32::counts::floor_to_count(hertz * 8192.0 / 48000.0 + 0.5)
+    floor_to_count(hertz / BIN_HZ + 0.5)
 }
 
-fn mark_partials(marked: &mut [bool; 4097], first: f32) {
+fn mark_partials(marked: &mut [bool; BINS], first: f32) {
     for partial in 1..=chord::PARTIALS {
         mark(marked, closest_bin(first * partial as f32));
     }
 }
 
-fn mark_voice(marked: &mut [bool; 4097], voice: MaskVoice) {
+fn mark_voice(marked: &mut [bool; BINS], voice: MaskVoice) {
     let first = oiko_dsp::note_frequency_with_tuning(voice.note, voice.tuning_semitones);
     match first {
         Answer::Gain(hertz) => mark_partials(marked, hertz),
@@ -31,7 +34,7 @@ fn mark_voice(marked: &mut [bool; 4097], voice: MaskVoice) {
     }
 }
 
-fn mark_chord(marked: &mut [bool; 4097]) {
+fn mark_chord(marked: &mut [bool; BINS]) {
     let voices = chord::voices();
     for i in 0..chord::VOICES {
         mark_voice(marked, voices[i]);
@@ -40,7 +43,7 @@ fn mark_chord(marked: &mut [bool; 4097]) {
 
 fn print_row(bin: u16, left: f32, right: f32) {
     print_in_column(4, bin as u64);
-    print_in_column(7, bin as u64 * 48000 / 8192);
+    print_in_column(7, floor_to_count(bin as f32 * BIN_HZ) as u64);
     print_in_column(12, millionths(left));
     print_in_column(12, millionths(right));
     print_decibels(10, left);
@@ -54,9 +57,9 @@ fn print_heading() {
     print(b" bin  hertz        left       right      left     right\n");
 }
 
-pub fn print_rows(left: &[f32; 4097], right: &[f32; 4097]) {
+pub fn print_rows(left: &[f32; BINS], right: &[f32; BINS]) {
     print_heading();
-    let mut marked = [false; 4097];
+    let mut marked = [false; BINS];
     mark_chord(&mut marked);
     for bin in 0u16..4097 {
         let at = bin as usize;
