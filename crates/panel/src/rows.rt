@@ -53,7 +53,7 @@ fn print_row(bin: u16, left: f32, right: f32) {
 
 fn print_heading() {
     print(b"C minor seventh at 48000 Hz, size 8192: the bins closest to its partials\n");
-    print(b"             gain, millionths            decibels\n");
+    print(b"                   gain, millionths            decibels\n");
     print(b" bin  hertz        left       right      left     right\n");
 }
 

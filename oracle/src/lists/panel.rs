@@ -8,7 +8,9 @@ use crate::calls;
 use crate::functions::{floor_to_count, log10};
 use crate::oiko_dsp::note_frequency_with_tuning;
 use crate::refusals::Refusal;
-use crate::spectral_dsp::{MANUAL_MASK_POINTS, MaskConfig, MaskVoice, MotionConfig, MotionShape};
+use crate::spectral_dsp::{
+    MANUAL_CURVE_MUTE_DB, MANUAL_MASK_POINTS, MaskConfig, MaskVoice, MotionConfig, MotionShape,
+};
 
 const RATE: usize = 48_000;
 const SIZE: usize = 8_192;
@@ -53,7 +55,7 @@ fn voices() -> [MaskVoice; 4] {
 /// Falls by 3 dB every 1,024 points, and is silent around the seventh's highest partial.
 fn curve() -> Vec<f32> {
     let drawn = |point| match point {
-        1_200..1_300 => -144.0,
+        1_200..1_300 => MANUAL_CURVE_MUTE_DB,
         _ => point as f32 * (-3.0 / 1_024.0),
     };
     (0..MANUAL_MASK_POINTS).map(drawn).collect()
@@ -124,7 +126,7 @@ fn row(built: &Built, bin: usize) -> String {
 
 fn rows(list: &mut List, built: &Built) {
     list.line("C minor seventh at 48000 Hz, size 8192: the bins closest to its partials");
-    list.line("             gain, millionths            decibels");
+    list.line("                   gain, millionths            decibels");
     list.line(" bin  hertz        left       right      left     right");
     let bins = (0..BINS).filter(|&bin| of_partial(bin));
     bins.for_each(|bin| list.line(&row(built, bin)));

@@ -22,17 +22,24 @@ fn down(db: f32) -> usize {
 
 /// Silence is drawn at the bottom.
 fn height(gain: f32) -> usize {
-    down(if gain == 0.0 { LOWEST_DB } else { decibels(gain) })
+    match gain {
+        0.0 => down(LOWEST_DB),
+        _ => down(decibels(gain)),
+    }
 }
 
 fn frequency_line((hertz, label): (f32, &str)) -> String {
     let x = across(log2(hertz));
-    format!("<path d='M{x} 0V{HEIGHT}'/><text x='{x}' y='6120' text-anchor='middle'>{label}</text>\n")
+    format!(
+        "<path d='M{x} 0V{HEIGHT}'/><text x='{x}' y='6120' text-anchor='middle'>{label}</text>\n"
+    )
 }
 
 fn level_line(db: i32) -> String {
     let y = down(db as f32);
-    format!("<path d='M0 {y}H{WIDTH}'/><text x='-150' y='{y}' dy='90' text-anchor='end'>{db}</text>\n")
+    format!(
+        "<path d='M0 {y}H{WIDTH}'/><text x='-150' y='{y}' dy='90' text-anchor='end'>{db}</text>\n"
+    )
 }
 
 fn mask_line(table: &[f32], mask: &[f32], style: &str) -> String {
