@@ -88,50 +88,49 @@ fn outcome_text(outcome: Outcome) -> String {
 
 pub struct Named {
     pub name: &'static str,
-    /// The crate of the program that prints the list.
+    /// The crate of the program that prints the lists.
     pub program: &'static str,
-    pub write: fn() -> List,
+    /// The lists in the order in which it prints them, each with the name of its file of calls.
+    pub lists: &'static [(&'static str, fn() -> List)],
 }
 
-pub const ALL: [Named; 8] = [
+pub const ALL: [Named; 7] = [
     Named {
         name: "notes",
         program: "note_frequencies",
-        write: notes::list,
+        lists: &[("", notes::list)],
     },
     Named {
         name: "numbers",
         program: "replay_numbers",
-        write: numbers::list,
+        lists: &[("calls.bin", numbers::list)],
     },
     Named {
         name: "oiko_dsp",
         program: "replay_oiko_dsp",
-        write: oiko_dsp::list,
+        lists: &[("calls.bin", oiko_dsp::list)],
     },
     Named {
         name: "spectral_dsp",
         program: "replay_spectral_dsp",
-        write: spectral_dsp::list,
+        lists: &[("calls.bin", spectral_dsp::list)],
     },
     Named {
         name: "processing",
         program: "replay_processing",
-        write: processing::list,
+        lists: &[("calls.bin", processing::list)],
     },
     Named {
         name: "masks",
         program: "replay_masks",
-        write: masks::list,
-    },
-    Named {
-        name: "mask_refusals",
-        program: "replay_mask_refusals",
-        write: masks::refusals,
+        lists: &[
+            ("calls.bin", masks::list),
+            ("refusals.bin", masks::refusals),
+        ],
     },
     Named {
         name: "panel",
         program: "panel",
-        write: panel::list,
+        lists: &[("", panel::list)],
     },
 ];

@@ -18,13 +18,16 @@ fn counts(stdout: &str) -> BTreeMap<(&str, u32), usize> {
 
 fn stdout_of(name: &str) -> String {
     let named = ALL.iter().find(|named| named.name == name);
-    (named.expect("a list of this name").write)().stdout
+    let lists = named.expect("a list of this name").lists;
+    lists.iter().map(|(_, write)| write().stdout).collect()
 }
 
 #[test]
 fn lists_fit() {
     for named in &ALL {
-        assert!((named.write)().calls.len() <= LARGEST, "{}", named.name);
+        for (file, write) in named.lists {
+            assert!(write().calls.len() <= LARGEST, "{}: {file}", named.name);
+        }
     }
 }
 
@@ -79,5 +82,5 @@ fn every_mask_builder_and_refusal_shows_twenty_times() {
         (Builder::StereoPrecomputed, &[1, 2, 3, 4, 5, 6]),
     ];
     let refused = refused.map(|(builder, numbers)| (builder.name(), numbers));
-    shows("mask_refusals", &refused);
+    shows("masks", &refused);
 }

@@ -45,12 +45,12 @@ pub fn count(bytes: &[u8], at: usize, past: usize) -> usize {
     word(bytes, at, past) as usize
 }
 
-// Reads the file that the first argument names, and answers how many bytes it put at the start.
-pub fn read(bytes: &mut [u8; 65536]) -> usize
+// Reads the file that an argument names, and answers how many bytes it put at the start.
+pub fn read(argument: usize, bytes: &mut [u8; 65536]) -> usize
     ensures { λ r. ⌜ Counts r (now (bytes .exit)) ⌝ }
 {
     let mut path = io::buffer();
-    let n = os::arg(1, &mut path);
+    let n = os::arg(argument, &mut path);
     let fd = os::open_read(&path[..n]);
     let m = io::read_full(fd, bytes);
     libc::close(fd);

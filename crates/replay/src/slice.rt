@@ -26,6 +26,12 @@ fn put(xs: &mut [f32], place: usize, value: f32) {
     }
 }
 
+// Puts in the two values that have a place of their own.
+pub fn put_both(bytes: &[u8], at: usize, xs: &mut [f32]) {
+    put(xs, list::count(bytes, at, 4), list::float(bytes, at, 5));
+    put(xs, list::count(bytes, at, 6), list::float(bytes, at, 7));
+}
+
 // Makes the entries of the slice that the words at a place tell of.
 pub fn fill(bytes: &[u8], at: usize, xs: &mut [f32]) {
     let low = list::word(bytes, at, 2);
@@ -37,6 +43,5 @@ pub fn fill(bytes: &[u8], at: usize, xs: &mut [f32]) {
         xs[i] = spread(low, high, state);
         i += 1;
     }
-    put(xs, list::count(bytes, at, 4), list::float(bytes, at, 5));
-    put(xs, list::count(bytes, at, 6), list::float(bytes, at, 7));
+    put_both(bytes, at, xs);
 }

@@ -2,10 +2,10 @@
 use answer::Envelopes;
 use float32::bits::of_bits;
 use replay::list;
+use replay::settings;
 use replay::slice;
 use replay::text;
 use scene::MotionConfig;
-use scene::MotionShape;
 
 fn print_note_emphasis_gain(bytes: &[u8], at: usize) {
     text::print(b"note_emphasis_gain");
@@ -48,19 +48,6 @@ fn print_manual_gain_at_bin(bytes: &[u8], at: usize) {
     print_manual_gain_in(bytes, at, &mut space);
 }
 
-fn shape_of(number: u32) -> MotionShape {
-    match number {
-        0 => MotionShape::Ripple,
-        1 => MotionShape::Harmonic,
-        2 => MotionShape::Drift,
-        3 => MotionShape::Scan,
-        4 => MotionShape::Notch,
-        5 => MotionShape::Saw,
-        6 => MotionShape::Sprinkle,
-        _ => MotionShape::Cloud,
-    }
-}
-
 // The settings from four words, which are printed.
 fn motion_at(bytes: &[u8], at: usize, past: usize) -> MotionConfig {
     let first = std::num::wrapping_add_usize(at, past);
@@ -68,12 +55,7 @@ fn motion_at(bytes: &[u8], at: usize, past: usize) -> MotionConfig {
     text::print_word(list::word(bytes, first, 1));
     text::print_word(list::word(bytes, first, 2));
     text::print_word(list::word(bytes, first, 3));
-    MotionConfig {
-        shape: shape_of(list::word(bytes, first, 0)),
-        depth_db: list::float(bytes, first, 1),
-        phase: list::float(bytes, first, 2),
-        size_octaves: list::float(bytes, first, 3),
-    }
+    settings::motion_at(bytes, first)
 }
 
 fn print_motion_openness(bytes: &[u8], at: usize) {
@@ -219,6 +201,6 @@ fn run(bytes: &[u8]) {
 
 fn main() {
     let mut bytes = io::large_buffer();
-    let n = list::read(&mut bytes);
+    let n = list::read(1, &mut bytes);
     run(&bytes[..n]);
 }

@@ -6,7 +6,7 @@
 //!
 //! Without names: into another folder all lists, else those that the repository has.
 
-use oracle::lists::{ALL, List, Named};
+use oracle::lists::{ALL, Named};
 use std::path::{Path, PathBuf};
 use std::process::ExitCode;
 
@@ -14,18 +14,24 @@ fn stdout(folder: &Path, named: &Named) -> PathBuf {
     folder.join(named.program).join("stdout")
 }
 
-/// The files of a list with their contents. One without calls or without a drawing has no file of it.
-fn files(folder: &Path, named: &Named, list: &List) -> Vec<(PathBuf, Vec<u8>)> {
-    let mut files = vec![(stdout(folder, named), list.stdout.clone().into_bytes())];
-    if !list.calls.is_empty() {
-        let calls = folder.join(named.program).join("data").join("calls.bin");
-        files.push((calls, list.calls.clone()));
+/// The text of the lists, and the files with their contents. A list without calls or without a
+/// drawing has no file of it.
+fn files(folder: &Path, named: &Named) -> (String, Vec<(PathBuf, Vec<u8>)>) {
+    let program = folder.join(named.program);
+    let mut text = String::new();
+    let mut files = Vec::new();
+    for (file, write) in named.lists {
+        let list = write();
+        text.push_str(&list.stdout);
+        if !list.calls.is_empty() {
+            files.push((program.join("data").join(file), list.calls));
+        }
+        if !list.plot.is_empty() {
+            files.push((program.join("plot.svg"), list.plot.into_bytes()));
+        }
     }
-    if !list.plot.is_empty() {
-        let plot = folder.join(named.program).join("plot.svg");
-        files.push((plot, list.plot.clone().into_bytes()));
-    }
-    files
+    files.push((stdout(folder, named), text.clone().into_bytes()));
+    (text, files)
 }
 
 fn write(files: &[(PathBuf, Vec<u8>)]) -> std::io::Result<()> {
@@ -76,9 +82,8 @@ impl Order {
 
     /// Writes or checks a list, and says whether it is as it should be.
     fn carry_out(&self, named: &Named) -> bool {
-        let list = (named.write)();
-        let files = files(&self.folder, named, &list);
-        let (name, lines) = (named.name, list.stdout.lines().count());
+        let (text, files) = files(&self.folder, named);
+        let (name, lines) = (named.name, text.lines().count());
         if !self.check {
             write(&files).expect("the folder can be written");
             println!("{name}: {lines} lines written");

@@ -1,4 +1,4 @@
-//! The lists `masks` and `mask_refusals`: the four mask builders.
+//! The two lists `masks`: the four mask builders.
 
 use super::slices::hash_text;
 use super::{List, float_text, outcome_text};

@@ -45,23 +45,8 @@ loop-less c = search needs
 loop-again : tie.Need-loop-again Inv-loop μ-loop
 loop-again c = search needs
 
-count-requires : tie.Need-count-requires Inv-loop μ-loop
-count-requires c κs = search needs
-
-float-requires : tie.Need-float-requires Inv-loop μ-loop
-float-requires c κs = search needs
-
-put-requires : tie.Need-put-requires Inv-loop μ-loop
-put-requires c κs = search needs
-
-count-requires-2 : tie.Need-count-requires-2 Inv-loop μ-loop
-count-requires-2 c κs = search needs
-
-float-requires-2 : tie.Need-float-requires-2 Inv-loop μ-loop
-float-requires-2 c κs = search needs
-
-put-requires-2 : tie.Need-put-requires-2 Inv-loop μ-loop
-put-requires-2 c κs = search needs
+put-both-requires : tie.Need-put-both-requires Inv-loop μ-loop
+put-both-requires c κs = search needs
 
 same-length : tie.Need-same-length Inv-loop μ-loop
 same-length c = search needs
@@ -86,11 +71,6 @@ fill-spec =
     add-i
     loop-less
     loop-again
-    count-requires
-    float-requires
-    put-requires
-    count-requires-2
-    float-requires-2
-    put-requires-2
+    put-both-requires
     same-length
     returns)
