@@ -153,8 +153,8 @@ pub struct Crossing {
 impl From<&Lent> for Crossing {
     fn from(lent: &Lent) -> Self {
         Self {
-            settings: lent.config.into(),
-            voices: lent.voices.iter().map(MaskVoice::from).collect(),
+            settings: settings_of(lent.config),
+            voices: lent.voices.iter().map(voice_of).collect(),
         }
     }
 }
