@@ -174,6 +174,14 @@ uint32_t dovetable_build_stereo_masks_with_voices_precomputed(
     size_t points, const struct DovetableVoice *voices, size_t count,
     struct DovetableSettings settings, const float *table, size_t entries, size_t *place);
 
+/* The same by the table in the block of dovetable_prepared_spectrum_new, after its four windows.
+ * Refused: 4 also where the block has not 4*size + size/2 + 1 entries. An entry's place is counted
+ * from the table's start. */
+uint32_t dovetable_build_stereo_masks_with_prepared_spectrum(
+    float *left, size_t left_bins, float *right, size_t right_bins, const float *manual_mask_db,
+    size_t points, const struct DovetableVoice *voices, size_t count,
+    struct DovetableSettings settings, const float *block, size_t block_length, size_t *place);
+
 /* ---- Windows and gain lists ---- */
 
 /* The dual of an analysis window. Refused: 4, lengths in 1..16,384 and equal; 7, a value of analysis

@@ -3,6 +3,7 @@
 //! the voices; 6, the table's entries; 7, levels in 0..1. In each unsafe block a pointer and a
 //! length are those of one slice.
 
+use crate::processing::PreparedSpectrum;
 use crate::refused::{Refused, outcome};
 use crate::scene::{MaskConfig, MaskVoice};
 use crate::sys;
@@ -79,6 +80,30 @@ pub fn build_stereo_masks_with_voices_precomputed(
     outcome(|place| unsafe {
         sys::dovetable_build_stereo_masks_with_voices_precomputed(
             left, left_bins, right, right_bins, curve, points, records, count, settings, entries,
+            length, place,
+        )
+    })
+}
+
+/// The same by the table of a prepared spectrum. Refused: 1, 2, 3, 4 (also a spectrum of another
+/// size), 5, 6.
+pub fn build_stereo_masks_with_prepared_spectrum(
+    left: &mut [f32],
+    right: &mut [f32],
+    manual_mask_db: &[f32],
+    voices: &[MaskVoice],
+    config: MaskConfig,
+    prepared: &PreparedSpectrum,
+) -> Result<(), Refused> {
+    let (left, left_bins) = (left.as_mut_ptr(), left.len());
+    let (right, right_bins) = (right.as_mut_ptr(), right.len());
+    let (curve, points) = (manual_mask_db.as_ptr(), manual_mask_db.len());
+    let (records, count) = (voices.as_ptr(), voices.len());
+    let (block, length) = (prepared.block().as_ptr(), prepared.block().len());
+    let settings = config.into();
+    outcome(|place| unsafe {
+        sys::dovetable_build_stereo_masks_with_prepared_spectrum(
+            left, left_bins, right, right_bins, curve, points, records, count, settings, block,
             length, place,
         )
     })

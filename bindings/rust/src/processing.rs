@@ -90,6 +90,11 @@ impl PreparedSpectrum {
         Ok(prepared)
     }
 
+    /// All parts, one after the other.
+    pub(crate) fn block(&self) -> &[f32] {
+        &self.block
+    }
+
     /// One of the four windows, which lie before the table.
     fn part(&self, index: usize) -> &[f32] {
         &self.block[index * self.size..][..self.size]

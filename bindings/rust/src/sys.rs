@@ -183,6 +183,20 @@ unsafe extern "C" {
         entries: usize,
         place: &mut usize,
     ) -> u32;
+    pub fn dovetable_build_stereo_masks_with_prepared_spectrum(
+        left: *mut f32,
+        left_bins: usize,
+        right: *mut f32,
+        right_bins: usize,
+        manual_mask_db: *const f32,
+        points: usize,
+        voices: *const MaskVoice,
+        count: usize,
+        settings: Settings,
+        block: *const f32,
+        block_length: usize,
+        place: &mut usize,
+    ) -> u32;
 
     pub fn dovetable_build_dual_synthesis_window(
         analysis: *const f32,

@@ -263,3 +263,40 @@ fn a_prepared_spectrum_has_its_parts() {
     let answer = PreparedSpectrum::new(48_000.0, &long, &long, 2);
     assert_eq!(answer, Err(refused(1, 0)));
 }
+
+#[test]
+fn a_prepared_spectrum_lends_its_table() {
+    let chord = [voice(69, -1.0), voice(93, 1.0)];
+    let window = [1.0; 1024];
+    let prepared = PreparedSpectrum::new(48_000.0, &window, &window, 2).unwrap();
+    let mut masks = [vec![7.0; config().bins()], vec![7.0; config().bins()]];
+    let [left, right] = &mut masks;
+    let mut build = |config| {
+        build_stereo_masks_with_prepared_spectrum(left, right, &CURVE, &chord, config, &prepared)
+    };
+    let rate = MaskConfig {
+        sample_rate: 7_999.0,
+        ..config()
+    };
+    assert_eq!(build(rate), Err(refused(1, 0)));
+    assert_eq!(build(config()), Ok(()));
+    assert_eq!(masks, stereo(&chord, config(), &table()).unwrap());
+}
+
+#[test]
+fn a_spectrum_of_another_size_is_refused() {
+    let window = [1.0; 1024];
+    let prepared = PreparedSpectrum::new(48_000.0, &window, &window, 2).unwrap();
+    for fft_size in [64, 512, 2048, 16_384] {
+        let other = MaskConfig {
+            fft_size,
+            ..config()
+        };
+        let mut masks = [vec![7.0; other.bins()], vec![7.0; other.bins()]];
+        let [left, right] = &mut masks;
+        let answer =
+            build_stereo_masks_with_prepared_spectrum(left, right, &CURVE, &[], other, &prepared);
+        assert_eq!(answer, Err(refused(4, 0)));
+        assert!(masks.iter().flatten().all(|&gain| gain == 7.0));
+    }
+}
