@@ -1,7 +1,7 @@
-//! The four mask builders by name, and all that any of them is lent.
+//! The five mask builders by name, and all that any of them is lent.
 
 use crate::calls;
-use crate::refusals::Outcome;
+use crate::refusals::{MAX_WINDOW, Outcome};
 use crate::spectral_dsp::{MaskConfig, MaskVoice};
 
 #[derive(Clone, Copy, Debug, Eq, PartialEq)]
@@ -10,6 +10,7 @@ pub enum Builder {
     WithVoices,
     WithVoicesPrecomputed,
     StereoPrecomputed,
+    StereoPrepared,
 }
 
 /// What a builder is given beside the masks that it writes. Each reads its own part.
@@ -20,13 +21,32 @@ pub struct Lent {
     pub levels: Vec<f32>,
     pub voices: Vec<MaskVoice>,
     pub table: Vec<f32>,
+    /// Of a prepared spectrum: four windows, which are not read, and a table.
+    pub block: Vec<f32>,
+}
+
+/// The block of a prepared spectrum that has this table.
+pub fn block_of(fft_size: usize, table: &[f32]) -> Vec<f32> {
+    let windows = 4 * fft_size.min(MAX_WINDOW);
+    let mut block = vec![f32::NAN; windows];
+    block.extend(table);
+    block
 }
 
 /// Left and right. The mono builders write the left alone.
 pub type Masks = [Vec<f32>; 2];
 
 impl Builder {
-    pub const ALL: [Self; 4] = [
+    pub const ALL: [Self; 5] = [
+        Self::Mask,
+        Self::WithVoices,
+        Self::WithVoicesPrecomputed,
+        Self::StereoPrecomputed,
+        Self::StereoPrepared,
+    ];
+
+    /// Those of the replay lists, by their numbers there.
+    pub const LISTED: [Self; 4] = [
         Self::Mask,
         Self::WithVoices,
         Self::WithVoicesPrecomputed,
@@ -39,11 +59,12 @@ impl Builder {
             Self::WithVoices => "build_mask_with_voices",
             Self::WithVoicesPrecomputed => "build_mask_with_voices_precomputed",
             Self::StereoPrecomputed => "build_stereo_masks_with_voices_precomputed",
+            Self::StereoPrepared => "build_stereo_masks_with_prepared_spectrum",
         }
     }
 
     pub fn is_stereo(self) -> bool {
-        self == Self::StereoPrecomputed
+        matches!(self, Self::StereoPrecomputed | Self::StereoPrepared)
     }
 
     pub fn takes_voices(self) -> bool {
@@ -61,6 +82,7 @@ impl Builder {
             levels,
             voices,
             table,
+            block,
         } = lent;
         match self {
             Self::Mask => calls::build_mask(left, curve, levels, *config),
@@ -70,6 +92,9 @@ impl Builder {
             }
             Self::StereoPrecomputed => calls::build_stereo_masks_with_voices_precomputed(
                 left, right, curve, voices, *config, table,
+            ),
+            Self::StereoPrepared => calls::build_stereo_masks_with_prepared_spectrum(
+                left, right, curve, voices, *config, block,
             ),
         }
     }

@@ -192,6 +192,20 @@ pub fn build_stereo_masks_with_voices_precomputed(
     Ok(())
 }
 
+/// The same by the table of a prepared spectrum's block, which begins after four windows. A shorter
+/// block has none.
+pub fn build_stereo_masks_with_prepared_spectrum(
+    left: &mut [f32],
+    right: &mut [f32],
+    manual_mask_db: &[f32],
+    voices: &[MaskVoice],
+    config: MaskConfig,
+    block: &[f32],
+) -> Outcome {
+    let table = block.get(4 * config.fft_size..).unwrap_or_default();
+    build_stereo_masks_with_voices_precomputed(left, right, manual_mask_db, voices, config, table)
+}
+
 pub fn build_dual_synthesis_window(
     analysis: &[f32],
     synthesis: &mut [f32],

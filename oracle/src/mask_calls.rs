@@ -1,7 +1,7 @@
 //! Random calls of the mask builders, each told in a few words: what the replay lists hold, and
 //! where the comparison with the static library begins.
 
-use crate::builders::{Lent, Masks};
+use crate::builders::{Lent, Masks, block_of};
 use crate::calls;
 use crate::edges::{around, around_finite, around_limits};
 use crate::lists::slices::Slice;
@@ -67,12 +67,14 @@ impl Call {
     }
 
     pub fn lent(&self) -> Lent {
+        let table = self.whole_table();
         Lent {
             config: self.config,
             curve: self.curve.made(),
             levels: self.levels.made(),
             voices: self.whole_voices(),
-            table: self.whole_table(),
+            block: block_of(self.config.fft_size, &table),
+            table,
         }
     }
 

@@ -1,7 +1,7 @@
 // The mask builders on a lent slice of voice records, as the Rust takes them.
 ghost use mathlib.Core.Path.{_≡_};
-ghost use Prim.Native.Nat.{_<_};
-ghost use lib.ListN.{length, getD, replicate};
+ghost use Prim.Native.Nat.{_<_, _*_};
+ghost use lib.ListN.{length, drop, getD, replicate};
 ghost use Rattle.answer.specs.Reply.{ofOutcome};
 ghost use Rattle.answer.specs.Written.{written};
 ghost use Rattle.scene.specs.Accepted.{noVoice};
@@ -125,5 +125,29 @@ pub fn build_stereo_masks_with_voices_precomputed(
         voices.len(),
         config,
         table,
+    )
+}
+
+// The same by the frequency table of a prepared spectrum, which begins after the four windows of its block.
+pub fn build_stereo_masks_with_prepared_spectrum(
+    left: &mut [f32],
+    right: &mut [f32],
+    manual_mask_db: &[f32],
+    voices: &[MaskVoice],
+    config: MaskConfig,
+    block: &[f32],
+) -> Outcome
+    ensures { λ r. ⌜ ofOutcome r ≡ stereoReply (length (now (left .entry))) (length (now (right .entry))) (now («manual_mask_db» .entry)) (now (voices .entry)) (length (now (voices .entry))) config (drop (4 * config .«fft_size») (now (block .entry))) ⌝ }
+    ensures { λ r. ⌜ now (left .exit) ≡ written (ofOutcome r) (maskOf (now («manual_mask_db» .entry)) config (lent (drop (4 * config .«fft_size») (now (block .entry)))) side.left (now (voices .entry))) (now (left .entry)) ⌝ }
+    ensures { λ r. ⌜ now (right .exit) ≡ written (ofOutcome r) (maskOf (now («manual_mask_db» .entry)) config (lent (drop (4 * config .«fft_size») (now (block .entry)))) side.right (now (voices .entry))) (now (right .entry)) ⌝ }
+{
+    spectral_dsp::build_stereo_masks_with_prepared_spectrum(
+        left,
+        right,
+        manual_mask_db,
+        gather(voices),
+        voices.len(),
+        config,
+        block,
     )
 }

@@ -1,7 +1,8 @@
 // The mask builders. The voices cross as a slice of records and the settings as one record by value, each laid out as in C.
 ghost use mathlib.Core.Path.{_≡_};
 ghost use mathlib.Core.Bool.{cond};
-ghost use lib.ListN.{length, take};
+ghost use Prim.Native.Nat.{_*_};
+ghost use lib.ListN.{length, take, drop};
 ghost use Rattle.answer.specs.Reply.{ofOutcome, refused};
 ghost use Rattle.answer.specs.Written.{written};
 ghost use Rattle.scene.specs.Accepted.{sizeAccepted};
@@ -213,6 +214,63 @@ pub extern "C" fn dovetable_build_stereo_masks_with_voices_precomputed(
         voices.len(),
         settings,
         table,
+        place,
+    )
+}
+
+// By the frequency table of a prepared spectrum, which begins after the four windows of its block.
+fn prepared(
+    left: &mut [f32],
+    right: &mut [f32],
+    manual_mask_db: &[f32],
+    voices: [MaskVoice; 128],
+    count: usize,
+    settings: Settings,
+    block: &[f32],
+    place: &mut usize,
+) -> u32
+    ensures { λ r. ⌜ Given (withSettings settings (λ config. stereoReply (length (now (left .entry))) (length (now (right .entry))) (now («manual_mask_db» .entry)) voices count config (drop (4 * config .«fft_size») (now (block .entry))))) r (now (place .entry)) (now (place .exit)) ⌝ }
+    ensures { λ _. ⌜ now (left .exit) ≡ written (withSettings settings (λ config. stereoReply (length (now (left .entry))) (length (now (right .entry))) (now («manual_mask_db» .entry)) voices count config (drop (4 * config .«fft_size») (now (block .entry))))) (maskOf (now («manual_mask_db» .entry)) (configOf settings) (lent (drop (4 * settings .«fft_size») (now (block .entry)))) side.left (take count voices)) (now (left .entry)) ⌝ }
+    ensures { λ _. ⌜ now (right .exit) ≡ written (withSettings settings (λ config. stereoReply (length (now (left .entry))) (length (now (right .entry))) (now («manual_mask_db» .entry)) voices count config (drop (4 * config .«fft_size») (now (block .entry))))) (maskOf (now («manual_mask_db» .entry)) (configOf settings) (lent (drop (4 * settings .«fft_size») (now (block .entry)))) side.right (take count voices)) (now (right .entry)) ⌝ }
+{
+    let config = config_of(settings);
+    if 7 < settings.motion_shape {
+        return give_outcome(shape_refused(config), place);
+    }
+    let outcome = spectral_dsp::build_stereo_masks_with_prepared_spectrum(
+        left,
+        right,
+        manual_mask_db,
+        voices,
+        count,
+        config,
+        block,
+    );
+    give_outcome(outcome, place)
+}
+
+#[no_mangle]
+pub extern "C" fn dovetable_build_stereo_masks_with_prepared_spectrum(
+    left: &mut [f32],
+    right: &mut [f32],
+    manual_mask_db: &[f32],
+    voices: &[MaskVoice],
+    settings: Settings,
+    block: &[f32],
+    place: &mut usize,
+) -> u32
+    ensures { λ r. ⌜ Given (withSettings settings (λ config. stereoReply (length (now (left .entry))) (length (now (right .entry))) (now («manual_mask_db» .entry)) (now (voices .entry)) (length (now (voices .entry))) config (drop (4 * config .«fft_size») (now (block .entry))))) r (now (place .entry)) (now (place .exit)) ⌝ }
+    ensures { λ _. ⌜ now (left .exit) ≡ written (withSettings settings (λ config. stereoReply (length (now (left .entry))) (length (now (right .entry))) (now («manual_mask_db» .entry)) (now (voices .entry)) (length (now (voices .entry))) config (drop (4 * config .«fft_size») (now (block .entry))))) (maskOf (now («manual_mask_db» .entry)) (configOf settings) (lent (drop (4 * settings .«fft_size») (now (block .entry)))) side.left (now (voices .entry))) (now (left .entry)) ⌝ }
+    ensures { λ _. ⌜ now (right .exit) ≡ written (withSettings settings (λ config. stereoReply (length (now (left .entry))) (length (now (right .entry))) (now («manual_mask_db» .entry)) (now (voices .entry)) (length (now (voices .entry))) config (drop (4 * config .«fft_size») (now (block .entry))))) (maskOf (now («manual_mask_db» .entry)) (configOf settings) (lent (drop (4 * settings .«fft_size») (now (block .entry)))) side.right (now (voices .entry))) (now (right .entry)) ⌝ }
+{
+    prepared(
+        left,
+        right,
+        manual_mask_db,
+        lent_voices::gather(voices),
+        voices.len(),
+        settings,
+        block,
         place,
     )
 }

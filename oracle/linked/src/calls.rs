@@ -153,13 +153,13 @@ pub struct Crossing {
 impl From<&Lent> for Crossing {
     fn from(lent: &Lent) -> Self {
         Self {
-            settings: lent.config.into(),
-            voices: lent.voices.iter().map(MaskVoice::from).collect(),
+            settings: settings_of(lent.config),
+            voices: lent.voices.iter().map(voice_of).collect(),
         }
     }
 }
 
-/// One of the four mask builders.
+/// One of the five mask builders.
 pub fn build(
     builder: Builder,
     lent: &Lent,
@@ -171,6 +171,7 @@ pub fn build(
     let (curve, points) = (lent.curve.as_ptr(), lent.curve.len());
     let (levels, notes) = (lent.levels.as_ptr(), lent.levels.len());
     let (table, entries) = (lent.table.as_ptr(), lent.table.len());
+    let (block, length) = (lent.block.as_ptr(), lent.block.len());
     let (left, bins) = (left.as_mut_ptr(), left.len());
     let (right, right_bins) = (right.as_mut_ptr(), right.len());
     outcome(|place| unsafe {
@@ -187,6 +188,10 @@ pub fn build(
             Builder::StereoPrecomputed => dovetable_build_stereo_masks_with_voices_precomputed(
                 left, bins, right, right_bins, curve, points, voices, count, settings, table,
                 entries, place,
+            ),
+            Builder::StereoPrepared => dovetable_build_stereo_masks_with_prepared_spectrum(
+                left, bins, right, right_bins, curve, points, voices, count, settings, block,
+                length, place,
             ),
         }
     })

@@ -1,254 +1,40 @@
-//! The port's exported functions and records, as its static library has them: every declaration
-//! stands here, and `calls` has for each open call a safe function over it.
+//! The port's exported functions and records, as the binding declares them. `calls` has for each
+//! open call a function that shows all that it leaves behind.
 
 pub mod calls;
 
+pub use dovetable::sys::*;
 use oracle::spectral_dsp as dsp;
 
-/// Works on `n` numbers in place.
-pub type All = unsafe extern "C" fn(xs: *mut f32, n: usize);
-
-/// A voice as it crosses.
-#[repr(C)]
-#[derive(Clone, Copy, Debug)]
-pub struct MaskVoice {
-    pub note: u8,
-    pub level: f32,
-    pub tuning_semitones: f32,
-    pub pressure: f32,
-    pub timbre: f32,
-    pub volume_gain: f32,
-    pub expression_gain: f32,
-    pub pan: f32,
-}
-
-impl From<&dsp::MaskVoice> for MaskVoice {
-    fn from(voice: &dsp::MaskVoice) -> Self {
-        Self {
-            note: voice.note,
-            level: voice.level,
-            tuning_semitones: voice.tuning_semitones,
-            pressure: voice.pressure,
-            timbre: voice.timbre,
-            volume_gain: voice.volume_gain,
-            expression_gain: voice.expression_gain,
-            pan: voice.pan,
-        }
+/// A voice of the oracle as it crosses.
+pub fn voice_of(voice: &dsp::MaskVoice) -> MaskVoice {
+    MaskVoice {
+        note: voice.note,
+        level: voice.level,
+        tuning_semitones: voice.tuning_semitones,
+        pressure: voice.pressure,
+        timbre: voice.timbre,
+        volume_gain: voice.volume_gain,
+        expression_gain: voice.expression_gain,
+        pan: voice.pan,
     }
 }
 
-/// The settings of a mask as they cross, the shape as a number, which may be none of the eight.
-#[repr(C)]
-#[derive(Clone, Copy, Debug)]
-pub struct Settings {
-    pub sample_rate: f32,
-    pub fft_size: usize,
-    pub note_depth_db: f32,
-    pub note_layer_enabled: bool,
-    pub width_cents: f32,
-    pub partials: usize,
-    pub harmonic_rolloff_db_per_octave: f32,
-    pub motion_shape: u32,
-    pub motion_depth_db: f32,
-    pub motion_phase: f32,
-    pub motion_size_octaves: f32,
-}
-
-impl From<dsp::MaskConfig> for Settings {
-    fn from(config: dsp::MaskConfig) -> Self {
-        Self {
-            sample_rate: config.sample_rate,
-            fft_size: config.fft_size,
-            note_depth_db: config.note_depth_db,
-            note_layer_enabled: config.note_layer_enabled,
-            width_cents: config.width_cents,
-            partials: config.partials,
-            harmonic_rolloff_db_per_octave: config.harmonic_rolloff_db_per_octave,
-            motion_shape: config.motion.shape as u32,
-            motion_depth_db: config.motion.depth_db,
-            motion_phase: config.motion.phase,
-            motion_size_octaves: config.motion.size_octaves,
-        }
+/// The settings of the oracle as they cross.
+pub fn settings_of(config: dsp::MaskConfig) -> Settings {
+    Settings {
+        sample_rate: config.sample_rate,
+        fft_size: config.fft_size,
+        note_depth_db: config.note_depth_db,
+        note_layer_enabled: config.note_layer_enabled,
+        width_cents: config.width_cents,
+        partials: config.partials,
+        harmonic_rolloff_db_per_octave: config.harmonic_rolloff_db_per_octave,
+        motion_shape: config.motion.shape as u32,
+        motion_depth_db: config.motion.depth_db,
+        motion_phase: config.motion.phase,
+        motion_size_octaves: config.motion.size_octaves,
     }
-}
-
-unsafe extern "C" {
-    pub fn dovetable_exp2_all(xs: *mut f32, n: usize);
-    pub fn dovetable_log2_all(xs: *mut f32, n: usize);
-    pub fn dovetable_sin_all(xs: *mut f32, n: usize);
-    pub fn dovetable_cos_all(xs: *mut f32, n: usize);
-    pub fn dovetable_sqrt_all(xs: *mut f32, n: usize);
-    pub fn dovetable_pow10_all(xs: *mut f32, n: usize);
-    pub fn dovetable_exp_all(xs: *mut f32, n: usize);
-    pub fn dovetable_log10_all(xs: *mut f32, n: usize);
-    pub fn dovetable_rem_euclid_all(xs: *mut f32, n: usize);
-    pub fn dovetable_powi2_all(xs: *mut f32, n: usize);
-    pub fn dovetable_powi5_all(xs: *mut f32, n: usize);
-    pub fn dovetable_abs_all(xs: *mut f32, n: usize);
-
-    pub safe fn dovetable_max(a: f32, b: f32) -> f32;
-    pub safe fn dovetable_min(a: f32, b: f32) -> f32;
-    pub safe fn dovetable_clamp(x: f32, low: f32, high: f32) -> f32;
-    pub safe fn dovetable_floor_to_count(x: f32) -> usize;
-    pub safe fn dovetable_ceil_to_count(x: f32) -> usize;
-    pub safe fn dovetable_bits_of(x: f32) -> u32;
-    pub safe fn dovetable_of_bits(bits: u32) -> f32;
-
-    pub safe fn dovetable_db_to_gain(db: f32, gain: &mut f32, place: &mut usize) -> u32;
-    pub safe fn dovetable_note_frequency(note: u8, hertz: &mut f32, place: &mut usize) -> u32;
-    pub safe fn dovetable_note_frequency_with_tuning(
-        note: u8,
-        tuning_semitones: f32,
-        hertz: &mut f32,
-        place: &mut usize,
-    ) -> u32;
-
-    pub safe fn dovetable_note_emphasis_gain(
-        width_cents: f32,
-        gain: &mut f32,
-        place: &mut usize,
-    ) -> u32;
-    pub safe fn dovetable_note_gate_gain(
-        note_depth_db: f32,
-        width_cents: f32,
-        openness: f32,
-        gain: &mut f32,
-        place: &mut usize,
-    ) -> u32;
-    pub fn dovetable_manual_gain_at_bin(
-        mask_db: *const f32,
-        points: usize,
-        bin: usize,
-        fft_size: usize,
-        gain: &mut f32,
-        place: &mut usize,
-    ) -> u32;
-    pub safe fn dovetable_motion_openness(
-        frequency: f32,
-        shape: u32,
-        depth_db: f32,
-        phase: f32,
-        size_octaves: f32,
-        openness: &mut f32,
-        place: &mut usize,
-    ) -> u32;
-    pub safe fn dovetable_motion_attenuation_db(
-        frequency: f32,
-        shape: u32,
-        depth_db: f32,
-        phase: f32,
-        size_octaves: f32,
-        attenuation_db: &mut f32,
-        place: &mut usize,
-    ) -> u32;
-    pub safe fn dovetable_motion_compensation_gain(
-        shape: u32,
-        depth_db: f32,
-        phase: f32,
-        size_octaves: f32,
-        gain: &mut f32,
-        place: &mut usize,
-    ) -> u32;
-    pub fn dovetable_advance_note_envelopes(
-        levels: *mut f32,
-        notes: usize,
-        held: *const u8,
-        bytes: usize,
-        elapsed_seconds: f32,
-        fade_ms: f32,
-        place: &mut usize,
-    ) -> u32;
-    pub fn dovetable_prepare(
-        table: *mut f32,
-        entries: usize,
-        sample_rate: f32,
-        fft_size: usize,
-        place: &mut usize,
-    ) -> u32;
-
-    pub fn dovetable_build_mask(
-        output: *mut f32,
-        output_bins: usize,
-        manual_mask_db: *const f32,
-        points: usize,
-        note_levels: *const f32,
-        notes: usize,
-        config: Settings,
-        place: &mut usize,
-    ) -> u32;
-    pub fn dovetable_build_mask_with_voices(
-        output: *mut f32,
-        output_bins: usize,
-        manual_mask_db: *const f32,
-        points: usize,
-        voices: *const MaskVoice,
-        count: usize,
-        config: Settings,
-        place: &mut usize,
-    ) -> u32;
-    pub fn dovetable_build_mask_with_voices_precomputed(
-        output: *mut f32,
-        output_bins: usize,
-        manual_mask_db: *const f32,
-        points: usize,
-        voices: *const MaskVoice,
-        count: usize,
-        config: Settings,
-        table: *const f32,
-        entries: usize,
-        place: &mut usize,
-    ) -> u32;
-    pub fn dovetable_build_stereo_masks_with_voices_precomputed(
-        left: *mut f32,
-        left_bins: usize,
-        right: *mut f32,
-        right_bins: usize,
-        manual_mask_db: *const f32,
-        points: usize,
-        voices: *const MaskVoice,
-        count: usize,
-        config: Settings,
-        table: *const f32,
-        entries: usize,
-        place: &mut usize,
-    ) -> u32;
-
-    pub fn dovetable_build_dual_synthesis_window(
-        analysis: *const f32,
-        analysis_length: usize,
-        synthesis: *mut f32,
-        synthesis_length: usize,
-        overlap: usize,
-        place: &mut usize,
-    ) -> u32;
-    pub fn dovetable_soften_spectral_edges(
-        source: *const f32,
-        source_length: usize,
-        output: *mut f32,
-        output_length: usize,
-        place: &mut usize,
-    ) -> u32;
-    pub fn dovetable_smooth_mask_in_db(
-        current: *mut f32,
-        current_length: usize,
-        target: *const f32,
-        target_length: usize,
-        elapsed_seconds: f32,
-        place: &mut usize,
-    ) -> u32;
-    pub fn dovetable_prepared_spectrum_new(
-        sample_rate: f32,
-        window: *const f32,
-        window_length: usize,
-        smooth_analysis_window: *const f32,
-        smooth_length: usize,
-        overlap: usize,
-        block: *mut f32,
-        block_length: usize,
-        window_coherent_gain: &mut f32,
-        smooth_window_coherent_gain: &mut f32,
-        place: &mut usize,
-    ) -> u32;
 }
 
 /// Calls one of the functions that work in place.

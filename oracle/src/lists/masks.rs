@@ -92,7 +92,7 @@ fn add_counts(list: &mut List, random: &mut Random) {
         let mut call = chord(random);
         call.count = count;
         call.voices.truncate(count);
-        for builder in Builder::ALL {
+        for builder in Builder::LISTED {
             list.add(record(&call, builder));
         }
     }
@@ -111,7 +111,7 @@ fn add_sizes(list: &mut List, random: &mut Random) {
             ..chord.config
         };
         let mut call = Call::good(random, config, chord.voices);
-        for builder in Builder::ALL {
+        for builder in Builder::LISTED {
             list.add(record(&call, builder));
         }
         other_table(random, &mut call);
@@ -140,7 +140,7 @@ pub fn list() -> List {
         }
         let builder = match random.once_in(2) {
             true => Builder::StereoPrecomputed,
-            false => random.pick(&Builder::ALL),
+            false => random.pick(&Builder::LISTED),
         };
         if !list.add(record(&call, builder)) {
             return list;

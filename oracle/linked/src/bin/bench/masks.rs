@@ -3,7 +3,7 @@
 
 use crate::classes::{CHORDS, CLASSES, Class};
 use linked::calls::{self as port, Crossing};
-use oracle::builders::{Builder, Lent, Masks};
+use oracle::builders::{Builder, Lent, Masks, block_of};
 use oracle::given;
 use oracle::numbers::first_difference;
 use oracle::random::Random;
@@ -35,12 +35,14 @@ fn levels(scene: &Scene) -> [f32; MIDI_NOTES] {
 }
 
 fn lent(scene: &Scene) -> Lent {
+    let table = scene.table();
     Lent {
         config: scene.config,
         curve: scene.curve.clone(),
         levels: levels(scene).to_vec(),
         voices: scene.voices.clone(),
-        table: scene.table(),
+        block: block_of(scene.config.fft_size, &table),
+        table,
     }
 }
 
@@ -67,9 +69,11 @@ impl Original {
             Builder::WithVoicesPrecomputed => {
                 original::build_mask_with_voices_precomputed(left, curve, voices, config, workspace)
             }
-            Builder::StereoPrecomputed => original::build_stereo_masks_with_voices_precomputed(
-                left, right, curve, voices, config, workspace,
-            ),
+            Builder::StereoPrecomputed | Builder::StereoPrepared => {
+                original::build_stereo_masks_with_voices_precomputed(
+                    left, right, curve, voices, config, workspace,
+                )
+            }
         }
     }
 }

@@ -3,7 +3,7 @@
 use crate::open_calls::note_slice;
 use crate::tally::Tally;
 use linked::calls::{self as port, Crossing};
-use oracle::builders::{Builder, Lent, Masks};
+use oracle::builders::{Builder, Lent, Masks, block_of};
 use oracle::edges::around;
 use oracle::mask_calls::{Call, fault, other_table};
 use oracle::random::Random;
@@ -75,6 +75,17 @@ fn strew(random: &mut Random, table: &mut [f32]) {
     }
 }
 
+/// The block of a table, now and then one short or one long, shorter than its windows, or empty.
+fn block(random: &mut Random, fft_size: usize, table: &[f32]) -> Vec<f32> {
+    let mut block = block_of(fft_size, table);
+    if random.once_in(8) {
+        let n = block.len();
+        let length = random.pick(&[n.saturating_sub(1), n + 1, n / 2, 0]);
+        block.resize(length, 10.0);
+    }
+    block
+}
+
 impl Drawn {
     fn new(random: &mut Random) -> Self {
         let (mut call, curve) = scene(random);
@@ -89,6 +100,7 @@ impl Drawn {
         if random.once_in(4) {
             strew(random, &mut lent.table);
         }
+        lent.block = block(random, lent.config.fft_size, &lent.table);
         let mut crossing = Crossing::from(&lent);
         if random.once_in(64) {
             crossing.settings.motion_shape = random.pick(&[8, 9, 255, 256, u32::MAX]);

@@ -20,4 +20,6 @@ fn main() {
     println!("cargo::rerun-if-changed={}", found.display());
     println!("cargo::rustc-link-search=native={}", folder.display());
     println!("cargo::rustc-link-lib=static=spectral_dsp_c");
+    // For the test that links it with a C program.
+    println!("cargo::rustc-env=DOVETABLE_LINKED={}", found.display());
 }

@@ -1,0 +1,63 @@
+/*
+ * A chord as stereo masks, and a refusal. From the repository's root, once the library is there:
+ *
+ *     cc -std=c11 -I include bindings/c/example.c target/staticlib/libspectral_dsp_c.a -lm -o target/example
+ *
+ * Prints a line for each of a few bins: the bin, its left and its right gain, with the nine digits
+ * that name a float. Exits 1 where a call does not answer what it should.
+ */
+#include "dovetable.h"
+
+#include <stdio.h>
+
+enum { SIZE = 8192, BINS = SIZE / 2 + 1, VOICES = 3 };
+
+static float curve[DOVETABLE_CURVE_POINTS];
+static float table[BINS], left[BINS], right[BINS];
+
+static struct DovetableVoice voice(uint8_t note, float pan) {
+    struct DovetableVoice made = {.note = note, .level = 1.0f, .pressure = 1.0f, .timbre = 0.5f,
+                                  .volume_gain = 1.0f, .expression_gain = 1.0f, .pan = pan};
+    return made;
+}
+
+/* Fills left and right with the masks of a chord; answers 0, or the number of a refusal. */
+static uint32_t masks_of(const struct DovetableVoice *chord, struct DovetableSettings settings,
+                         size_t *place) {
+    uint32_t refused = dovetable_prepare(table, BINS, settings.sample_rate, SIZE, place);
+    if (refused) {
+        return refused;
+    }
+    return dovetable_build_stereo_masks_with_voices_precomputed(
+        left, BINS, right, BINS, curve, DOVETABLE_CURVE_POINTS, chord, VOICES, settings, table,
+        BINS, place);
+}
+
+int main(void) {
+    /* The bins that are closest to the three notes, one between them, and the last. */
+    static const size_t shown[] = {45, 50, 56, 67, BINS - 1};
+    struct DovetableSettings settings = {
+        .sample_rate = 48000.0f, .fft_size = SIZE, .note_depth_db = 48.0f,
+        .note_layer_enabled = true, .width_cents = 50.0f, .partials = 8,
+        .harmonic_rolloff_db_per_octave = 6.0f, .motion_shape = DOVETABLE_RIPPLE,
+        .motion_depth_db = 12.0f, .motion_phase = 0.25f, .motion_size_octaves = 2.0f};
+    struct DovetableVoice chord[VOICES] = {voice(60, -0.5f), voice(64, 0.0f), voice(67, 0.5f)};
+    size_t place = 0;
+
+    /* A curve that falls by 24 dB from the first point to the last. */
+    for (size_t point = 0; point < DOVETABLE_CURVE_POINTS; point++) {
+        curve[point] = -(float)point * (24.0f / 8192.0f);
+    }
+    if (masks_of(chord, settings, &place) != DOVETABLE_DONE) {
+        return 1;
+    }
+    for (size_t i = 0; i < sizeof shown / sizeof shown[0]; i++) {
+        size_t bin = shown[i];
+        printf("%4zu  %.9g  %.9g\n", bin, left[bin], right[bin]);
+    }
+
+    chord[2].note = 128;
+    uint32_t number = masks_of(chord, settings, &place);
+    printf("refused: %u at %zu\n", (unsigned)number, place);
+    return number == DOVETABLE_REFUSED_VOICE ? 0 : 1;
+}

@@ -1,0 +1,39 @@
+//! The mask builder of a spectral note gate, over the proved static library, under the names of
+//! the Rust that was ported. A call is done or [`Refused`]; a refused call has changed nothing.
+//!
+//! A chord, left and right:
+//!
+//! ```
+//! use dovetable::*;
+//!
+//! # fn main() -> Result<(), Refused> {
+//! let config = MaskConfig { note_depth_db: 48.0, partials: 8, ..MaskConfig::default() };
+//! let mut table = vec![0.0; config.bins()];
+//! MaskWorkspace::prepare(&mut table, config.sample_rate, config.fft_size)?;
+//!
+//! let voice = |note, pan| MaskVoice { note, level: 1.0, pan, ..MaskVoice::default() };
+//! let chord = [voice(60, -0.5), voice(64, 0.0), voice(67, 0.5)];
+//! let curve = [0.0; MANUAL_MASK_POINTS];
+//! let (mut left, mut right) = (table.clone(), table.clone());
+//! build_stereo_masks_with_voices_precomputed(&mut left, &mut right, &curve, &chord, config, &table)?;
+//! assert!(left[45] > right[45]); // note 60, on the left
+//!
+//! let refused = note_frequency(128).unwrap_err();
+//! assert_eq!(refused.to_string(), "refusal 2: a setting or lone number outside its limits, or NaN");
+//! # Ok(())
+//! # }
+//! ```
+//!
+//! The audio thread may make every call but [`processing::PreparedSpectrum::new`], which allocates.
+
+mod calls;
+mod masks;
+pub mod processing;
+mod refused;
+mod scene;
+pub mod sys;
+
+pub use calls::*;
+pub use masks::*;
+pub use refused::Refused;
+pub use scene::*;

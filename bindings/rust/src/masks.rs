@@ -1,0 +1,110 @@
+//! The mask builders. Each tests, over what it is given: 1, size, rate; 2, every other setting; 3,
+//! at most 128 voices; 4, masks and table of size/2 + 1 entries, curve of 8,193, levels of 128; 5,
+//! the voices; 6, the table's entries; 7, levels in 0..1. In each unsafe block a pointer and a
+//! length are those of one slice.
+
+use crate::processing::PreparedSpectrum;
+use crate::refused::{Refused, outcome};
+use crate::scene::{MaskConfig, MaskVoice};
+use crate::sys;
+
+/// A mask from 128 note levels, of default voices. Refused: 1, 2, 4, 7.
+pub fn build_mask(
+    output: &mut [f32],
+    manual_mask_db: &[f32],
+    note_levels: &[f32],
+    config: MaskConfig,
+) -> Result<(), Refused> {
+    let (written, bins) = (output.as_mut_ptr(), output.len());
+    let (curve, points) = (manual_mask_db.as_ptr(), manual_mask_db.len());
+    let (levels, notes) = (note_levels.as_ptr(), note_levels.len());
+    let settings = config.into();
+    outcome(|place| unsafe {
+        sys::dovetable_build_mask(written, bins, curve, points, levels, notes, settings, place)
+    })
+}
+
+/// A mask from voices, without a table. Refused: 1, 2, 3, 4, 5.
+pub fn build_mask_with_voices(
+    output: &mut [f32],
+    manual_mask_db: &[f32],
+    voices: &[MaskVoice],
+    config: MaskConfig,
+) -> Result<(), Refused> {
+    let (written, bins) = (output.as_mut_ptr(), output.len());
+    let (curve, points) = (manual_mask_db.as_ptr(), manual_mask_db.len());
+    let (records, count) = (voices.as_ptr(), voices.len());
+    let settings = config.into();
+    outcome(|place| unsafe {
+        sys::dovetable_build_mask_with_voices(
+            written, bins, curve, points, records, count, settings, place,
+        )
+    })
+}
+
+/// A mask from voices, by a frequency table. Refused: 1, 2, 3, 4, 5, 6.
+pub fn build_mask_with_voices_precomputed(
+    output: &mut [f32],
+    manual_mask_db: &[f32],
+    voices: &[MaskVoice],
+    config: MaskConfig,
+    table: &[f32],
+) -> Result<(), Refused> {
+    let (written, bins) = (output.as_mut_ptr(), output.len());
+    let (curve, points) = (manual_mask_db.as_ptr(), manual_mask_db.len());
+    let (records, count) = (voices.as_ptr(), voices.len());
+    let (entries, length) = (table.as_ptr(), table.len());
+    let settings = config.into();
+    outcome(|place| unsafe {
+        sys::dovetable_build_mask_with_voices_precomputed(
+            written, bins, curve, points, records, count, settings, entries, length, place,
+        )
+    })
+}
+
+/// A mask for each side, each voice at its pan. Refused: 1, 2, 3, 4, 5, 6.
+pub fn build_stereo_masks_with_voices_precomputed(
+    left: &mut [f32],
+    right: &mut [f32],
+    manual_mask_db: &[f32],
+    voices: &[MaskVoice],
+    config: MaskConfig,
+    table: &[f32],
+) -> Result<(), Refused> {
+    let (left, left_bins) = (left.as_mut_ptr(), left.len());
+    let (right, right_bins) = (right.as_mut_ptr(), right.len());
+    let (curve, points) = (manual_mask_db.as_ptr(), manual_mask_db.len());
+    let (records, count) = (voices.as_ptr(), voices.len());
+    let (entries, length) = (table.as_ptr(), table.len());
+    let settings = config.into();
+    outcome(|place| unsafe {
+        sys::dovetable_build_stereo_masks_with_voices_precomputed(
+            left, left_bins, right, right_bins, curve, points, records, count, settings, entries,
+            length, place,
+        )
+    })
+}
+
+/// The same by the table of a prepared spectrum. Refused: 1, 2, 3, 4 (also a spectrum of another
+/// size), 5, 6.
+pub fn build_stereo_masks_with_prepared_spectrum(
+    left: &mut [f32],
+    right: &mut [f32],
+    manual_mask_db: &[f32],
+    voices: &[MaskVoice],
+    config: MaskConfig,
+    prepared: &PreparedSpectrum,
+) -> Result<(), Refused> {
+    let (left, left_bins) = (left.as_mut_ptr(), left.len());
+    let (right, right_bins) = (right.as_mut_ptr(), right.len());
+    let (curve, points) = (manual_mask_db.as_ptr(), manual_mask_db.len());
+    let (records, count) = (voices.as_ptr(), voices.len());
+    let (block, length) = (prepared.block().as_ptr(), prepared.block().len());
+    let settings = config.into();
+    outcome(|place| unsafe {
+        sys::dovetable_build_stereo_masks_with_prepared_spectrum(
+            left, left_bins, right, right_bins, curve, points, records, count, settings, block,
+            length, place,
+        )
+    })
+}

@@ -1,0 +1,120 @@
+//! What a scene is made of, under the Rust's names and with its defaults.
+
+use crate::sys;
+pub use sys::MaskVoice;
+
+/// The points of a drawn curve.
+pub const MANUAL_MASK_POINTS: usize = 8193;
+/// The levels of a bank.
+pub const MIDI_NOTES: usize = 128;
+/// The most partials that a note may have.
+pub const MAX_PARTIALS: usize = 24;
+
+impl Default for MaskVoice {
+    fn default() -> Self {
+        Self {
+            note: 0,
+            level: 0.0,
+            tuning_semitones: 0.0,
+            pressure: 1.0,
+            timbre: 0.5,
+            volume_gain: 1.0,
+            expression_gain: 1.0,
+            pan: 0.0,
+        }
+    }
+}
+
+/// The moving field's shapes; they cross as 0 to 7.
+#[derive(Clone, Copy, Debug, Default, Eq, PartialEq)]
+pub enum MotionShape {
+    #[default]
+    Ripple,
+    Harmonic,
+    Drift,
+    Scan,
+    Notch,
+    Saw,
+    Sprinkle,
+    Cloud,
+}
+
+#[derive(Clone, Copy, Debug, PartialEq)]
+pub struct MotionConfig {
+    pub shape: MotionShape,
+    /// 0..96: how far the field attenuates where it is shut.
+    pub depth_db: f32,
+    /// Any finite: where the field stands in its cycle of length 1.
+    pub phase: f32,
+    /// 0..100.
+    pub size_octaves: f32,
+}
+
+impl Default for MotionConfig {
+    fn default() -> Self {
+        Self {
+            shape: MotionShape::Ripple,
+            depth_db: 0.0,
+            phase: 0.0,
+            size_octaves: 1.0,
+        }
+    }
+}
+
+#[derive(Clone, Copy, Debug, PartialEq)]
+pub struct MaskConfig {
+    /// 8,000..192,000 Hz.
+    pub sample_rate: f32,
+    /// A power of two in 64..16,384.
+    pub fft_size: usize,
+    /// 0..144: how far the spectrum is lowered away from held notes.
+    pub note_depth_db: f32,
+    pub note_layer_enabled: bool,
+    /// 1..1,200.
+    pub width_cents: f32,
+    /// 1..24.
+    pub partials: usize,
+    /// 0..48.
+    pub harmonic_rolloff_db_per_octave: f32,
+    pub motion: MotionConfig,
+}
+
+impl Default for MaskConfig {
+    fn default() -> Self {
+        Self {
+            sample_rate: 48_000.0,
+            fft_size: 8192,
+            note_depth_db: 0.0,
+            note_layer_enabled: true,
+            width_cents: 100.0,
+            partials: 1,
+            harmonic_rolloff_db_per_octave: 6.0,
+            motion: MotionConfig::default(),
+        }
+    }
+}
+
+impl MaskConfig {
+    /// The length of a mask and of a frequency table at this size.
+    pub fn bins(self) -> usize {
+        self.fft_size / 2 + 1
+    }
+}
+
+impl From<MaskConfig> for sys::Settings {
+    fn from(config: MaskConfig) -> Self {
+        Self {
+            sample_rate: config.sample_rate,
+            fft_size: config.fft_size,
+            note_depth_db: config.note_depth_db,
+            note_layer_enabled: config.note_layer_enabled,
+            width_cents: config.width_cents,
+            partials: config.partials,
+            harmonic_rolloff_db_per_octave: config.harmonic_rolloff_db_per_octave,
+            motion_shape: config.motion.shape as u32,
+            motion_depth_db: config.motion.depth_db,
+            motion_phase: config.motion.phase,
+            motion_size_octaves: config.motion.size_octaves,
+        }
+    }
+}

@@ -1,0 +1,97 @@
+//! bindings/c/example.c, where there is a C compiler: what it prints is what the safe calls give on
+//! the same scene, bit by bit. The header is also put before a C++ compiler, where there is one.
+
+use dovetable::*;
+use std::path::{Path, PathBuf};
+use std::process::{Command, Stdio};
+
+const STRICT: [&str; 4] = ["-Wall", "-Wextra", "-Werror", "-pedantic"];
+
+fn root() -> PathBuf {
+    Path::new(env!("CARGO_MANIFEST_DIR")).join("../..")
+}
+
+/// A compiler with the strict flags and the header's folder; none where it is not there.
+fn compiler(name: &str, standard: &str) -> Option<Command> {
+    let quiet = Command::new(name)
+        .arg("--version")
+        .stdout(Stdio::null())
+        .stderr(Stdio::null())
+        .status();
+    if quiet.is_err() {
+        eprintln!("{name} is not on this machine");
+        return None;
+    }
+    let mut command = Command::new(name);
+    command.arg(standard).args(STRICT);
+    command.arg("-I").arg(root().join("include"));
+    Some(command)
+}
+
+/// The scene of the C program.
+fn masks() -> [Vec<f32>; 2] {
+    let config = MaskConfig {
+        note_depth_db: 48.0,
+        width_cents: 50.0,
+        partials: 8,
+        motion: MotionConfig {
+            shape: MotionShape::Ripple,
+            depth_db: 12.0,
+            phase: 0.25,
+            size_octaves: 2.0,
+        },
+        ..MaskConfig::default()
+    };
+    let voice = |note, pan| MaskVoice {
+        note,
+        level: 1.0,
+        pan,
+        ..MaskVoice::default()
+    };
+    let chord = [voice(60, -0.5), voice(64, 0.0), voice(67, 0.5)];
+    let curve: Vec<f32> = (0..MANUAL_MASK_POINTS)
+        .map(|point| -(point as f32) * (24.0 / 8192.0))
+        .collect();
+    let mut table = vec![0.0; config.bins()];
+    MaskWorkspace::prepare(&mut table, config.sample_rate, config.fft_size).unwrap();
+    let mut masks = [table.clone(), table.clone()];
+    let [left, right] = &mut masks;
+    build_stereo_masks_with_voices_precomputed(left, right, &curve, &chord, config, &table)
+        .unwrap();
+    masks
+}
+
+#[test]
+fn the_example_prints_what_the_safe_calls_give() {
+    let Some(mut cc) = compiler("cc", "-std=c11") else {
+        return;
+    };
+    let program = Path::new(env!("CARGO_TARGET_TMPDIR")).join("example");
+    cc.arg(root().join("bindings/c/example.c"));
+    cc.arg(env!("DOVETABLE_LINKED")).arg("-lm");
+    assert!(cc.arg("-o").arg(&program).status().unwrap().success());
+
+    let run = Command::new(&program).output().unwrap();
+    assert!(run.status.success());
+    let text = String::from_utf8(run.stdout).unwrap();
+    let (bins, refusal) = text.trim_end().rsplit_once('\n').unwrap();
+    assert_eq!(refusal, "refused: 5 at 2");
+    let [left, right] = masks();
+    for line in bins.lines() {
+        let words: Vec<&str> = line.split_whitespace().collect();
+        let bin: usize = words[0].parse().unwrap();
+        let printed: [f32; 2] = [words[1].parse().unwrap(), words[2].parse().unwrap()];
+        let bits = |gains: [f32; 2]| gains.map(f32::to_bits);
+        assert_eq!(bits(printed), bits([left[bin], right[bin]]), "{line}");
+    }
+    assert_eq!(bins.lines().count(), 5);
+}
+
+#[test]
+fn the_header_is_cpp_too() {
+    if let Some(mut cpp) = compiler("c++", "-std=c++11") {
+        cpp.args(["-fsyntax-only", "-x", "c++-header"]);
+        cpp.arg(root().join("include/dovetable.h"));
+        assert!(cpp.status().unwrap().success());
+    }
+}

@@ -1,0 +1,246 @@
+/*
+ * Dovetable: the mask builder of a spectral note gate. Link libspectral_dsp_c.a and the
+ * mathematics library (-lm); x86-64, C11 or C++.
+ *
+ * An open call answers 0 where it is done, else the number of a refusal (DovetableRefusal). Its
+ * tests run in the order of the numbers, and of several bad entries the lowest is named. Where it
+ * is done it writes what was asked for and leaves *place alone; where it is refused it writes
+ * *place and nothing else: an index where the refusal has one, else 0. NaN is outside every limit,
+ * and the ends of a limit are inside.
+ *
+ * A slice crosses as a pointer and the number of its entries, which must be there. A null pointer
+ * with 0 entries is an empty slice. What a call writes may overlap nothing else that it is lent.
+ * Pointers to a single value or place are never null. No call allocates or keeps a pointer, and
+ * calls on different memory may run at the same time.
+ */
+#ifndef DOVETABLE_H
+#define DOVETABLE_H
+
+#include <stdbool.h>
+#include <stddef.h>
+#include <stdint.h>
+
+#ifdef __cplusplus
+extern "C" {
+#endif
+
+enum DovetableRefusal {
+    DOVETABLE_DONE = 0,
+    /* size not a power of two in 64..16,384, or rate outside 8,000..192,000 Hz */
+    DOVETABLE_REFUSED_SIZE_OR_RATE = 1,
+    /* a setting or lone number outside its limits */
+    DOVETABLE_REFUSED_SETTING = 2,
+    /* over 128 voices */
+    DOVETABLE_REFUSED_VOICE_COUNT = 3,
+    /* a slice of the wrong length */
+    DOVETABLE_REFUSED_LENGTH = 4,
+    /* a voice outside its limits; place: voice */
+    DOVETABLE_REFUSED_VOICE = 5,
+    /* a table entry from 1 on not in -2..17; place: entry */
+    DOVETABLE_REFUSED_TABLE_ENTRY = 6,
+    /* a level, gain or window value outside its limits; place: entry */
+    DOVETABLE_REFUSED_VALUE = 7,
+    /* overlap not in 1..16 or not dividing the length */
+    DOVETABLE_REFUSED_OVERLAP = 8
+};
+
+enum {
+    DOVETABLE_CURVE_POINTS = 8193, /* of a drawn curve */
+    DOVETABLE_NOTES = 128,         /* of a bank of note levels */
+    DOVETABLE_HELD_BYTES = 16,     /* of the held notes */
+    DOVETABLE_MOST_VOICES = 128
+};
+
+/* The moving field's shapes. A number that is none of them is refusal 2. */
+enum DovetableShape {
+    DOVETABLE_RIPPLE = 0,
+    DOVETABLE_HARMONIC = 1,
+    DOVETABLE_DRIFT = 2,
+    DOVETABLE_SCAN = 3,
+    DOVETABLE_NOTCH = 4,
+    DOVETABLE_SAW = 5,
+    DOVETABLE_SPRINKLE = 6,
+    DOVETABLE_CLOUD = 7
+};
+
+/* A note that is held, with its expression. The last five are any finite numbers. */
+struct DovetableVoice {
+    uint8_t note;           /* 0..127 */
+    float level;            /* 0..1, of the note's envelope: at 0 the note does nothing */
+    float tuning_semitones; /* -48..48, above the equal-tempered pitch of the note */
+    float pressure;         /* used as 0..1 */
+    float timbre;           /* used as 0..1: at 0.5 the settings' rolloff, below darker, above brighter */
+    float volume_gain;      /* the base strength, velocity included */
+    float expression_gain;  /* of what the note opens, apart from the background */
+    float pan;              /* used as -1, left, to 1, right; a mono mask does not use it */
+};
+
+/* A mask's settings. All are tested, also those that a call will not use. */
+struct DovetableSettings {
+    float sample_rate;   /* 8,000..192,000 Hz */
+    size_t fft_size;     /* a power of two in 64..16,384 */
+    float note_depth_db; /* 0..144: how far the spectrum is lowered away from held notes */
+    bool note_layer_enabled;
+    float width_cents;                    /* 1..1,200 */
+    size_t partials;                      /* 1..24 */
+    float harmonic_rolloff_db_per_octave; /* 0..48 */
+    uint32_t motion_shape;                /* a DovetableShape */
+    float motion_depth_db;                /* 0..96: how far the field attenuates where it is shut */
+    float motion_phase;                   /* any finite: where the field stands in its cycle of length 1 */
+    float motion_size_octaves;            /* 0..100 */
+};
+
+/* ---- Single numbers: where one of these is done it writes its value. ---- */
+
+/* The gain of a number of decibels. Refused: 2, db in -700..700. */
+uint32_t dovetable_db_to_gain(float db, float *gain, size_t *place);
+
+/* The frequency of a note. Refused: 2, note at most 127. */
+uint32_t dovetable_note_frequency(uint8_t note, float *hertz, size_t *place);
+
+/* The same, so many semitones above. Refused: 2, note at most 127, tuning in -48..48. */
+uint32_t dovetable_note_frequency_with_tuning(uint8_t note, float tuning_semitones, float *hertz,
+                                              size_t *place);
+
+/* The lift of a fully open note centre. Refused: 2, width in 1..1,200. */
+uint32_t dovetable_note_emphasis_gain(float width_cents, float *gain, size_t *place);
+
+/* The note layer's gain at an openness. Refused: 2, depth in 0..144, width in 1..1,200, openness
+ * finite. */
+uint32_t dovetable_note_gate_gain(float note_depth_db, float width_cents, float openness,
+                                  float *gain, size_t *place);
+
+/* The drawn curve's gain at a bin. Refused: 1, size; 2, bin at most 8,192; 4, the curve has 8,193
+ * points. */
+uint32_t dovetable_manual_gain_at_bin(const float *mask_db, size_t points, size_t bin,
+                                      size_t fft_size, float *gain, size_t *place);
+
+/* The moving field's openness at a frequency, 0..1. Refused: 2, the shape, frequency in 0..192,000,
+ * depth in 0..96, phase finite, size in 0..100. */
+uint32_t dovetable_motion_openness(float frequency, uint32_t shape, float depth_db, float phase,
+                                   float size_octaves, float *openness, size_t *place);
+
+/* The moving field's attenuation at a frequency. Refused: as dovetable_motion_openness. */
+uint32_t dovetable_motion_attenuation_db(float frequency, uint32_t shape, float depth_db,
+                                         float phase, float size_octaves, float *attenuation_db,
+                                         size_t *place);
+
+/* The gain that makes up for what the moving field takes away. Refused: 2, the shape, depth, phase,
+ * size. */
+uint32_t dovetable_motion_compensation_gain(uint32_t shape, float depth_db, float phase,
+                                            float size_octaves, float *gain, size_t *place);
+
+/* ---- Envelopes and the frequency table ---- */
+
+/* Moves 128 note levels on by one frame. Held notes are 16 bytes, note 0 the top bit of byte 0.
+ * Refused: 2, elapsed in 0..10, fade in 0..60,000; 4, 128 levels and 16 bytes; 7, a level not in
+ * 0..1. Done: levels. */
+uint32_t dovetable_advance_note_envelopes(float *levels, size_t notes, const uint8_t *held,
+                                          size_t bytes, float elapsed_seconds, float fade_ms,
+                                          size_t *place);
+
+/* Fills a frequency table: the logarithm to base 2 of each bin's frequency, 0 at bin 0. Refused: 1,
+ * size, rate; 4, the table has size/2 + 1 entries. Done: table. */
+uint32_t dovetable_prepare(float *table, size_t entries, float sample_rate, size_t fft_size,
+                           size_t *place);
+
+/* ---- Masks: a gain for each of size/2 + 1 bins ----
+ *
+ * Refused, over what the call has: 1, size, rate; 2, every other setting; 3, at most 128 voices; 4,
+ * the masks and the table have size/2 + 1 entries, the curve 8,193 and the levels 128; 5, a voice;
+ * 6, a table entry; 7, a level not in 0..1. Done: every entry of each mask.
+ */
+
+/* From 128 note levels, of default voices. */
+uint32_t dovetable_build_mask(float *output, size_t output_bins, const float *manual_mask_db,
+                              size_t points, const float *note_levels, size_t notes,
+                              struct DovetableSettings settings, size_t *place);
+
+/* From voices, without a table. */
+uint32_t dovetable_build_mask_with_voices(float *output, size_t output_bins,
+                                          const float *manual_mask_db, size_t points,
+                                          const struct DovetableVoice *voices, size_t count,
+                                          struct DovetableSettings settings, size_t *place);
+
+/* From voices, by a frequency table. */
+uint32_t dovetable_build_mask_with_voices_precomputed(
+    float *output, size_t output_bins, const float *manual_mask_db, size_t points,
+    const struct DovetableVoice *voices, size_t count, struct DovetableSettings settings,
+    const float *table, size_t entries, size_t *place);
+
+/* The same for left and right, each voice at its pan. */
+uint32_t dovetable_build_stereo_masks_with_voices_precomputed(
+    float *left, size_t left_bins, float *right, size_t right_bins, const float *manual_mask_db,
+    size_t points, const struct DovetableVoice *voices, size_t count,
+    struct DovetableSettings settings, const float *table, size_t entries, size_t *place);
+
+/* The same by the table in the block of dovetable_prepared_spectrum_new, after its four windows.
+ * Refused: 4 also where the block has not 4*size + size/2 + 1 entries. An entry's place is counted
+ * from the table's start. */
+uint32_t dovetable_build_stereo_masks_with_prepared_spectrum(
+    float *left, size_t left_bins, float *right, size_t right_bins, const float *manual_mask_db,
+    size_t points, const struct DovetableVoice *voices, size_t count,
+    struct DovetableSettings settings, const float *block, size_t block_length, size_t *place);
+
+/* ---- Windows and gain lists ---- */
+
+/* The dual of an analysis window. Refused: 4, lengths in 1..16,384 and equal; 7, a value of analysis
+ * not in -16..16; 8, overlap in 1..16, dividing the length. Done: synthesis. */
+uint32_t dovetable_build_dual_synthesis_window(const float *analysis, size_t analysis_length,
+                                               float *synthesis, size_t synthesis_length,
+                                               size_t overlap, size_t *place);
+
+/* Smooths neighbouring gains in decibels. Refused: 4, lengths at most 8,193 and equal; 7, a gain of
+ * source not in 0..64. Done: output. */
+uint32_t dovetable_soften_spectral_edges(const float *source, size_t source_length, float *output,
+                                         size_t output_length, size_t *place);
+
+/* Moves gains towards a target, with a time constant of 30 ms. Refused: 2, elapsed in 0..10; 4,
+ * lengths at most 8,193 and equal; 7, a gain of either not in 0..64. Done: current. */
+uint32_t dovetable_smooth_mask_in_db(float *current, size_t current_length, const float *target,
+                                     size_t target_length, float elapsed_seconds, size_t *place);
+
+/* Fills a block of 4*size + size/2 + 1 entries, size being the window's length: window, its dual,
+ * smooth window, its dual, frequency table. Refused: 1, size, rate; 4, the smooth window's length,
+ * the block's; 7, a value of either window not in -16..16; 8, overlap in 1..16, dividing the size.
+ * Done: block and both coherent gains. */
+uint32_t dovetable_prepared_spectrum_new(float sample_rate, const float *window,
+                                         size_t window_length, const float *smooth_analysis_window,
+                                         size_t smooth_length, size_t overlap, float *block,
+                                         size_t block_length, float *window_coherent_gain,
+                                         float *smooth_window_coherent_gain, size_t *place);
+
+/* ---- The functions below the calls: defined for every argument, nothing is refused ---- */
+
+/* Each entry's value in its place. */
+void dovetable_exp2_all(float *xs, size_t n);
+void dovetable_log2_all(float *xs, size_t n);
+void dovetable_sin_all(float *xs, size_t n);
+void dovetable_cos_all(float *xs, size_t n);
+void dovetable_sqrt_all(float *xs, size_t n);
+void dovetable_pow10_all(float *xs, size_t n);
+void dovetable_exp_all(float *xs, size_t n);
+void dovetable_log10_all(float *xs, size_t n);
+void dovetable_rem_euclid_all(float *xs, size_t n); /* modulo 1 */
+void dovetable_powi2_all(float *xs, size_t n);
+void dovetable_powi5_all(float *xs, size_t n);
+void dovetable_abs_all(float *xs, size_t n);
+
+/* Where one of two is NaN, both give the other. */
+float dovetable_max(float a, float b);
+float dovetable_min(float a, float b);
+float dovetable_clamp(float x, float lo, float hi);
+
+/* Rounded down or up to a whole number: 0 below 0 and for NaN, the greatest size_t from there up. */
+size_t dovetable_floor_to_count(float x);
+size_t dovetable_ceil_to_count(float x);
+
+/* A number's bit pattern, and back. */
+uint32_t dovetable_bits_of(float x);
+float dovetable_of_bits(uint32_t n);
+
+#ifdef __cplusplus
+}
+#endif
+
+#endif
