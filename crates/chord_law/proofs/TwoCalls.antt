@@ -1,10 +1,10 @@
 -- The chord law of what two calls leave in lent slices: where both are done the slices hold the masks of the two calls. Assumes nothing.
-use mathlib.Core.Path.{_≡_, refl, sym, ap, _∙_}
+use mathlib.Core.Path.{_≡_, ap, _∙_}
 use mathlib.Core.List.{List}
 use lib.Ieee.{Float}
-use Rattle.answer.specs.Reply.{Reply, done}
+use Rattle.answer.specs.Reply.{Reply}
 use Rattle.answer.specs.Written.{written}
-use Rattle.lobes.specs.Pan.{Side, left, right}
+use Rattle.lobes.specs.Pan.{left, right}
 use Rattle.chord_law.specs.Calls.{Call, F32Call, Accepted, replyTo, maskOn}
 use Rattle.chord_law.specs.Law.{LawHolds}
 use Rattle.chord_law.proofs.Law.{chord-law, chord-law-equal}

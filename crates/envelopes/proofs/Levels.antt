@@ -14,7 +14,7 @@ use Rattle.float_laws.specs.Bounds as bounds
 use Rattle.float_laws.specs.Bounds.{real-one}
 use Rattle.float_laws.specs.Range.{toward-lower-nonneg, toward-lower-most, toward-lower-real, toward-one-least, toward-one-most, toward-one-real}
 use Rattle.float32.specs.Order.{magnitude}
-use Rattle.float32.specs.Remainder.{zero, one}
+use Rattle.float32.specs.Remainder.{zero}
 use Rattle.float32.proofs.Magnitude.{magnitude-clear, magnitude-size, magnitude-is-number}
 use Rattle.envelopes.specs.Envelope.{targetOf, SILENCE, settled, nextLevel}
 use Rattle.envelopes.proofs.Unit.{Unit, unit-zero}

@@ -3,7 +3,7 @@
 use mathlib.Core.Path.{_≡_, refl, sym, ap, _∙_, subst}
 use mathlib.Core.Logic.{_⊎_, inl, inr}
 use mathlib.Core.Bool.{Bool, true, false, true≢false}
-use Prim.Native.Nat.{ℕ, zero, suc, _+_, _-_, _*_, _/_, _%_, _^_, _≤_, _<_, compare, Ordering, Ordering·lt, Ordering·eq, Ordering·gt}
+use Prim.Native.Nat.{ℕ, zero, suc, _+_, _-_, _*_, _%_, _^_, _≤_, _<_, compare, Ordering, Ordering·lt, Ordering·eq, Ordering·gt}
 use native.Mathlib.Nat.{mul-assoc, mul-one, mul-comm, add-mul, suc-mul, le-refl, le-trans, le-of-eq, le-of-lt, lt-of-lt-of-le, lt-of-le-of-lt, lt-irrefl, mul-le-mul, mul-le-mul-left, mul-le-mul-right, mul-lt-mul-of-pos-right, le-div-iff-mul-le, eq-of-mul-eq-mul-right, pow-suc}
 use native.Mathlib.Decide.{decLe}
 use native.Mathlib.Omega.{arith}
@@ -15,7 +15,7 @@ use lib.Ieee.Digits.{back, size-le, size-reaches}
 use lib.Ieee.Exact.{units-val, HasValue}
 use lib.Ieee.Fits.{two, reach, nearest-le, kept-lt, odd-fits, cond-fits, inf-fits}
 use lib.Ieee.Scale.{overflow}
-use Rattle.float_laws.specs.Units.{mag, sign, number, real, real-number, mag-exact, mag-below, down-le, digits-below, exponent-le, unique}
+use Rattle.float_laws.specs.Units.{mag, sign, real, real-number, mag-exact, mag-below, down-le, digits-below, exponent-le, unique}
 use Rattle.float_laws.specs.Round.{plus-zero, mag-of-value, mag-zero}
 use Rattle.float_laws.specs.Mono.{above-zero}
 use Rattle.float_laws.specs.Error.{Cmp, cmp}

@@ -3,5 +3,6 @@ pub mod Order
 pub mod Counts
 pub mod Remainder
 pub mod Powers
+pub mod Smoothstep
 pub mod Constants
 pub mod Root

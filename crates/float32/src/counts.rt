@@ -2,7 +2,7 @@
 // Method: x = mant * 2^(expo - 149) is shifted to its whole part, to the left from exponent 149 on, else to the right. To round up, the
 // places that the shift drops are filled first. From 2^64 on, and for infinity, the answer is the largest count.
 ghost use mathlib.Core.Path.{_≡_};
-ghost use Prim.Native.Nat.{_≤_, _<_, _^_};
+ghost use Prim.Native.Nat.{_≤_, _<_, _^_, min, max};
 ghost use Rattle.float32.specs.Counts.{whole, countOf, floorCount, ceilCount};
 use crate::bits::capped_shift;
 use crate::bits::decode;
@@ -50,4 +50,17 @@ fn shifted(up: bool, mant: u64, places: u32) -> u64
         return (mant + ((1u64 << places) - 1)) >> places;
     }
     mant >> places
+}
+
+// The lesser and the greater of two counts.
+pub fn lesser(a: usize, b: usize) -> usize
+    ensures { λ r. ⌜ r ≡ min a b ⌝ }
+{
+    if b < a { b } else { a }
+}
+
+pub fn greater(a: usize, b: usize) -> usize
+    ensures { λ r. ⌜ r ≡ max a b ⌝ }
+{
+    if a < b { b } else { a }
 }

@@ -1,6 +1,7 @@
-// Rust's powi by the two exponents that the port uses, with the order of the products that document 01 gives.
+// Rust's powi by the two exponents that the port uses, with the order of the products that document 01 gives, and the step made of products.
 ghost use mathlib.Core.Path.{_≡_};
 ghost use Rattle.float32.specs.Powers.{square, fifth};
+ghost use Rattle.float32.specs.Smoothstep.{smoothstep};
 
 pub fn powi2(v: f32) -> f32
     ensures { λ r. ⌜ r ≡ square v ⌝ }
@@ -13,4 +14,10 @@ pub fn powi5(v: f32) -> f32
 {
     let square = v * v;
     square * square * v
+}
+
+pub fn smoothstep(position: f32) -> f32
+    ensures { λ r. ⌜ r ≡ smoothstep position ⌝ }
+{
+    position * position * (3.0 - 2.0 * position)
 }

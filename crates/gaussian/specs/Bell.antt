@@ -1,5 +1,5 @@
 -- The bell of a lobe at a relative square: exp(-square/2), read from the Gaussian table with a line between entries. Assumes nothing.
-use Prim.Native.Nat.{ℕ, _+_, min}
+use Prim.Native.Nat.{_+_, min}
 use lib.IntN.{pos}
 use lib.Ieee.{Float, binary32, ofBits, ofInt, add, sub, mul}
 use Rattle.float32.specs.Counts.{floorCount}

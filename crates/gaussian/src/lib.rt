@@ -2,9 +2,9 @@
 //
 // Method. The table holds exp(-i/128), which is exp(-square/2) at 64 places to a relative square of 1, up to 16. A straight line joins its entries.
 ghost use mathlib.Core.Path.{_≡_};
-ghost use Prim.Native.Nat.{min};
 ghost use Rattle.gaussian.specs.Table.{gaussianTable};
 ghost use Rattle.gaussian.specs.Bell.{position, between, gaussian};
+use float32::counts::lesser;
 use float32::order::clamp;
 
 pub const GAUSSIAN_LUT_STEPS: usize = 1024;
@@ -29,12 +29,6 @@ pub fn position(square: f32) -> f32
     ensures { λ r. ⌜ r ≡ position square ⌝ }
 {
     clamp(square, 0.0, GAUSSIAN_MAX_RELATIVE_SQUARED) * STEPS_PER_SQUARE
-}
-
-fn lesser(a: usize, b: usize) -> usize
-    ensures { λ r. ⌜ r ≡ min a b ⌝ }
-{
-    if b < a { b } else { a }
 }
 
 // The line between the entries around a place. The last entry has itself on its right.

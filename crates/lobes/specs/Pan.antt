@@ -1,7 +1,7 @@
 -- The gain of what a voice opens, on one side: its expression times the balance of its pan. "The squares of the two pan balances add to 2 within 2^-14." The Rust's
 -- `expression_channel_gain`: unity at the centre, nothing on the far side, else a constant-power law. Assumes nothing.
 use mathlib.Core.Bool.{cond}
-use lib.Ieee.{Float, binary32, ofBits, add, mul, neg, eq}
+use lib.Ieee.{Float, binary32, ofBits, add, mul, eq}
 use Rattle.float32.specs.Constants.{FRAC-PI-4, SQRT-2}
 use Rattle.float32.specs.Order.{clamp, finite}
 use Rattle.float32.specs.Remainder.{zero, one}

@@ -3,9 +3,9 @@ ghost use mathlib.Core.Path.{_≡_};
 ghost use Prim.Native.Nat.{_^_, _≤_};
 ghost use Rattle.power.specs.Table.{powerTable};
 ghost use Rattle.lobes.specs.Peak.{cents, closestBin};
-use crate::counts::greater;
-use crate::counts::lesser;
 use crate::grids::CENTS_PER_OCTAVE;
+use float32::counts::greater;
+use float32::counts::lesser;
 use power::table::PowerTable;
 
 fn cents(powers: &PowerTable, bin_hz: f32, center: f32, bin: usize) -> f32

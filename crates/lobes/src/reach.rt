@@ -9,13 +9,13 @@ ghost use Rattle.lobes.specs.Lobe.{firstBin, lastBin, lobeOf};
 use crate::Grid;
 use crate::Lobe;
 use crate::Tone;
-use crate::counts::greater;
-use crate::counts::lesser;
 use crate::distances::distance_by_hertz;
 use crate::distances::distance_by_table;
 use crate::peaks::closest_bin_in_cents;
 use crate::tones::center_of;
 use crate::tones::harmonic_gain;
+use float32::counts::greater;
+use float32::counts::lesser;
 use power::table::PowerTable;
 
 // Never bin 0.

@@ -3,10 +3,8 @@ ghost use mathlib.Core.Path.{_≡_};
 ghost use Prim.Native.Nat.{_≤_};
 ghost use lib.ListN.{take};
 ghost use Rattle.mask_builder.specs.Centered.{centered, allCentered};
+use openness::voices::SKIPPED_LEVEL;
 use scene::MaskVoice;
-
-// The level up to which a voice is skipped.
-const SKIPPED_LEVEL: f32 = 1.0e-5;
 
 fn centered(voice: MaskVoice) -> bool
     ensures { λ r. ⌜ r ≡ centered voice ⌝ }

@@ -23,7 +23,8 @@ use Rattle.power.specs.Log.{rounded, L2}
 use Rattle.power.proofs.LogRising.{L2-mono}
 use Rattle.power.proofs.LogRange.{L2-of-power, L2-number, L2-real}
 use Rattle.decibels.proofs.Gains.{six, two, gain-at-least-one, gain-at-most-one, gain-at-most-two, gain-nonneg, gain-real}
-use Rattle.masks.specs.Gates.{NARROW-CENTS, WIDE-RATIO, smoothstep, widthPosition, emphasisGain, floorGain}
+use Rattle.float32.specs.Smoothstep.{smoothstep}
+use Rattle.masks.specs.Gates.{NARROW-CENTS, WIDE-RATIO, widthPosition, emphasisGain, floorGain}
 use Rattle.masks.proofs.InUnit.{InUnit, zero-is, clamp-in-unit, one-less}
 use Rattle.masks.proofs.Smoothstep.{smoothstep-in-unit}
 

@@ -18,7 +18,7 @@ use Rattle.float_laws.specs.Ops.{mul-comm-f}
 use Rattle.float_laws.specs.Mono.{rndU, sub-mono, sub-number, mul-mono, mul-number, mul-nonneg, size-nonneg, sizes}
 use Rattle.float_laws.specs.Bounds.{one, real-one, mag-one, real-between, mul-real}
 use Rattle.float_laws.specs.Exact.{mul-two, sub-near}
-use Rattle.masks.specs.Gates.{two, three, smoothstep}
+use Rattle.float32.specs.Smoothstep.{two, three, smoothstep}
 use Rattle.masks.proofs.InUnit.{InUnit, in-unit, zero-in-unit, one-in-unit}
 use Rattle.masks.proofs.LastStretch.{last-stretch}
 

@@ -4,14 +4,9 @@ use mathlib.Core.Bool.{cond}
 use lib.Ieee.{Float, binary32, ofBits, le, add, sub, mul, div, neg}
 use Rattle.float32.specs.Order.{maximum, clamp}
 use Rattle.float32.specs.Remainder.{zero, one}
+use Rattle.float32.specs.Smoothstep.{smoothstep}
 use Rattle.power.specs.Log.{L2}
 use Rattle.decibels.specs.Gain.{gainOf}
-
-abbrev pub two : Float
-two = ofBits binary32 0x40000000
-
-abbrev pub three : Float
-three = ofBits binary32 0x40400000
 
 -- a note up to 100 cents wide is lifted by 6 dB, one of 12 times that not at all
 abbrev pub NARROW-CENTS : Float
@@ -22,10 +17,6 @@ WIDE-RATIO = ofBits binary32 0x41400000
 
 abbrev pub EMPHASIS-DECIBELS : Float
 EMPHASIS-DECIBELS = ofBits binary32 0x40c00000
-
--- p * p * (3 - 2 * p)
-unfoldable pub smoothstep : Float → Float
-smoothstep p = mul binary32 (mul binary32 p p) (sub binary32 three (mul binary32 two p))
 
 -- where a width lies between the two, in octaves of width, from 0 to 1
 unfoldable pub widthPosition : Float → Float

@@ -1,9 +1,10 @@
 // The gate of the note layer.
 ghost use mathlib.Core.Path.{_≡_};
 ghost use Rattle.power.specs.Table.{powerTable};
-ghost use Rattle.masks.specs.Gates.{smoothstep, widthPosition, emphasisGain, floorGain, gateGain, limitedGateGain};
+ghost use Rattle.masks.specs.Gates.{widthPosition, emphasisGain, floorGain, gateGain, limitedGateGain};
 use float32::order::clamp;
 use float32::order::max;
+use float32::powers::smoothstep;
 use power::table::PowerTable;
 
 // A note up to 100 cents wide is lifted by 6 dB, one of 12 times that not at all.
@@ -12,12 +13,6 @@ pub const NARROW_CENTS: f32 = 100.0;
 pub const WIDE_RATIO: f32 = 12.0;
 
 pub const EMPHASIS_DECIBELS: f32 = 6.0;
-
-fn smoothstep(position: f32) -> f32
-    ensures { λ r. ⌜ r ≡ smoothstep position ⌝ }
-{
-    position * position * (3.0 - 2.0 * position)
-}
 
 // Where a width lies between narrow and wide, in octaves of width, from 0 to 1.
 fn width_position(powers: &PowerTable, width: f32) -> f32

@@ -1,9 +1,9 @@
 // The gain that the drawn curve gives a bin.
 ghost use mathlib.Core.Path.{_≡_};
-ghost use Prim.Native.Nat.{min};
 ghost use lib.ListN.{length};
 ghost use Rattle.power.specs.Table.{powerTable};
 ghost use Rattle.masks.specs.Manual.{MANUAL-MASK-POINTS, curvePoint, curveGain, manualGain};
+use float32::counts::lesser;
 use float32::order::min;
 use power::table::PowerTable;
 
@@ -13,12 +13,6 @@ pub const MANUAL_MASK_POINTS: usize = 8193;
 pub const LAST_POINT: usize = 8192;
 
 pub const MANUAL_CURVE_MUTE_DB: f32 = -144.0;
-
-fn lesser(a: usize, b: usize) -> usize
-    ensures { λ r. ⌜ r ≡ min a b ⌝ }
-{
-    if b < a { b } else { a }
-}
 
 // The curve point nearest to a bin. Below size 2 there are no bins to divide by, and it is the first.
 pub fn curve_point(bin: usize, size: usize) -> usize

@@ -21,7 +21,8 @@ use Rattle.power.proofs.LogRange.{L2-range, L2-real}
 use Rattle.scene.specs.declared.MotionShape.{MotionShape}
 use Rattle.scene.specs.declared.MotionShape.the-variants.{Ripple, Harmonic, Drift, Scan, Notch, Saw, Sprinkle, Cloud}
 use Rattle.scene.specs.declared.MotionConfig.{MotionConfig}
-use Rattle.motion.specs.Shapes.{two, saw}
+use Rattle.float32.specs.Smoothstep.{two}
+use Rattle.motion.specs.Shapes.{saw}
 use Rattle.motion.specs.Field.{MIN-SIZE-OCTAVES, shapeAt, resting, openness}
 use Rattle.motion.proofs.Between.{Between, between, between-sub}
 use Rattle.motion.proofs.Openings.{Opened, opened, zero-number, one-is, one-level, ripple-level, harmonic-level, drift-level, window-level, notch-level, in-unit, saw-opened}

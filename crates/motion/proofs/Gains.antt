@@ -30,7 +30,7 @@ use Rattle.power.proofs.Ends.{E2-nan}
 use Rattle.power.proofs.Range.{E2-number, E2-nonneg}
 use Rattle.power.proofs.Bases.{pow10-at-most-one}
 use Rattle.scene.specs.declared.MotionConfig.{MotionConfig}
-use Rattle.motion.specs.Shapes.{two}
+use Rattle.float32.specs.Smoothstep.{two}
 use Rattle.decibels.specs.Gain.{gainOf}
 use Rattle.motion.specs.Field.{openness, attenuation, motionGain}
 use Rattle.motion.proofs.Between.{Between, between, between-sub, level}

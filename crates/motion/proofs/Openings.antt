@@ -34,7 +34,8 @@ use Rattle.sine.proofs.Range.{sin-within-one, cos-within-one}
 use Rattle.scene.specs.declared.MotionShape.{MotionShape}
 use Rattle.scene.specs.declared.MotionShape.the-variants.{Ripple, Harmonic, Drift, Scan, Notch, Saw, Sprinkle, Cloud}
 use Rattle.scene.specs.declared.MotionConfig.{MotionConfig}
-use Rattle.motion.specs.Shapes.{RESET-START, half, two, three, ripple, harmonic, broad, middle, detail, drift, window, smoothstep, sawAt, saw}
+use Rattle.float32.specs.Smoothstep.{two, three, smoothstep}
+use Rattle.motion.specs.Shapes.{RESET-START, half, ripple, harmonic, broad, middle, detail, drift, window, sawAt, saw}
 use Rattle.motion.specs.Field.{shapeAt, resting, openness}
 use Rattle.motion.proofs.Between.{Between, between, wider, between-add, between-sub, between-mul, between-times, between-over}
 

@@ -6,6 +6,7 @@ use Rattle.float32.specs.Constants.{TAU}
 use Rattle.float32.specs.Order.{clamp, minimum, magnitude}
 use Rattle.float32.specs.Powers.{square, fifth}
 use Rattle.float32.specs.Remainder.{zero, one, remEuclidOne}
+use Rattle.float32.specs.Smoothstep.{two, three, smoothstep}
 use Rattle.power.specs.Decimal.{exp}
 use Rattle.sine.specs.Sine.{sinOf, cosOf}
 
@@ -19,12 +20,6 @@ RESET-START = ofBits binary32 0x3f66_6666
 
 abbrev pub half : Float
 half = ofBits binary32 0x3f00_0000
-
-abbrev pub two : Float
-two = ofBits binary32 0x4000_0000
-
-abbrev pub three : Float
-three = ofBits binary32 0x4040_0000
 
 -- 0.5 + 0.5 cos(τ (x / size - phase)), clamped to 0..1
 unfoldable pub ripple : Float → Float → Float → Float
@@ -69,10 +64,6 @@ wrapped x phase =
 -- exp(-0.5 (wrapped / (0.42 size))²): Scan, and 1 less it: Notch
 unfoldable pub window : Float → Float → Float → Float
 window x size phase = exp (mul binary32 (neg half) (square (div binary32 (wrapped x phase) (mul binary32 size (ofBits binary32 0x3ed7_0a3d)))))
-
--- p² (3 - 2 p)
-unfoldable pub smoothstep : Float → Float
-smoothstep p = mul binary32 (square p) (sub binary32 three (mul binary32 two p))
 
 -- a straight rise up to RESET-START, and from there on a smooth fall; 1 - RESET-START is rounded, and is not the f32 nearest to 0.1
 unfoldable pub sawAt : Float → Float

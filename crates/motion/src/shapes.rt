@@ -3,13 +3,14 @@
 ghost use mathlib.Core.Path.{_≡_};
 ghost use Rattle.power.specs.Table.{powerTable};
 ghost use Rattle.sine.specs.Table.{sineTable};
-ghost use Rattle.motion.specs.Shapes.{ripple, harmonic, drift, window, smoothstep, saw};
+ghost use Rattle.motion.specs.Shapes.{ripple, harmonic, drift, window, saw};
 use float32::constants::TAU;
 use float32::order::abs;
 use float32::order::clamp;
 use float32::order::min;
 use float32::powers::powi2;
 use float32::powers::powi5;
+use float32::powers::smoothstep;
 use float32::remainder::rem_euclid_one;
 use power::decimal::exp;
 use power::table::PowerTable;
@@ -61,13 +62,6 @@ pub(crate) fn window(powers: &PowerTable, x: f32, size: f32, phase: f32) -> f32
     let distance = abs(x - center);
     let wrapped = min(distance, DISPLAY_OCTAVES - distance);
     exp(powers, -0.5 * powi2(wrapped / (size * 0.42)))
-}
-
-// From 0 to 1, level at both ends.
-pub(crate) fn smoothstep(position: f32) -> f32
-    ensures { λ r. ⌜ r ≡ smoothstep position ⌝ }
-{
-    position * position * (3.0 - 2.0 * position)
 }
 
 // A straight rise, and a smooth fall in the last tenth of the cycle.

@@ -6,7 +6,7 @@ ghost use lib.Ieee.{nan};
 ghost use Rattle.float32.specs.Remainder.{zero};
 ghost use Rattle.lists.specs.Maps.{tabulate, mapRange};
 ghost use Rattle.openness.specs.Openness.{joined};
-use lobes::counts::lesser;
+use float32::counts::lesser;
 
 pub fn shut(out: &mut [f32])
     ensures { λ _. ⌜ now (out .exit) ≡ tabulate (length (now (out .entry))) (λ bin. zero) ⌝ }

@@ -25,7 +25,7 @@ use scene::MaskVoice;
 use sine::table::SineTable;
 
 // A voice at this level or below does nothing.
-const SKIPPED_LEVEL: f32 = 0.00001;
+pub const SKIPPED_LEVEL: f32 = 0.00001;
 
 fn gains_of(sines: &SineTable, stereo: bool, voice: MaskVoice) -> Gains
     requires { ⌜ now sines ≡ sineTable ⌝ }

@@ -1,7 +1,7 @@
 -- The open call on a bank and bytes that are the lent slices: its reply is the one for slices of these lengths, and its bank is what the slice is to hold.
 -- Assumes nothing.
 use mathlib.Core.Path.{_≡_, sym, ap, subst, _∙_}
-use mathlib.Core.Bool.{Bool, false, not}
+use mathlib.Core.Bool.{false, not}
 use mathlib.Core.List.{List}
 use Prim.Native.Nat.{ℕ}
 use borrow.Author.Tests.{eq-eqb}

@@ -1,9 +1,9 @@
 -- `elementary::apply` meets its contract: after i turns the first i entries are done, and the others are as they were. Assumes nothing.
 use Prim.Native.Nat.{_≤_, _<_, _-_}
 use native.Mathlib.Omega.{arith}
-use mathlib.Core.Path.{_≡_, _∙_, ap}
+use mathlib.Core.Path.{_∙_}
 use lib.ListN.{length}
-use lib.Ieee.{Float, nan}
+use lib.Ieee.{nan}
 use borrow.Author.Needs.{needs}
 use Rattle.lists.specs.Turned.{Turned, turned-none, turned-read, turned-more, turned-all}
 use Rattle.elementary.specs.Functions.{valueOf}

@@ -1,5 +1,4 @@
 -- `limits::overlap` meets its contract, test by test. Assumes nothing.
-use native.Mathlib.Omega.{arith}
 use borrow.Author.Needs.{needs}
 use borrow.Author.Tests.{le-leb, lt-leb}
 use Rattle.limits.proofs.overlap.Statement.{statement}

@@ -1,5 +1,4 @@
 -- `limits::partials` meets its contract, test by test. Assumes nothing.
-use native.Mathlib.Omega.{arith}
 use borrow.Author.Tests.{le-leb, lt-leb}
 use Rattle.limits.proofs.partials.Statement.{statement}
 use Rattle.limits.proofs.partials.Tie as tie

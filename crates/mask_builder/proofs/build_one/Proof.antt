@@ -1,8 +1,4 @@
 -- `build_one` meets its contract: the openness of every bin, and then its gain. Assumes nothing.
-use mathlib.Core.Path.{_≡_, refl, sym, subst, _∙_}
-use Prim.Native.Nat.{ℕ, _+_, _/_, _≤_, _<_}
-use native.Mathlib.Omega.{arith}
-use lib.ListN.{length}
 use Rattle.mask_builder.proofs.Built.{finished}
 use borrow.Author.Needs.{needs}
 use Rattle.mask_builder.proofs.build_one.Statement.{statement}

@@ -1,6 +1,5 @@
 -- `build_two` meets its contract: where every voice stands at the centre the mono mask is both, and else each side is built from its own openness. Assumes nothing.
-use mathlib.Core.Path.{_≡_, refl, sym, subst, _∙_}
-use mathlib.Core.Bool.{Bool}
+use mathlib.Core.Path.{sym, subst, _∙_}
 use lib.Dec.{T}
 use Rattle.lobes.specs.Pan.{left, right}
 use Rattle.lobes.specs.Distance.{lent}

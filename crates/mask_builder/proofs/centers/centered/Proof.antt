@@ -1,5 +1,4 @@
 -- `centered` meets its contract in either case of its test. Assumes nothing.
-use mathlib.Core.Path.{_≡_, refl, _∙_}
 use borrow.Author.Needs.{needs}
 use Rattle.mask_builder.proofs.centers.centered.Statement.{statement}
 use Rattle.mask_builder.proofs.centers.centered.Tie as tie

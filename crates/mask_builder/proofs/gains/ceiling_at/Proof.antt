@@ -1,5 +1,5 @@
 -- `ceiling_at` meets its contract. Assumes nothing.
-use mathlib.Core.Path.{_≡_, refl, _∙_}
+use mathlib.Core.Path.{refl}
 use Rattle.mask_builder.specs.Mask.{ceilingAt}
 use borrow.Author.Needs.{needs}
 use Rattle.mask_builder.proofs.gains.ceiling_at.Statement.{statement}

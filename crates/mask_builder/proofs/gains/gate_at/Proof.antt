@@ -1,5 +1,5 @@
 -- `gate_at` meets its contract in either case of its test. Assumes nothing.
-use mathlib.Core.Path.{_≡_, refl, _∙_}
+use mathlib.Core.Path.{_∙_}
 use Rattle.mask_builder.specs.Mask.{gateAt}
 use borrow.Author.Needs.{needs}
 use Rattle.mask_builder.proofs.gains.gate_at.Statement.{statement}

@@ -1,5 +1,5 @@
 -- `motion_at` meets its contract in either case of its test. Assumes nothing.
-use mathlib.Core.Path.{_≡_, refl, _∙_}
+use mathlib.Core.Path.{_≡_}
 use Rattle.float32.proofs.Sums.{in-float}
 use Rattle.mask_builder.specs.Mask.{motionAt}
 use Rattle.mask_builder.specs.Shared.{sharedOf}

@@ -1,5 +1,5 @@
 -- `shared_of` meets its contract, field by field. Assumes nothing.
-use mathlib.Core.Path.{_≡_, refl}
+use mathlib.Core.Path.{refl}
 use borrow.Author.Needs.{needs}
 use Rattle.mask_builder.proofs.gains.shared_of.Statement.{statement}
 use Rattle.mask_builder.proofs.gains.shared_of.Tie as tie

@@ -1,5 +1,5 @@
 -- `voices_of` meets its contract: each voice below the note is written. Assumes nothing.
-use mathlib.Core.Path.{_≡_, refl, ap, _∙_}
+use mathlib.Core.Path.{_≡_, ap, _∙_}
 use Prim.Native.Nat.{ℕ, _≤_, _-_}
 use native.Mathlib.Omega.{arith}
 use lib.ListN.{length, getD}
@@ -7,7 +7,6 @@ use lib.Ieee.{nan}
 use borrow.Author.Needs.{needs}
 use Rattle.lists.specs.Maps.{tabulate}
 use Rattle.lists.specs.Turned.{Turned, turned-none, turned-more, turned-fill}
-use Rattle.scene.specs.declared.MaskVoice.{MaskVoice}
 use Rattle.scene.specs.Accepted.{noVoice}
 use Rattle.mask_builder.specs.Levels.{levelVoice}
 use Rattle.mask_builder.proofs.levels.voices_of.Statement.{statement}

@@ -10,7 +10,7 @@ use Rattle.lobes.specs.Pan.{mono}
 use Rattle.mask_builder.specs.Levels.{levelVoice, voicesOf}
 use Rattle.mask_builder.specs.Mask.{maskOf}
 use Rattle.answer.specs.Reply.{ofOutcome}
-use mathlib.Core.Bool.{true, false, true≢false}
+use mathlib.Core.Bool.{true≢false}
 use lib.Dec.{lit≤}
 use Rattle.spectral_dsp.proofs.MaskAccepted.{is-done, mask-accepted}
 use Rattle.spectral_dsp.proofs.MaskAnswers.{mask-answer}

@@ -1,8 +1,8 @@
 -- `build_mask_with_voices` answers as its tests say, leaves the mask as it was where it refuses, and builds it where it is done. Assumes nothing.
-use mathlib.Core.Path.{_≡_, refl, sym, ap, _∙_}
+use mathlib.Core.Path.{refl, sym, ap, _∙_}
 use lib.ListN.{length}
 use Rattle.answer.specs.Reply.{ofOutcome}
-use mathlib.Core.Bool.{true, false, true≢false}
+use mathlib.Core.Bool.{true≢false}
 use Rattle.spectral_dsp.proofs.MaskAccepted.{is-done, voices-mask-accepted}
 use Rattle.spectral_dsp.proofs.MaskAnswers.{voices-mask-answer}
 use borrow.Author.Needs.{needs}

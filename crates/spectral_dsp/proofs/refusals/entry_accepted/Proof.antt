@@ -1,6 +1,5 @@
 -- `entry_accepted` meets its contract in either case of its test. Assumes nothing.
-use mathlib.Core.Path.{_≡_, refl, sym, _∙_}
-use borrow.Author.Tests.{eq-eqb, ne-eqb}
+use borrow.Author.Tests.{ne-eqb}
 use borrow.Author.Needs.{needs}
 use Rattle.spectral_dsp.proofs.refusals.entry_accepted.Statement.{statement}
 use Rattle.spectral_dsp.proofs.refusals.entry_accepted.Tie as tie

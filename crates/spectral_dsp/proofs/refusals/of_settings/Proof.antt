@@ -1,5 +1,5 @@
 -- `of_settings` meets its contract, test by test. Assumes nothing.
-use mathlib.Core.Path.{_≡_, refl, sym, _∙_}
+use mathlib.Core.Path.{refl}
 use Rattle.spectral_dsp.specs.Masks.{settingsReply}
 use Rattle.spectral_dsp.proofs.Tests.{fails, passes}
 use borrow.Author.Needs.{needs}

@@ -1,5 +1,5 @@
 -- `of_voices` meets its contract, test by test. Assumes nothing.
-use mathlib.Core.Path.{_≡_, refl, sym, _∙_}
+use mathlib.Core.Path.{refl}
 use borrow.Author.Tests.{lt-ltb, le-ltb}
 use Rattle.spectral_dsp.specs.Masks.{voicesReply}
 use Rattle.spectral_dsp.proofs.Tests.{found, none-found}
