@@ -77,13 +77,12 @@ impl Scene {
     }
 }
 
-/// A scene's settings, voices and curve in the types of one of the modules that hold the ported
-/// text.
+/// Settings in the types of another module that has them under the Rust's names.
 #[macro_export]
-macro_rules! given {
-    ($scene:expr, $($dsp:ident)::+) => {{
+macro_rules! config_in {
+    ($config:expr, $($dsp:ident)::+) => {{
         use $($dsp)::+ as dsp;
-        let scene: &$crate::scenes::Scene = $scene;
+        let config: $crate::spectral_dsp::MaskConfig = $config;
         let shapes = [
             dsp::MotionShape::Ripple,
             dsp::MotionShape::Harmonic,
@@ -94,35 +93,53 @@ macro_rules! given {
             dsp::MotionShape::Sprinkle,
             dsp::MotionShape::Cloud,
         ];
-        let config = dsp::MaskConfig {
-            sample_rate: scene.config.sample_rate,
-            fft_size: scene.config.fft_size,
-            note_depth_db: scene.config.note_depth_db,
-            note_layer_enabled: scene.config.note_layer_enabled,
-            width_cents: scene.config.width_cents,
-            partials: scene.config.partials,
-            harmonic_rolloff_db_per_octave: scene.config.harmonic_rolloff_db_per_octave,
+        dsp::MaskConfig {
+            sample_rate: config.sample_rate,
+            fft_size: config.fft_size,
+            note_depth_db: config.note_depth_db,
+            note_layer_enabled: config.note_layer_enabled,
+            width_cents: config.width_cents,
+            partials: config.partials,
+            harmonic_rolloff_db_per_octave: config.harmonic_rolloff_db_per_octave,
             motion: dsp::MotionConfig {
-                shape: shapes[scene.config.motion.shape as usize],
-                depth_db: scene.config.motion.depth_db,
-                phase: scene.config.motion.phase,
-                size_octaves: scene.config.motion.size_octaves,
+                shape: shapes[config.motion.shape as usize],
+                depth_db: config.motion.depth_db,
+                phase: config.motion.phase,
+                size_octaves: config.motion.size_octaves,
             },
+        }
+    }};
+}
+
+/// Voices in the types of such a module.
+#[macro_export]
+macro_rules! voices_in {
+    ($voices:expr, $($dsp:ident)::+) => {{
+        use $($dsp)::+ as dsp;
+        let voices: &[$crate::spectral_dsp::MaskVoice] = $voices;
+        let voice = |voice: &$crate::spectral_dsp::MaskVoice| dsp::MaskVoice {
+            note: voice.note,
+            level: voice.level,
+            tuning_semitones: voice.tuning_semitones,
+            pressure: voice.pressure,
+            timbre: voice.timbre,
+            volume_gain: voice.volume_gain,
+            expression_gain: voice.expression_gain,
+            pan: voice.pan,
         };
-        let voices: Vec<dsp::MaskVoice> = scene
-            .voices
-            .iter()
-            .map(|voice| dsp::MaskVoice {
-                note: voice.note,
-                level: voice.level,
-                tuning_semitones: voice.tuning_semitones,
-                pressure: voice.pressure,
-                timbre: voice.timbre,
-                volume_gain: voice.volume_gain,
-                expression_gain: voice.expression_gain,
-                pan: voice.pan,
-            })
-            .collect();
+        voices.iter().map(voice).collect::<Vec<dsp::MaskVoice>>()
+    }};
+}
+
+/// A scene's settings, voices and curve in the types of one of the modules that hold the ported
+/// text.
+#[macro_export]
+macro_rules! given {
+    ($scene:expr, $($dsp:ident)::+) => {{
+        use $($dsp)::+ as dsp;
+        let scene: &$crate::scenes::Scene = $scene;
+        let config = $crate::config_in!(scene.config, $($dsp)::+);
+        let voices = $crate::voices_in!(&scene.voices, $($dsp)::+);
         let curve: &[f32; dsp::MANUAL_MASK_POINTS] =
             scene.curve.as_slice().try_into().expect("a whole curve");
         (config, voices, curve)

@@ -49,37 +49,23 @@ fn crossing(config: MotionConfig) -> (u32, f32, f32, f32) {
     (shape, config.depth_db, config.phase, config.size_octaves)
 }
 
+/// A call for a number of the moving field at a frequency.
+type AtFrequency = extern "C" fn(f32, u32, f32, f32, f32, &mut f32, &mut usize) -> u32;
+
+fn at_frequency(call: AtFrequency, hertz: f32, config: MotionConfig) -> Result<f32, Refused> {
+    let (shape, depth_db, phase, size_octaves) = crossing(config);
+    value(|number, place| call(hertz, shape, depth_db, phase, size_octaves, number, place))
+}
+
 /// The moving field's openness at a frequency, 0..1. Refused: 2, frequency in 0..192,000, depth in
 /// 0..96, phase finite, size in 0..100.
 pub fn motion_openness(frequency: f32, config: MotionConfig) -> Result<f32, Refused> {
-    let (shape, depth_db, phase, size_octaves) = crossing(config);
-    value(|openness, place| {
-        sys::dovetable_motion_openness(
-            frequency,
-            shape,
-            depth_db,
-            phase,
-            size_octaves,
-            openness,
-            place,
-        )
-    })
+    at_frequency(sys::dovetable_motion_openness, frequency, config)
 }
 
 /// The moving field's attenuation at a frequency. Refused: as [`motion_openness`].
 pub fn motion_attenuation_db(frequency: f32, config: MotionConfig) -> Result<f32, Refused> {
-    let (shape, depth_db, phase, size_octaves) = crossing(config);
-    value(|attenuation, place| {
-        sys::dovetable_motion_attenuation_db(
-            frequency,
-            shape,
-            depth_db,
-            phase,
-            size_octaves,
-            attenuation,
-            place,
-        )
-    })
+    at_frequency(sys::dovetable_motion_attenuation_db, frequency, config)
 }
 
 /// The gain that makes up for what the moving field takes away. Refused: 2, depth, phase, size.

@@ -4,6 +4,7 @@
 use crate::*;
 use oracle::builders::{Builder, Lent, Masks};
 use oracle::spectral_dsp::MotionConfig;
+use oracle::{config_in, voices_in};
 
 /// What a call gives: its number, and what it leaves in the place and the values that are lent.
 #[derive(Clone, Copy, Debug)]
@@ -79,55 +80,28 @@ impl From<MotionConfig> for Motion {
     }
 }
 
-pub fn motion_openness(frequency: f32, motion: Motion) -> Given {
-    let Motion {
-        shape,
-        depth_db,
-        phase,
-        size_octaves,
-    } = motion;
-    value(|openness, place| {
-        dovetable_motion_openness(
-            frequency,
-            shape,
-            depth_db,
-            phase,
-            size_octaves,
-            openness,
-            place,
-        )
+/// A call for a number of the moving field at a frequency.
+type AtFrequency = extern "C" fn(f32, u32, f32, f32, f32, &mut f32, &mut usize) -> u32;
+
+fn at_frequency(call: AtFrequency, hertz: f32, m: Motion) -> Given {
+    value(|number, place| {
+        let (depth, phase, size) = (m.depth_db, m.phase, m.size_octaves);
+        call(hertz, m.shape, depth, phase, size, number, place)
     })
+}
+
+pub fn motion_openness(frequency: f32, motion: Motion) -> Given {
+    at_frequency(dovetable_motion_openness, frequency, motion)
 }
 
 pub fn motion_attenuation_db(frequency: f32, motion: Motion) -> Given {
-    let Motion {
-        shape,
-        depth_db,
-        phase,
-        size_octaves,
-    } = motion;
-    value(|attenuation, place| {
-        dovetable_motion_attenuation_db(
-            frequency,
-            shape,
-            depth_db,
-            phase,
-            size_octaves,
-            attenuation,
-            place,
-        )
-    })
+    at_frequency(dovetable_motion_attenuation_db, frequency, motion)
 }
 
-pub fn motion_compensation_gain(motion: Motion) -> Given {
-    let Motion {
-        shape,
-        depth_db,
-        phase,
-        size_octaves,
-    } = motion;
+pub fn motion_compensation_gain(m: Motion) -> Given {
     value(|gain, place| {
-        dovetable_motion_compensation_gain(shape, depth_db, phase, size_octaves, gain, place)
+        let (depth, phase, size) = (m.depth_db, m.phase, m.size_octaves);
+        dovetable_motion_compensation_gain(m.shape, depth, phase, size, gain, place)
     })
 }
 
@@ -153,8 +127,8 @@ pub struct Crossing {
 impl From<&Lent> for Crossing {
     fn from(lent: &Lent) -> Self {
         Self {
-            settings: settings_of(lent.config),
-            voices: lent.voices.iter().map(voice_of).collect(),
+            settings: config_in!(lent.config, dovetable).into(),
+            voices: voices_in!(&lent.voices, dovetable),
         }
     }
 }
