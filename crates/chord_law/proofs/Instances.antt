@@ -10,7 +10,7 @@ use lib.Count.{trailingZeros}
 use lib.Ieee.{Float, ofBits, ofFields, odd, eq, lt}
 use Rattle.scene.specs.declared.MaskVoice.{MaskVoice}
 use Rattle.float32.specs.Remainder as remainder
-use Rattle.lobes.specs.Grid.{half}
+use Rattle.float32.specs.Remainder.{half}
 use Rattle.chord_law.specs.Calls.{Call, F32Call, given}
 use Rattle.chord_law.specs.Voices.{Matched, MatchIn, MatchedIn}
 use Rattle.chord_law.specs.Curves.{NowhereAbove}

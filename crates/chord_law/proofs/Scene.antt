@@ -20,7 +20,7 @@ use Rattle.scene.specs.declared.MaskVoice.{MaskVoice}
 use Rattle.scene.specs.declared.MaskConfig.{MaskConfig}
 use Rattle.scene.specs.declared.MotionShape.the-variants.{Saw}
 use Rattle.scene.specs.Accepted.{noVoice, motionAccepted, sizeAccepted, settingsAccepted, voiceAccepted}
-use Rattle.lobes.specs.Grid.{half}
+use Rattle.float32.specs.Remainder.{half}
 use Rattle.spectral_dsp.specs.Masks.{settingsReply, voicesReply, tableReply, stereoReply}
 use Rattle.chord_law.specs.Calls.{Call, F32Voice, F32Settings, F32Call, Accepted}
 use Rattle.chord_law.specs.Settings.{SameSettings}

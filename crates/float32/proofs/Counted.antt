@@ -37,7 +37,7 @@ module _ (up : Bool) (x : Float) (mant expo : ℕ) (D : Decoded x false mant exp
   count-is n d z e = rw (D .sign) (ap (λ (k : ℕ). min k 18446744073709551615) (whole-same up (above x) (below x) n d (below-pos x) z e))
 
   -- the point stands to the left of the last digit
-  low-value : expo < 149 → above x * 2 ^ (149 - expo) ≡ mant * below x
+  pub low-value : expo < 149 → above x * 2 ^ (149 - expo) ≡ mant * below x
   low-value h =
       let b : 149 - expo + expo ≡ 149 = omega arith in
       let e : 2 ^ (149 - expo) * 2 ^ expo ≡ 2 ^ 149 = sym (pow-add 2 (149 - expo) expo) ∙ ap (λ (k : ℕ). 2 ^ k) b in
@@ -51,7 +51,7 @@ module _ (up : Bool) (x : Float) (mant expo : ℕ) (D : Decoded x false mant exp
       ∙ min-eq-left (let m = D .small in let w = whole-le up mant (2 ^ min (149 - expo) 31) (pow-pos (min (149 - expo) 31)) in omega arith)
 
   -- the last digit stands to the left of the point
-  high-value : 149 ≤ expo → above x * 1 ≡ mant * 2 ^ (expo - 149) * below x
+  pub high-value : 149 ≤ expo → above x * 1 ≡ mant * 2 ^ (expo - 149) * below x
   high-value h =
       let e : 2 ^ expo ≡ 2 ^ (expo - 149) * 2 ^ 149 = ap (λ (k : ℕ). 2 ^ k) (sym (back expo 149 h)) ∙ pow-add 2 (expo - 149) 149 in
       mul-one (above x)

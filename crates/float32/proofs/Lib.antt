@@ -12,6 +12,7 @@ pub mod OrderAgrees
 pub mod Whole
 pub mod Counted
 pub mod CountBounds
+pub mod Millionths
 pub mod BeyondFloor
 pub mod Squares
 pub mod RemainderInUnit

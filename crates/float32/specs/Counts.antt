@@ -1,6 +1,6 @@
 -- A float as a count: `floor` and `ceil`, "exact", and then Rust's `as usize`. Assumes nothing.
-use mathlib.Core.Bool.{Bool, true, false}
-use Prim.Native.Nat.{ℕ, _+_, _-_, _/_, _^_, min}
+use mathlib.Core.Bool.{Bool, true, false, cond}
+use Prim.Native.Nat.{ℕ, _+_, _-_, _*_, _/_, _^_, min}
 use lib.Ieee.{Float}
 use Rattle.float32.specs.Value.{above, below, negative}
 
@@ -17,6 +17,10 @@ counted false n = min n (2 ^ 64 - 1)
 -- A NaN counts as 0 and an infinity as 2 ^ 128 (`above`), so each has its count by the same rule. Rounding a number below 0 up can give 0 and never more.
 unfoldable pub countOf : Bool → Float → ℕ
 countOf up x = counted (negative x) (whole up (above x) (below x))
+
+-- A number as a whole number of millionths, rounded down. A negative one counts as 0 and one from 2 ^ 44 up as 2 ^ 44, so that the millionths fit in 64 bits.
+unfoldable pub millionths : Float → ℕ
+millionths x = cond (negative x) 0 (min (above x * 1000000 / below x) (2 ^ 44 * 1000000))
 
 -- Rust's `x.floor() as usize` and `x.ceil() as usize`
 abbrev pub floorCount : Float → ℕ

@@ -8,5 +8,8 @@ zero = ofBits binary32 0x0000_0000
 abbrev pub one : Float
 one = ofBits binary32 0x3f80_0000
 
+abbrev pub half : Float
+half = ofBits binary32 0x3f00_0000
+
 unfoldable pub remEuclidOne : Float → Float
 remEuclidOne v = let r = rem binary32 v one in cond (lt r zero) (add binary32 r one) r

@@ -3,7 +3,7 @@
 // places that the shift drops are filled first. From 2^64 on, and for infinity, the answer is the largest count.
 ghost use mathlib.Core.Path.{_≡_};
 ghost use Prim.Native.Nat.{_≤_, _<_, _^_, min, max};
-ghost use Rattle.float32.specs.Counts.{whole, countOf, floorCount, ceilCount};
+ghost use Rattle.float32.specs.Counts.{whole, countOf, floorCount, ceilCount, millionths};
 use crate::bits::capped_shift;
 use crate::bits::decode;
 
@@ -50,6 +50,35 @@ fn shifted(up: bool, mant: u64, places: u32) -> u64
         return (mant + ((1u64 << places) - 1)) >> places;
     }
     mant >> places
+}
+
+// 2^44 in millionths.
+const MOST_MILLIONTHS: u64 = 17_592_186_044_416_000_000;
+
+// x · 10^6 without its fraction, by the same shifts. 0 below 0 and for NaN; from 2^44 up as at 2^44.
+pub fn millionths(x: f32) -> u64
+    ensures { λ r. ⌜ r ≡ millionths x ⌝ }
+{
+    if x != x {
+        return 0;
+    }
+    let d = decode(x);
+    let neg = d.neg;
+    let digits = (d.mant as u64) * 1_000_000;
+    let expo = d.expo;
+    if neg {
+        return 0;
+    }
+    if expo < 105 {
+        return 0; // all digits stand below the point
+    }
+    if expo < 149 {
+        return digits >> (149 - expo);
+    }
+    if expo < 170 {
+        return digits << (expo - 149);
+    }
+    MOST_MILLIONTHS
 }
 
 // The lesser and the greater of two counts.

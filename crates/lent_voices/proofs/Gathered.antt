@@ -12,7 +12,8 @@ use lib.ListN.{length, take, getD, set, replicate, length-append, length-replica
 use lib.Seq.{length-take-le}
 use Rattle.scene.specs.declared.MaskVoice.{MaskVoice}
 use Rattle.scene.specs.Accepted.{noVoice}
-use Rattle.lent_voices.specs.Gathered.{silentVoice, held, gatheredTo, gathered}
+use Rattle.scene.specs.Made.{silentVoice}
+use Rattle.lent_voices.specs.Gathered.{held, gatheredTo, gathered}
 
 module _ {A : Type 0} (s d : A) where
   one-more : (xs : List A) (i k : ℕ) → i < length xs → set (take i xs ++ replicate (suc k) s) i (getD xs i d) ≡ take (suc i) xs ++ replicate k s

@@ -4,12 +4,8 @@ use mathlib.Core.List.{List, _++_}
 use Prim.Native.Nat.{ℕ, _-_}
 use lib.Dec.{ltb}
 use lib.ListN.{length, take, replicate}
-use Rattle.float32.specs.Remainder.{zero}
 use Rattle.scene.specs.declared.MaskVoice.{MaskVoice}
-
--- what stands in the array where there is no voice
-abbrev pub silentVoice : MaskVoice
-silentVoice = record { note = 0; level = zero; «tuning_semitones» = zero; pressure = zero; timbre = zero; «volume_gain» = zero; «expression_gain» = zero; pan = zero }
+use Rattle.scene.specs.Made.{silentVoice}
 
 -- how many of n voices the array holds
 abbrev pub held : ℕ → ℕ

@@ -1,7 +1,7 @@
 // The mask builders on a lent slice of voice records, as the Rust takes them.
 ghost use mathlib.Core.Path.{_≡_};
 ghost use Prim.Native.Nat.{_<_, _*_};
-ghost use lib.ListN.{length, drop, getD, replicate};
+ghost use lib.ListN.{length, drop, getD};
 ghost use Rattle.answer.specs.Reply.{ofOutcome};
 ghost use Rattle.answer.specs.Written.{written};
 ghost use Rattle.scene.specs.Accepted.{noVoice};
@@ -9,7 +9,7 @@ ghost use Rattle.lobes.specs.Distance.{lent, none};
 ghost use Rattle.lobes.specs.Pan as side;
 ghost use Rattle.mask_builder.specs.Mask.{maskOf};
 ghost use Rattle.spectral_dsp.specs.Masks.{voicesMaskReply, tabledMaskReply, stereoReply};
-ghost use Rattle.lent_voices.specs.Gathered.{silentVoice, held, gathered};
+ghost use Rattle.lent_voices.specs.Gathered.{held, gathered};
 use answer::Outcome;
 use scene::MOST_VOICES;
 use scene::MaskConfig;
@@ -21,23 +21,6 @@ fn voice_at(voices: &[MaskVoice], index: usize) -> MaskVoice
     ensures { λ r. ⌜ r ≡ getD (now (voices .entry)) index noVoice ⌝ }
 {
     voices[index]
-}
-
-// What stands in the array where there is no voice. Its level is 0.
-fn silent_voices() -> [MaskVoice; 128]
-    ensures { λ r. ⌜ r ≡ replicate 128 silentVoice ⌝ }
-{
-    let voice = MaskVoice {
-        note: 0,
-        level: 0.0f32,
-        tuning_semitones: 0.0f32,
-        pressure: 0.0f32,
-        timbre: 0.0f32,
-        volume_gain: 0.0f32,
-        expression_gain: 0.0f32,
-        pan: 0.0f32,
-    };
-    [voice; 128]
 }
 
 // How many of so many voices the array holds.
@@ -55,7 +38,7 @@ pub fn gather(voices: &[MaskVoice]) -> [MaskVoice; 128]
     ensures { λ r. ⌜ r ≡ gathered (now (voices .entry)) ⌝ }
 {
     let count = held(voices.len());
-    let mut array = silent_voices();
+    let mut array = scene::silent_voices();
     let mut i: usize = 0;
     while i < count {
         array[i] = voice_at(voices, i);

@@ -18,7 +18,7 @@ use Rattle.float_laws.specs.Bounds.{real-between}
 use Rattle.float_laws.specs.Exact.{real-whole}
 use Rattle.float_laws.specs.Rise.{Upto, upto-level}
 use Rattle.float32.specs.Order.{clamp}
-use Rattle.float32.specs.Remainder.{zero, one}
+use Rattle.float32.specs.Remainder.{zero, one, half}
 use Rattle.float32.proofs.OrderAgrees.{clamp-agrees}
 use Rattle.power.specs.Power.{positiveZero, largest}
 use Rattle.power.specs.Log.{leastNormal, positiveNormal, rounded, L2}
@@ -26,7 +26,6 @@ use Rattle.power.proofs.LogRising.{L2-mono}
 use Rattle.power.proofs.LogRange.{L2-of-power, L2-real}
 use Rattle.decibels.proofs.Gains.{gain-real, gain-nonneg, gain-at-most-one}
 use Rattle.pitch.proofs.Range.{whole-le}
-use Rattle.lobes.specs.Grid.{half}
 use Rattle.lobes.specs.Tone.{TIMBRE-RANGE-DB, MAX-ROLLOFF-DB, timbreRolloff, harmonicGain}
 use Rattle.lobes.proofs.NoteLevels.{zero-is, clamp-unit, at-most-one}
 

@@ -13,7 +13,7 @@ use Rattle.lists.specs.Interpolation.{interp}
 use Rattle.float_laws.specs.Same.{Same, same, nought, through, carried, same-mul, same-add, same-sub, same-div, same-neg}
 use Rattle.float32.specs.Order.{clamp, finite}
 use Rattle.float32.specs.Powers.{square}
-use Rattle.float32.specs.Remainder.{zero, one}
+use Rattle.float32.specs.Remainder.{zero, one, half}
 use Rattle.float32.specs.Value.{moved}
 use Rattle.power.specs.Table.{powerTable}
 use Rattle.power.specs.Power.{powerAt, powerOf, E2}
@@ -22,7 +22,6 @@ use Rattle.pitch.specs.Pitch.{A4-HERTZ}
 use Rattle.scene.specs.declared.MaskVoice.{MaskVoice}
 use Rattle.lobes.specs.declared.Grid.{Grid}
 use Rattle.lobes.specs.declared.Lobe.{Lobe}
-use Rattle.lobes.specs.Grid.{half}
 use Rattle.lobes.specs.Pan.{Side, HARD-LEFT, HARD-RIGHT, balance, panOf}
 use Rattle.lobes.specs.Tone.{TIMBRE-RANGE-DB, MAX-ROLLOFF-DB, noteLevel, timbreRolloff, fundamentalOf, toneOf, centerOf, harmonicGain}
 use Rattle.lobes.specs.Distance.{lent, distance, bell}

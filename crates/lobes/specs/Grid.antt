@@ -2,14 +2,11 @@
 use Prim.Native.Nat.{ℕ, _/_, min, max}
 use lib.Ieee.{Float, binary32, ofBits, neg, mul, div}
 use Rattle.float32.specs.Order.{maximum}
-use Rattle.float32.specs.Remainder.{one}
+use Rattle.float32.specs.Remainder.{one, half}
 use Rattle.power.specs.Power.{E2}
 use Rattle.frequencies.specs.Frequency.{binHz}
 use Rattle.scene.specs.declared.MaskConfig.{MaskConfig}
 use Rattle.lobes.specs.declared.Grid.{Grid}
-
-abbrev pub half : Float
-half = ofBits binary32 0x3f00_0000
 
 abbrev pub CENTS-PER-OCTAVE : Float
 CENTS-PER-OCTAVE = ofBits binary32 0x4496_0000

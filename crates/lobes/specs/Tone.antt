@@ -3,14 +3,13 @@ use Prim.Native.Nat.{ℕ}
 use lib.IntN.{pos}
 use lib.Ieee.{Float, binary32, ofBits, ofInt, neg, add, sub, mul}
 use Rattle.float32.specs.Order.{maximum, clamp}
-use Rattle.float32.specs.Remainder.{zero, one}
+use Rattle.float32.specs.Remainder.{zero, one, half}
 use Rattle.power.specs.Log.{L2}
 use Rattle.decibels.specs.Gain.{gainOf}
 use Rattle.pitch.specs.Pitch.{noteHertz}
 use Rattle.scene.specs.declared.MaskVoice.{MaskVoice}
 use Rattle.lobes.specs.declared.Grid.{Grid}
 use Rattle.lobes.specs.declared.Tone.{Tone}
-use Rattle.lobes.specs.Grid.{half}
 
 -- 0.35 of the level is there without pressure, and 0.65 comes with it
 abbrev pub LEAST-PRESSURE-GAIN : Float

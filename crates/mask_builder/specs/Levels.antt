@@ -4,9 +4,8 @@ use Prim.Native.Nat.{ℕ}
 use lib.ListN.{getD}
 use lib.Ieee.{Float, nan}
 use Rattle.lists.specs.Maps.{tabulate}
-use Rattle.float32.specs.Remainder.{zero, one}
+use Rattle.float32.specs.Remainder.{zero, one, half}
 use Rattle.scene.specs.declared.MaskVoice.{MaskVoice}
-use Rattle.lobes.specs.Grid.{half}
 
 abbrev pub levelVoice : ℕ → Float → MaskVoice
 levelVoice note level = record { note = note; level = level; «tuning_semitones» = zero; pressure = one; timbre = half; «volume_gain» = one; «expression_gain» = one; pan = zero }

@@ -20,17 +20,11 @@ fn level_voice(note: u8, level: f32) -> MaskVoice
     }
 }
 
-fn silent_voices() -> [MaskVoice; 128]
-    ensures { λ r. ⌜ length r ≡ 128 ⌝ }
-{
-    [level_voice(0, 0.0); 128]
-}
-
 pub fn voices_of(levels: &[f32]) -> [MaskVoice; 128]
     requires { ⌜ length (now levels) ≡ 128 ⌝ }
     ensures { λ r. ⌜ r ≡ voicesOf (now (levels .entry)) ⌝ }
 {
-    let mut voices = silent_voices();
+    let mut voices = scene::silent_voices();
     let mut note: usize = 0;
     while note < 128 {
         voices[note] = level_voice(note as u8, levels[note]);

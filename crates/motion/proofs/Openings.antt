@@ -20,7 +20,7 @@ use Rattle.float32.specs.Constants.{LOG2-E}
 use Rattle.float32.specs.Order.{clamp}
 use Rattle.float32.specs.Powers.{square}
 use Rattle.float32.specs.Remainder as remainder
-use Rattle.float32.specs.Remainder.{remEuclidOne}
+use Rattle.float32.specs.Remainder.{half, remEuclidOne}
 use Rattle.float32.proofs.OrderAgrees.{clamp-agrees}
 use Rattle.float32.proofs.Limits.{within-low, within-high, within-number}
 use Rattle.float32.proofs.RemainderInUnit.{remainder-in-unit}
@@ -35,7 +35,7 @@ use Rattle.scene.specs.declared.MotionShape.{MotionShape}
 use Rattle.scene.specs.declared.MotionShape.the-variants.{Ripple, Harmonic, Drift, Scan, Notch, Saw, Sprinkle, Cloud}
 use Rattle.scene.specs.declared.MotionConfig.{MotionConfig}
 use Rattle.float32.specs.Smoothstep.{two, three, smoothstep}
-use Rattle.motion.specs.Shapes.{RESET-START, half, ripple, harmonic, broad, middle, detail, drift, window, sawAt, saw}
+use Rattle.motion.specs.Shapes.{RESET-START, ripple, harmonic, broad, middle, detail, drift, window, sawAt, saw}
 use Rattle.motion.specs.Field.{shapeAt, resting, openness}
 use Rattle.motion.proofs.Between.{Between, between, wider, between-add, between-sub, between-mul, between-times, between-over}
 

@@ -11,7 +11,7 @@ use lib.Ieee.{Float, binary32, ofBits, ofFields, ofInt, isNan, add, sub, sum, mu
 use Rattle.lists.specs.Folds.{fold, range}
 use Rattle.float_laws.specs.Same.{Same, same, nought, noughts, same-of, through, carried, same-mul, same-add, same-sub}
 use Rattle.float32.specs.Order.{maximum, minimum, clamp, magnitude}
-use Rattle.float32.specs.Remainder.{zero, one, remEuclidOne}
+use Rattle.float32.specs.Remainder.{zero, one, half, remEuclidOne}
 use Rattle.float32.specs.Value.{moved}
 use Rattle.float32.specs.Powers.{square}
 use Rattle.float32.specs.Root.{squareRoot}
@@ -21,7 +21,7 @@ use Rattle.sine.specs.Sine.{U, wave, sinOf, cosOf}
 use Rattle.scene.specs.declared.MotionShape.{MotionShape}
 use Rattle.scene.specs.declared.MotionShape.the-variants.{Ripple, Harmonic, Drift, Scan, Notch, Saw, Sprinkle, Cloud}
 use Rattle.scene.specs.declared.MotionConfig.{MotionConfig}
-use Rattle.motion.specs.Shapes.{DISPLAY-OCTAVES, half, ripple, harmonic, broad, middle, detail, drift, wrapped, window, sawAt, saw}
+use Rattle.motion.specs.Shapes.{DISPLAY-OCTAVES, ripple, harmonic, broad, middle, detail, drift, wrapped, window, sawAt, saw}
 use Rattle.motion.specs.Field.{MIN-DISPLAY-FREQUENCY-HZ, RESTING-DEPTH-DB, MIN-SIZE-OCTAVES, shapeAt, resting, openness, attenuation, motionGain}
 use Rattle.motion.specs.Compensation.{MOTION-COMPENSATION-SAMPLES, MAX-MOTION-COMPENSATION-DB, sampleFrequency, samplePower, meanSquare, compensation}
 

@@ -6,11 +6,11 @@ use lib.Ieee.{Float, binary32, ofBits, ofInt, add, mul, div, le}
 use Rattle.lists.specs.Folds.{fold, range}
 use Rattle.float32.specs.Order.{minimum}
 use Rattle.float32.specs.Powers.{square}
-use Rattle.float32.specs.Remainder.{zero, one}
+use Rattle.float32.specs.Remainder.{zero, one, half}
 use Rattle.float32.specs.Root.{squareRoot}
 use Rattle.power.specs.Power.{E2}
 use Rattle.scene.specs.declared.MotionConfig.{MotionConfig}
-use Rattle.motion.specs.Shapes.{DISPLAY-OCTAVES, half}
+use Rattle.motion.specs.Shapes.{DISPLAY-OCTAVES}
 use Rattle.decibels.specs.Gain.{gainOf}
 use Rattle.motion.specs.Field.{MIN-DISPLAY-FREQUENCY-HZ, RESTING-DEPTH-DB, motionGain}
 

@@ -5,7 +5,7 @@ use lib.Ieee.{Float, binary32, ofBits, add, sub, mul, div, neg, lt}
 use Rattle.float32.specs.Constants.{TAU}
 use Rattle.float32.specs.Order.{clamp, minimum, magnitude}
 use Rattle.float32.specs.Powers.{square, fifth}
-use Rattle.float32.specs.Remainder.{zero, one, remEuclidOne}
+use Rattle.float32.specs.Remainder.{zero, one, half, remEuclidOne}
 use Rattle.float32.specs.Smoothstep.{two, three, smoothstep}
 use Rattle.power.specs.Decimal.{exp}
 use Rattle.sine.specs.Sine.{sinOf, cosOf}
@@ -17,9 +17,6 @@ DISPLAY-OCTAVES = ofBits binary32 0x411f_73da
 -- where in its cycle the saw begins to fall: 0.9
 abbrev pub RESET-START : Float
 RESET-START = ofBits binary32 0x3f66_6666
-
-abbrev pub half : Float
-half = ofBits binary32 0x3f00_0000
 
 -- 0.5 + 0.5 cos(τ (x / size - phase)), clamped to 0..1
 unfoldable pub ripple : Float → Float → Float → Float

@@ -36,23 +36,6 @@ pub fn decibels(gain: f32) -> f32 {
     20.0 * power::decimal::log10(&powers, gain)
 }
 
-// gain · 10^6 without its fraction, of a gain from 2^-39 up and below 2^24; of any other 0.
-pub fn millionths(gain: f32) -> u64 {
-    if gain != gain {
-        return 0;
-    }
-    let parts = float32::bits::decode(gain);
-    let mant = parts.mant as u64;
-    let expo = parts.expo;
-    if expo < 87 {
-        return 0;
-    }
-    if 148 < expo {
-        return 0;
-    }
-    (mant * 1000000) >> (149 - expo)
-}
-
 // n hundredths, with two places after the point.
 fn print_hundredths(width: usize, sign: &[u8], n: u64) {
     let mut text = [0u8; 20];

@@ -2,7 +2,6 @@
 use crate::chord;
 use crate::chord::BIN_HZ;
 use crate::chord::BINS;
-use crate::figures::millionths;
 use crate::figures::print;
 use crate::figures::print_decibels;
 use crate::figures::print_in_column;
@@ -44,8 +43,8 @@ fn mark_chord(marked: &mut [bool; BINS]) {
 fn print_row(bin: u16, left: f32, right: f32) {
     print_in_column(4, bin as u64);
     print_in_column(7, floor_to_count(bin as f32 * BIN_HZ) as u64);
-    print_in_column(12, millionths(left));
-    print_in_column(12, millionths(right));
+    print_in_column(12, float32::counts::millionths(left));
+    print_in_column(12, float32::counts::millionths(right));
     print_decibels(10, left);
     print_decibels(10, right);
     print(b"\n");

@@ -4,26 +4,12 @@ use crate::list;
 use scene::MaskConfig;
 use scene::MaskVoice;
 use scene::MotionConfig;
-use scene::MotionShape;
 use std::num::wrapping_add_usize;
-
-fn shape_of(number: u32) -> MotionShape {
-    match number {
-        0 => MotionShape::Ripple,
-        1 => MotionShape::Harmonic,
-        2 => MotionShape::Drift,
-        3 => MotionShape::Scan,
-        4 => MotionShape::Notch,
-        5 => MotionShape::Saw,
-        6 => MotionShape::Sprinkle,
-        _ => MotionShape::Cloud,
-    }
-}
 
 // The moving field's settings, from four words.
 pub fn motion_at(bytes: &[u8], at: usize) -> MotionConfig {
     MotionConfig {
-        shape: shape_of(list::word(bytes, at, 0)),
+        shape: scene::shape_of(list::word(bytes, at, 0)),
         depth_db: list::float(bytes, at, 1),
         phase: list::float(bytes, at, 2),
         size_octaves: list::float(bytes, at, 3),

@@ -1,6 +1,5 @@
 // Replays the oracle's list `spectral_dsp`. A record is its call's number and as many words as the call takes.
 use answer::Envelopes;
-use float32::bits::of_bits;
 use replay::list;
 use replay::settings;
 use replay::slice;

@@ -2,7 +2,9 @@
 ghost use mathlib.Core.Path.{_≡_};
 ghost use mathlib.Core.Bool.{_&&_};
 ghost use Prim.Native.Nat.{_≤_};
+ghost use lib.ListN.{replicate};
 ghost use Rattle.scene.specs.Accepted.{motionAccepted, sizeAccepted, settingsAccepted, voiceAccepted, firstVoiceOutside};
+ghost use Rattle.scene.specs.Made.{shapeOf, silentVoice};
 
 // A call is given at most so many voices.
 pub const MOST_VOICES: usize = 128;
@@ -57,6 +59,39 @@ pub struct MaskConfig {
     pub partials: usize,
     pub harmonic_rolloff_db_per_octave: f32,
     pub motion: MotionConfig,
+}
+
+// The shape with this number, in that order; from 7 up the last.
+pub fn shape_of(number: u32) -> MotionShape
+    ensures { λ r. ⌜ r ≡ shapeOf number ⌝ }
+{
+    match number {
+        0 => MotionShape::Ripple,
+        1 => MotionShape::Harmonic,
+        2 => MotionShape::Drift,
+        3 => MotionShape::Scan,
+        4 => MotionShape::Notch,
+        5 => MotionShape::Saw,
+        6 => MotionShape::Sprinkle,
+        _ => MotionShape::Cloud,
+    }
+}
+
+// What an array of voices holds before any is put in. Their level is 0.
+pub fn silent_voices() -> [MaskVoice; 128]
+    ensures { λ r. ⌜ r ≡ replicate 128 silentVoice ⌝ }
+{
+    let voice = MaskVoice {
+        note: 0,
+        level: 0.0f32,
+        tuning_semitones: 0.0f32,
+        pressure: 0.0f32,
+        timbre: 0.0f32,
+        volume_gain: 0.0f32,
+        expression_gain: 0.0f32,
+        pan: 0.0f32,
+    };
+    [voice; 128]
 }
 
 // Both of two tests, made without a branch.

@@ -9,20 +9,8 @@ use lib.Ieee.{Float}
 use Rattle.answer.specs.Reply.{Reply, refused}
 use Rattle.limits.specs.Limits as limits
 use Rattle.scene.specs.declared.MotionConfig.{MotionConfig}
-use Rattle.scene.specs.declared.MotionShape.{MotionShape}
-use Rattle.scene.specs.declared.MotionShape.the-variants.{Ripple, Harmonic, Drift, Scan, Notch, Saw, Sprinkle, Cloud}
+use Rattle.scene.specs.Made.{shapeOf}
 use Rattle.spectral_dsp.specs.Advanced.{advanceReply}
-
-abbrev pub shapeOf : ℕ → MotionShape
-shapeOf n =
-    cond (eqb n 0) Ripple
-    (cond (eqb n 1) Harmonic
-    (cond (eqb n 2) Drift
-    (cond (eqb n 3) Scan
-    (cond (eqb n 4) Notch
-    (cond (eqb n 5) Saw
-    (cond (eqb n 6) Sprinkle
-    Cloud))))))
 
 abbrev pub motionOf : ℕ → Float → Float → Float → MotionConfig
 motionOf n depth phase size = record { shape = shapeOf n; «depth_db» = depth; phase = phase; «size_octaves» = size }

@@ -10,13 +10,12 @@ ghost use Rattle.spectral_dsp.specs.Gates.{noteEmphasisGain, noteGateGain, manu
 ghost use Rattle.spectral_dsp.specs.Motion.{opennessReply, attenuationReply, compensationReply};
 ghost use Rattle.spectral_dsp.specs.Prepared.{prepareReply};
 ghost use Rattle.spectral_dsp_c.specs.Given.{Given, GivenValue};
-ghost use Rattle.spectral_dsp_c.specs.Settings.{shapeOf, motionOf, withShape, bankReply};
+ghost use Rattle.spectral_dsp_c.specs.Settings.{motionOf, withShape, bankReply};
 use crate::answers::give_answer;
 use crate::answers::give_outcome;
 use answer::Answer;
 use answer::Outcome;
 use scene::MotionConfig;
-use scene::MotionShape;
 
 #[no_mangle]
 pub extern "C" fn dovetable_note_emphasis_gain(
@@ -63,26 +62,11 @@ pub extern "C" fn dovetable_manual_gain_at_bin(
     )
 }
 
-fn shape_of(number: u32) -> MotionShape
-    ensures { λ r. ⌜ r ≡ shapeOf number ⌝ }
-{
-    match number {
-        0 => MotionShape::Ripple,
-        1 => MotionShape::Harmonic,
-        2 => MotionShape::Drift,
-        3 => MotionShape::Scan,
-        4 => MotionShape::Notch,
-        5 => MotionShape::Saw,
-        6 => MotionShape::Sprinkle,
-        _ => MotionShape::Cloud,
-    }
-}
-
 pub fn motion_of(shape: u32, depth_db: f32, phase: f32, size_octaves: f32) -> MotionConfig
     ensures { λ r. ⌜ r ≡ motionOf shape «depth_db» phase «size_octaves» ⌝ }
 {
     MotionConfig {
-        shape: shape_of(shape),
+        shape: scene::shape_of(shape),
         depth_db: depth_db,
         phase: phase,
         size_octaves: size_octaves,

@@ -56,7 +56,8 @@ use Rattle.scene.specs.declared.MaskVoice.{MaskVoice}
 use Rattle.scene.specs.Accepted.{noVoice}
 use Rattle.scene.proofs.MaskVoice as T
 use Rattle.scene.proofs.MaskVoice.Laws as T′
-use Rattle.lent_voices.specs.Gathered.{silentVoice, held, gatheredTo, gathered}
+use Rattle.scene.specs.Made.{silentVoice}
+use Rattle.lent_voices.specs.Gathered.{held, gatheredTo, gathered}
 use Rattle.lent_voices.proofs.Gathered.{held-fits, length-gathered, gathered-none, gathered-more}
 use Rattle.lent_voices.proofs.voice_at as va
 use Rattle.lent_voices.proofs.voice_at.Symbol as va-def
@@ -66,10 +67,10 @@ use Rattle.lent_voices.proofs.held as least
 use Rattle.lent_voices.proofs.held.Symbol as least-def
 use Rattle.lent_voices.proofs.held.Symbol.{name as #held}
 use Rattle.lent_voices.proofs.held.Met as least-thm
-use Rattle.lent_voices.proofs.silent_voices as silent
-use Rattle.lent_voices.proofs.silent_voices.Symbol as silent-def
-use Rattle.lent_voices.proofs.silent_voices.Symbol.{name as #silent-voices}
-use Rattle.lent_voices.proofs.silent_voices.Met as silent-thm
+use Rattle.scene.proofs.silent_voices as silent
+use Rattle.scene.proofs.silent_voices.Symbol as silent-def
+use Rattle.scene.proofs.silent_voices.Symbol.{name as #silent-voices}
+use Rattle.scene.proofs.silent_voices.Met as silent-thm
 use Rattle.lent_voices.proofs.gather.Key.{name as #gather}
 use Rattle.lent_voices.proofs.gather as f
 use Rattle.lent_voices.proofs.gather.Statement as stated
@@ -344,4 +345,4 @@ gather-spec 𝓤 H 𝓜 𝓖 𝓡 =
     (gather-meets 𝓤 H (𝓖 .A) (givenOf 𝓤 H 𝓜 𝓖) (𝓜 .mem) (𝓡 .run) (tablesOf 𝓤 H 𝓜 (tables 𝓤 H 𝓜 𝓡 code.env))
     (cited 𝓤 H (VoiceAt 𝓤 H (𝓖 .A) (𝓜 .mem) (𝓡 .run)) 𝓜 𝓡 code.env #voice-at va-def.routine code.calls-lent-voices·voice-at (va-thm.met 𝓤 H 𝓜 𝓖 𝓡))
     (cited 𝓤 H (Least 𝓤 H (𝓖 .A) (𝓜 .mem) (𝓡 .run)) 𝓜 𝓡 code.env #held least-def.routine code.calls-lent-voices·held (least-thm.met 𝓤 H 𝓜 𝓖 𝓡))
-    (cited 𝓤 H (Silent 𝓤 H (𝓖 .A) (𝓜 .mem) (𝓡 .run)) 𝓜 𝓡 code.env #silent-voices silent-def.routine code.calls-lent-voices·silent-voices (silent-thm.met 𝓤 H 𝓜 𝓖 𝓡)))
+    (cited 𝓤 H (Silent 𝓤 H (𝓖 .A) (𝓜 .mem) (𝓡 .run)) 𝓜 𝓡 code.env #silent-voices silent-def.routine code.calls-scene·silent-voices (silent-thm.met 𝓤 H 𝓜 𝓖 𝓡)))

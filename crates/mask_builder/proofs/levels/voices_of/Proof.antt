@@ -2,12 +2,13 @@
 use mathlib.Core.Path.{_≡_, ap, _∙_}
 use Prim.Native.Nat.{ℕ, _≤_, _-_}
 use native.Mathlib.Omega.{arith}
-use lib.ListN.{length, getD}
+use lib.ListN.{length, getD, length-replicate}
 use lib.Ieee.{nan}
 use borrow.Author.Needs.{needs}
 use Rattle.lists.specs.Maps.{tabulate}
 use Rattle.lists.specs.Turned.{Turned, turned-none, turned-more, turned-fill}
 use Rattle.scene.specs.Accepted.{noVoice}
+use Rattle.scene.specs.Made.{silentVoice}
 use Rattle.mask_builder.specs.Levels.{levelVoice}
 use Rattle.mask_builder.proofs.levels.voices_of.Statement.{statement}
 use Rattle.mask_builder.proofs.levels.voices_of.Tie as tie
@@ -51,14 +52,14 @@ loop-less c = omega arith
 loop-again : tie.Need-loop-again Inv-loop μ-loop
 loop-again c =
     let b = c .before .before .before in
-    let l : length (b .before .silent-voices .result) ≡ 128 = b .before .silent-voices .ensures in
+    let l : length (b .before .silent-voices .result) ≡ 128 = ap length (b .before .silent-voices .ensures) ∙ length-replicate 128 silentVoice in
     (turned-more noVoice (b .loop .inv .0) (omega arith) (c .level-voice .ensures), omega arith)
 
 returns : tie.Need-returns Inv-loop μ-loop
 returns c =
     let b = c .before in
     let levels = b .before .before .before .args .levels .now in
-    let l : length (b .before .silent-voices .result) ≡ 128 = b .before .silent-voices .ensures in
+    let l : length (b .before .silent-voices .result) ≡ 128 = ap length (b .before .silent-voices .ensures) ∙ length-replicate 128 silentVoice in
     turned-fill (b .loop .inv .0) (omega arith) ∙ ap (λ (n : ℕ). tabulate n (λ note. levelVoice note (getD levels note nan))) l
 
 pub voices-of-spec : {M : Type 1} → statement M

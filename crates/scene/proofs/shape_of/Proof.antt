@@ -1,7 +1,7 @@
--- `spectral_dsp_c::spectral::shape_of` meets its contract, arm by arm. Assumes nothing.
+-- `scene::shape_of` meets its contract, arm by arm. Assumes nothing.
 use borrow.Author.Tests.{ne-eqb}
-use Rattle.spectral_dsp_c.proofs.spectral.shape_of.Statement.{statement}
-use Rattle.spectral_dsp_c.proofs.spectral.shape_of.Tie as tie
+use Rattle.scene.proofs.shape_of.Statement.{statement}
+use Rattle.scene.proofs.shape_of.Tie as tie
 
 returns : tie.Need-returns
 returns c = rw (c .match .keys1)

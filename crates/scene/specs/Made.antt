@@ -1,0 +1,24 @@
+-- A shape by its number, and the voice that sounds nothing. Assumes nothing.
+use mathlib.Core.Bool.{cond}
+use Prim.Native.Nat.{ℕ}
+use lib.Dec.{eqb}
+use Rattle.float32.specs.Remainder.{zero}
+use Rattle.scene.specs.declared.MaskVoice.{MaskVoice}
+use Rattle.scene.specs.declared.MotionShape.{MotionShape}
+use Rattle.scene.specs.declared.MotionShape.the-variants.{Ripple, Harmonic, Drift, Scan, Notch, Saw, Sprinkle, Cloud}
+
+-- in the Rust's order; a number above 7, which no call accepts, counts as the last
+abbrev pub shapeOf : ℕ → MotionShape
+shapeOf n =
+    cond (eqb n 0) Ripple
+    (cond (eqb n 1) Harmonic
+    (cond (eqb n 2) Drift
+    (cond (eqb n 3) Scan
+    (cond (eqb n 4) Notch
+    (cond (eqb n 5) Saw
+    (cond (eqb n 6) Sprinkle
+    Cloud))))))
+
+-- what stands in an array where there is no voice
+abbrev pub silentVoice : MaskVoice
+silentVoice = record { note = 0; level = zero; «tuning_semitones» = zero; pressure = zero; timbre = zero; «volume_gain» = zero; «expression_gain» = zero; pan = zero }
