@@ -1,7 +1,6 @@
 // The open calls of spectral-dsp, under the Rust's names. Each tests what it is given, in the order of document 01's numbers, and then makes one call of the core.
 mod builders;
 pub mod processing;
-mod refusals;
 
 pub use builders::build_mask;
 pub use builders::build_mask_with_voices;
@@ -120,17 +119,7 @@ impl MaskWorkspace {
         ensures { λ r. ⌜ ofOutcome r ≡ prepareReply (length (now (table .entry))) «sample_rate» «fft_size» ⌝ }
         ensures { λ r. ⌜ now (table .exit) ≡ written (ofOutcome r) (tabulate (length (now (table .entry))) (prepared «sample_rate» «fft_size»)) (now (table .entry)) ⌝ }
     {
-        if !limits::size(fft_size) {
-            return Outcome::Refused(1, 0);
-        }
-        if !limits::rate(sample_rate) {
-            return Outcome::Refused(1, 0);
-        }
-        if table.len() != fft_size / 2 + 1 {
-            return Outcome::Refused(4, 0);
-        }
-        frequencies::fill(table, sample_rate, fft_size);
-        Outcome::Done
+        list_calls::prepare_table(table, sample_rate, fft_size)
     }
 }
 
@@ -143,29 +132,5 @@ pub fn advance_note_envelopes(
 ) -> Envelopes
     ensures { λ r. ⌜ ofEnvelopes r ≡ advanceOf levels held «elapsed_seconds» «fade_ms» ⌝ }
 {
-    if !limits::elapsed(elapsed_seconds) {
-        return Envelopes {
-            outcome: Outcome::Refused(2, 0),
-            levels: levels,
-        };
-    }
-    if !limits::fade(fade_ms) {
-        return Envelopes {
-            outcome: Outcome::Refused(2, 0),
-            levels: levels,
-        };
-    }
-    let note = limits::first_outside(&levels, limits::LEAST_LEVEL, limits::MOST_LEVEL);
-    if note < 128 {
-        return Envelopes {
-            outcome: Outcome::Refused(7, note),
-            levels: levels,
-        };
-    }
-    let powers = power::table::power_table();
-    let next = envelopes::advance(&powers, levels, held, elapsed_seconds, fade_ms);
-    Envelopes {
-        outcome: Outcome::Done,
-        levels: next,
-    }
+    list_calls::advance_note_envelopes(levels, held, elapsed_seconds, fade_ms)
 }
