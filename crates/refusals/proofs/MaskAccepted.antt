@@ -1,22 +1,24 @@
 -- What is known of a scene that a mask builder accepts: every test before 'done' was passed. Assumes nothing.
 use mathlib.Core.Path.{_≡_, refl, sym, subst}
-use mathlib.Core.Bool.{Bool, true, false, cond, not, _&&_}
+use mathlib.Core.Bool.{Bool, true, false, cond, not, _&&_, _||_}
 use mathlib.Core.List.{List}
-use Prim.Native.Nat.{ℕ, _≤_}
+use Prim.Native.Nat.{ℕ, _≤_, _<_}
+use native.Mathlib.Nat.{lt-of-lt-of-le, le-trans}
 use native.Mathlib.Omega.{arith}
 use lib.Dec.{T, eqb, ltb, nltb→le, eqb→eq}
-use lib.Ieee.{Float}
+use lib.Ieee.{Float, nan}
 use lib.Ieee.Fits.{and-l, and-r}
-use lib.ListN.{length}
+use lib.ListN.{length, getD, take, length-take}
 use lib.Pow.{pow-mono}
+use Rattle.lists.specs.Folds.{bad-before}
 use Rattle.answer.specs.Reply.{Reply, done, refused}
 use Rattle.limits.specs.Limits as limits
 use Rattle.frequencies.proofs.Sizes.{size-power}
 use Rattle.scene.specs.declared.MaskVoice.{MaskVoice}
 use Rattle.scene.specs.declared.MaskConfig.{MaskConfig}
-use Rattle.scene.specs.Accepted.{sizeAccepted, settingsAccepted, firstVoiceOutside}
+use Rattle.scene.specs.Accepted.{noVoice, sizeAccepted, settingsAccepted, voiceAccepted, firstVoiceOutside}
 use Rattle.masks.specs.Manual.{MANUAL-MASK-POINTS}
-use Rattle.refusals.specs.Masks.{MOST-VOICES, NOTES, bins, first, settingsReply, voicesReply, tableReply, levelsReply, firstEntryOutside, maskReply, voicesMaskReply, tabledMaskReply, stereoReply}
+use Rattle.refusals.specs.Masks.{MOST-VOICES, NOTES, bins, entryAccepted, first, settingsReply, voicesReply, tableReply, levelsReply, firstEntryOutside, maskReply, voicesMaskReply, tabledMaskReply, stereoReply}
 
 -- a reply that is no refusal
 abbrev pub Done : Reply → Type 0
@@ -62,6 +64,22 @@ voices-done voices count lengths d =
 pub table-done : (table : List Float) → Done (tableReply table) → length table ≤ firstEntryOutside table
 unfolding tableReply
 table-done table d = not-below (firstEntryOutside table) (length table) (past (ltb (firstEntryOutside table) (length table)) 6 (firstEntryOutside table) _ d .0)
+
+-- each voice that counts, and each table entry from 1 on, is within its limits
+pub voice-done : (voices : List MaskVoice) (count : ℕ) (lengths : Bool) → Done (voicesReply voices count lengths) → (i : ℕ) → i < length (take count voices)
+    → T (voiceAccepted (getD (take count voices) i noVoice))
+voice-done voices count lengths d i h =
+    bad-before noVoice (λ index voice. voiceAccepted voice) (take count voices) i (lt-of-lt-of-le h (le-trans few (voices-done voices count lengths d .2)))
+  where
+    few : length (take count voices) ≤ count
+    few = rw (length-take count voices) (omega arith)
+
+pub entry-done : (table : List Float) → Done (tableReply table) → (i : ℕ) → 0 < i → i < length table → T (limits.tableEntry (getD table i nan))
+entry-done table d i p h = past-0 (eqb i 0) (eqb→eq i 0) (bad-before nan entryAccepted table i (lt-of-lt-of-le h (table-done table d)))
+  where
+    past-0 : (b : Bool) → (T b → i ≡ 0) → T (b || limits.tableEntry (getD table i nan)) → T (limits.tableEntry (getD table i nan))
+    past-0 true e t = absurd (let z : i ≡ 0 = e tt in omega (arith, p))
+    past-0 false e t = t
 
 pub lengths-done : (levels : List Float) (lengths : Bool) → Done (levelsReply levels lengths) → T lengths
 unfolding levelsReply
@@ -131,3 +149,7 @@ module _ (curve : List Float) (config : MaskConfig) where
       stereo-accepted m n d =
           let a = tabled (eqb m (bins config) && eqb n (bins config)) d in
           (a .0, a .1, a .2, eqb→eq _ _ (and-l (eqb m (bins config)) (eqb n (bins config)) (a .3)), eqb→eq _ _ (and-r (eqb m (bins config)) (eqb n (bins config)) (a .3)))
+
+      pub stereo-settings : (m n : ℕ) → Done (stereoReply m n curve voices count config table) → T (sizeAccepted config) × T (settingsAccepted config)
+      unfolding stereoReply
+      stereo-settings m n d = settings-done config (both-done (settingsReply config) _ d .0)

@@ -18,7 +18,7 @@ use Rattle.scene.specs.declared.MaskConfig.{MaskConfig}
 use Rattle.scene.specs.Accepted.{noVoice}
 use Rattle.scene.proofs.MaskVoice as voice-type
 use Rattle.scene.proofs.MaskConfig as config-type
-use Rattle.chord_law.specs.Calls.{F32Voice, F32Settings}
+use Rattle.mask_calls.specs.F32.{F32Voice, F32Settings, F32Voices}
 
 held : {b : Bool} → b ≡ true → T b
 held e = subst T (sym e) tt
@@ -43,7 +43,7 @@ voice-f32 voice vs told =
       pan = held (f .1 .1 .1 .1 .1 .1 .0 .1);
     }
 
-pub voices-f32 : (n : ℕ) (voices : List MaskVoice) (vs : List Val) → Is (Array (row voice-type.the-type) n) voices vs → (i : ℕ) → i < length voices → F32Voice (getD voices i noVoice)
+pub voices-f32 : (n : ℕ) (voices : List MaskVoice) (vs : List Val) → Is (Array (row voice-type.the-type) n) voices vs → F32Voices voices
 voices-f32 n voices vs told i h =
     let e = each-at MaskVoice (row voice-type.the-type .own) voices (told .0) (told .1 .1) i noVoice h in
     voice-f32 (getD voices i noVoice) (e .0 ∷ []) (e .1)

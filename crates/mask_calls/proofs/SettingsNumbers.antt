@@ -1,32 +1,20 @@
--- The numbers of an accepted call are finite: its voices, as the laws of lobes take them, its settings and its table entries. Assumes nothing.
-use mathlib.Core.Path.{sym, subst}
+-- The numbers of accepted settings are finite. Assumes nothing.
 use mathlib.Core.Bool.{Bool, _&&_}
-use mathlib.Core.List.{List}
-use Prim.Native.Nat.{ℕ, _<_}
-use native.Mathlib.Omega.{arith}
 use lib.Dec.{T}
 use lib.Count.{trailingZeros}
-use lib.ListN.{length, getD, take, length-take}
-use lib.Seq.{getD-take}
-use lib.Ieee.{nan, binary32, fits, odd, ofBits, ofFields}
+use lib.Ieee.{binary32, fits, odd, ofBits, ofFields}
 use lib.Ieee.Fits.{and-l, and-r}
-use Rattle.lists.specs.Totals.{All}
 use Rattle.float_laws.specs.Units.{number, real, real-number}
 use Rattle.float32.specs.Order.{within}
 use Rattle.float32.proofs.Limits.{within-number, within-real}
 use Rattle.limits.specs.Limits as limits
-use Rattle.limits.specs.Limits.{LEAST-RATE, MOST-RATE, LEAST-NOTE-DEPTH, MOST-NOTE-DEPTH, LEAST-WIDTH, MOST-WIDTH, LEAST-ROLLOFF, MOST-ROLLOFF, LEAST-TABLE-ENTRY, MOST-TABLE-ENTRY}
-use Rattle.scene.specs.declared.MaskVoice.{MaskVoice}
+use Rattle.limits.specs.Limits.{LEAST-RATE, MOST-RATE, LEAST-NOTE-DEPTH, MOST-NOTE-DEPTH, LEAST-WIDTH, MOST-WIDTH, LEAST-ROLLOFF, MOST-ROLLOFF}
 use Rattle.scene.specs.declared.MaskConfig.{MaskConfig}
-use Rattle.scene.specs.Accepted.{noVoice, sizeAccepted, settingsAccepted, motionAccepted}
-use Rattle.scene.proofs.Voices.{RealVoice, accepted-real}
+use Rattle.scene.specs.Accepted.{sizeAccepted, settingsAccepted, motionAccepted}
 use Rattle.scene.proofs.Settings.{depth-real, phase-real, size-real}
-use Rattle.openness.proofs.Entries.{all-places}
 use Rattle.mask_builder.proofs.Rising.{RealSettings}
-use Rattle.chord_law.specs.Calls.{Call, Accepted, given, F32Voice, F32Settings, F32Call}
-use Rattle.chord_law.proofs.Acceptance.{voice-accepted, entry-accepted}
+use Rattle.mask_calls.specs.F32.{F32Settings}
 
--- ---- the settings
 module _ (config : MaskConfig) (s : T (sizeAccepted config)) (t : T (settingsAccepted config)) (f : F32Settings config) where
   abbrev notes : Bool
   notes = limits.noteDepth (config .«note_depth_db») && limits.width (config .«width_cents»)
@@ -88,20 +76,3 @@ module _ (config : MaskConfig) (s : T (sizeAccepted config)) (t : T (settingsAcc
 
   pub real-settings : RealSettings config
   real-settings = record { note-depth = f .note-depth; rolloff = rolloff-real; motion-depth = motion-depth-real }
-
--- ---- the voices
-module _ (call : Call) (accepted : Accepted call) (f : F32Call call) where
-  given-few : (n : ℕ) (voices : List MaskVoice) (i : ℕ) → i < length (take n voices) → (i < n) × (i < length voices)
-  given-few n voices i h = let e = length-take n voices in (omega arith, omega arith)
-
-  pub given-real : (i : ℕ) → i < length (given call) → RealVoice (getD (given call) i noVoice)
-  given-real i h =
-      let l = given-few (call .count) (call .voices) i h in
-      let v = subst F32Voice (sym (getD-take (call .count) (call .voices) i noVoice (l .0))) (f .voices i (l .1)) in
-      accepted-real (getD (given call) i noVoice) (voice-accepted call accepted i h) (v .level) (v .tuning) (v .pressure) (v .timbre) (v .volume) (v .expression) (v .pan)
-
-  pub all-real : All RealVoice (given call)
-  all-real = all-places RealVoice noVoice (given call) given-real
-
-  pub entry-number : (i : ℕ) → 0 < i → i < length (call .table) → T (number binary32 (getD (call .table) i nan))
-  entry-number i p h = within-number LEAST-TABLE-ENTRY MOST-TABLE-ENTRY (getD (call .table) i nan) (entry-accepted call accepted i p h) binary32 (f .table i h)
