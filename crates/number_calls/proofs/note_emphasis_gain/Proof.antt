@@ -2,9 +2,9 @@
 use mathlib.Core.Path.{sym, _∙_}
 use borrow.Author.Needs.{needs}
 use borrow.Author.Tests.{not-true, not-false}
-use Rattle.spectral_dsp.specs.Gates.{noteEmphasisGain}
-use Rattle.spectral_dsp.proofs.note_emphasis_gain.Statement.{statement}
-use Rattle.spectral_dsp.proofs.note_emphasis_gain.Tie as tie
+use Rattle.number_calls.specs.Gates.{noteEmphasisGain}
+use Rattle.number_calls.proofs.note_emphasis_gain.Statement.{statement}
+use Rattle.number_calls.proofs.note_emphasis_gain.Tie as tie
 
 width-requires : tie.Need-width-requires
 width-requires c κs = search needs

@@ -2,9 +2,9 @@
 use mathlib.Core.Path.{sym, _∙_}
 use borrow.Author.Needs.{needs}
 use borrow.Author.Tests.{not-true, not-false, eq-eqb, ne-eqb}
-use Rattle.spectral_dsp.specs.Gates.{manualGainAtBin}
-use Rattle.spectral_dsp.proofs.manual_gain_at_bin.Statement.{statement}
-use Rattle.spectral_dsp.proofs.manual_gain_at_bin.Tie as tie
+use Rattle.number_calls.specs.Gates.{manualGainAtBin}
+use Rattle.number_calls.proofs.manual_gain_at_bin.Statement.{statement}
+use Rattle.number_calls.proofs.manual_gain_at_bin.Tie as tie
 
 size-requires : tie.Need-size-requires
 size-requires c κs = search needs

@@ -1,8 +1,8 @@
 -- `spectral_dsp::motion_compensation_gain` meets its contract: a refusal where the test fails, else what the core ensures. Assumes nothing.
 use borrow.Author.Tests.{not-true, not-false}
 use borrow.Author.Needs.{needs}
-use Rattle.spectral_dsp.proofs.motion_compensation_gain.Statement.{statement}
-use Rattle.spectral_dsp.proofs.motion_compensation_gain.Tie as tie
+use Rattle.number_calls.proofs.motion_compensation_gain.Statement.{statement}
+use Rattle.number_calls.proofs.motion_compensation_gain.Tie as tie
 
 motion-accepted-requires : tie.Need-motion-accepted-requires
 motion-accepted-requires c κs = search needs

@@ -2,9 +2,9 @@
 use mathlib.Core.Path.{sym, _∙_}
 use borrow.Author.Needs.{needs}
 use borrow.Author.Tests.{not-true, not-false}
-use Rattle.spectral_dsp.specs.Gates.{noteGateGain}
-use Rattle.spectral_dsp.proofs.note_gate_gain.Statement.{statement}
-use Rattle.spectral_dsp.proofs.note_gate_gain.Tie as tie
+use Rattle.number_calls.specs.Gates.{noteGateGain}
+use Rattle.number_calls.proofs.note_gate_gain.Statement.{statement}
+use Rattle.number_calls.proofs.note_gate_gain.Tie as tie
 
 note-depth-requires : tie.Need-note-depth-requires
 note-depth-requires c κs = search needs
