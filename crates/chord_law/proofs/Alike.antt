@@ -19,11 +19,12 @@ use Rattle.scene.proofs.Voices.{RealVoice}
 use Rattle.lobes.proofs.Raised.{Raised}
 use Rattle.lobes.proofs.ZeroSigns.{SameTable, pitch-same, timbre-same, balance-same}
 use Rattle.mask_builder.proofs.ZeroSigns.{SameConfig}
-use Rattle.chord_law.specs.Calls.{Call, Accepted, F32Settings, F32Call}
+use Rattle.chord_law.specs.Calls.{Call, Accepted, F32Call}
 use Rattle.chord_law.specs.Voices.{NoLower, Matched}
 use Rattle.chord_law.specs.Settings.{SameSettings, SameEntries}
-use Rattle.chord_law.proofs.Numbers as numbers
-use Rattle.chord_law.proofs.Acceptance.{table-length}
+use Rattle.mask_calls.specs.F32.{F32Settings}
+use Rattle.mask_calls.proofs.SettingsNumbers as numbers
+use Rattle.chord_law.proofs.Acceptance.{table-length, entry-number}
 
 -- ---- equal numbers that a least one above 0 is below are the same
 pub record Above (least : Float) : Type 0 where
@@ -78,7 +79,7 @@ module _ (a b : Call) (p : Accepted a) (q : Accepted b) (f : F32Call a) (g : F32
   same-table e h bin l m =
       let k : bin < length (a .table) = omega (arith, table-length a p) in
       let k' : bin < length (b .table) = omega (arith, same-lengths e) in
-      eq-same binary32 (getD (a .table) bin nan) (getD (b .table) bin nan) (numbers.entry-number a p f bin l k) (numbers.entry-number b q g bin l k') (h bin l k)
+      eq-same binary32 (getD (a .table) bin nan) (getD (b .table) bin nan) (entry-number a p f bin l k) (entry-number b q g bin l k') (h bin l k)
 
 -- ---- a voice
 no-lower : (x y : Float) → T (real binary32 x) → T (real binary32 y) → NoLower x y → T (le x y)

@@ -31,8 +31,8 @@ use Rattle.chord_law.specs.Curves.{NoNan}
 use Rattle.chord_law.specs.Masks.{NotAbove, EqualMasks}
 use Rattle.chord_law.specs.Premises.{Comparable, Beneath}
 use Rattle.chord_law.specs.Law.{ChordLaw, ChordLawEqual}
-use Rattle.chord_law.proofs.Acceptance.{size-accepted, settings-accepted, curve-length}
-use Rattle.chord_law.proofs.Numbers as numbers
+use Rattle.chord_law.proofs.Acceptance.{size-accepted, settings-accepted, curve-length, given-real, all-real}
+use Rattle.mask_calls.proofs.SettingsNumbers as numbers
 use Rattle.chord_law.proofs.Alike.{same-config, same-table, matched-raised}
 use Rattle.chord_law.proofs.Turned.{turned}
 
@@ -77,15 +77,15 @@ module _ (a b : Call) (fa : F32Call a) (fb : F32Call b) (c : Comparable a b) (u 
         place = m .place;
         there = m .there;
         above =
-            matched-raised (getD (given a) i noVoice) (getD (given b) (m .place) noVoice) (numbers.given-real a (c .a-accepted) fa i h)
-            (numbers.given-real b (c .b-accepted) fb (m .place) (m .there)) (m .matches);
+            matched-raised (getD (given a) i noVoice) (getD (given b) (m .place) noVoice) (given-real a (c .a-accepted) fa i h)
+            (given-real b (c .b-accepted) fb (m .place) (m .there)) (m .matches);
       }
 
   module _ (side : Side) where
     on-B : (bin : ℕ) → Rise binary32 7 (maskAt (a .curve) B (lent (b .table)) side (given a) bin) (maskAt (b .curve) B (lent (b .table)) side (given b) bin)
     on-B bin =
         mask-rises B (numbers.real-settings B (size-accepted b (c .b-accepted)) (settings-accepted b (c .b-accepted)) (fb .settings)) (b .table) side (given a) (given b)
-        (numbers.all-real a (c .a-accepted) fa) (numbers.all-real b (c .b-accepted) fb) raised (a .curve) (b .curve) bin (manual bin)
+        (all-real a (c .a-accepted) fa) (all-real b (c .b-accepted) fb) raised (a .curve) (b .curve) bin (manual bin)
 
     from-A : (bin : ℕ) → maskAt (a .curve) A (lent (a .table)) side (given a) bin ≡ maskAt (a .curve) B (lent (b .table)) side (given a) bin
     from-A bin =

@@ -9,11 +9,12 @@ use Rattle.float_laws.specs.Units.{real-number}
 use Rattle.float_laws.specs.Order.{eq-sym-f}
 use Rattle.scene.specs.declared.MaskConfig.{MaskConfig}
 use Rattle.scene.specs.Accepted.{sizeAccepted, settingsAccepted}
-use Rattle.chord_law.specs.Calls.{Call, F32Settings, F32Call}
+use Rattle.chord_law.specs.Calls.{Call, F32Call}
 use Rattle.chord_law.specs.Settings.{SameSettings, SameEntries}
 use Rattle.chord_law.specs.Premises.{Comparable}
-use Rattle.chord_law.proofs.Acceptance.{size-accepted, settings-accepted}
-use Rattle.chord_law.proofs.Numbers as numbers
+use Rattle.chord_law.proofs.Acceptance.{size-accepted, settings-accepted, entry-number}
+use Rattle.mask_calls.specs.F32.{F32Settings}
+use Rattle.mask_calls.proofs.SettingsNumbers as numbers
 use Rattle.chord_law.proofs.Alike.{same-lengths}
 
 settings-turned : (a b : MaskConfig) → T (sizeAccepted a) → T (sizeAccepted b) → T (settingsAccepted a) → T (settingsAccepted b) → F32Settings a → F32Settings b → SameSettings a b → SameSettings b a
@@ -44,7 +45,7 @@ module _ (a b : Call) (fa : F32Call a) (fb : F32Call b) (c : Comparable a b) whe
   entries-turned i l h =
       let e = same-lengths a b (c .a-accepted) (c .b-accepted) fa fb (c .settings .size) in
       let k : i < length (a .table) = omega arith in
-      eq-sym-f binary32 (getD (a .table) i nan) (getD (b .table) i nan) (numbers.entry-number a (c .a-accepted) fa i l k) (numbers.entry-number b (c .b-accepted) fb i l h) (c .table i l k)
+      eq-sym-f binary32 (getD (a .table) i nan) (getD (b .table) i nan) (entry-number a (c .a-accepted) fa i l k) (entry-number b (c .b-accepted) fb i l h) (c .table i l k)
 
   pub turned : Comparable b a
   turned =

@@ -1,18 +1,17 @@
 -- What one stereo call is given, when it is accepted, and the masks that it then writes. Assumes nothing.
 use mathlib.Core.Path.{_≡_}
 use mathlib.Core.List.{List, []}
-use Prim.Native.Nat.{ℕ, _<_}
-use lib.Dec.{T}
-use lib.ListN.{length, getD, take}
-use lib.Ieee.{Float, nan, binary32, fits}
+use Prim.Native.Nat.{ℕ}
+use lib.ListN.{take}
+use lib.Ieee.{Float}
 use Rattle.answer.specs.Reply.{Reply, done}
 use Rattle.scene.specs.declared.MaskVoice.{MaskVoice}
 use Rattle.scene.specs.declared.MaskConfig.{MaskConfig}
-use Rattle.scene.specs.Accepted.{noVoice}
 use Rattle.lobes.specs.Pan.{Side}
 use Rattle.lobes.specs.Distance.{lent}
 use Rattle.mask_builder.specs.Mask.{maskOf}
 use Rattle.spectral_dsp.specs.Masks.{stereoReply}
+use Rattle.mask_calls.specs.F32.{F32Settings, F32Voices, F32List}
 
 -- the two slices that are written have these lengths; what they held before does not count
 pub record Call : Type 0 where
@@ -43,30 +42,9 @@ given call = take (call .count) (call .voices)
 abbrev pub maskOn : Side → Call → List Float
 maskOn side call = maskOf (call .curve) (call .config) (lent (call .table)) side (given call)
 
--- ---- every number of the call is an f32, which is what the types of its parameters say
-abbrev F32 : Float → Type 0
-F32 x = T (fits binary32 x)
-
-pub record F32Voice (voice : MaskVoice) : Type 0 where
-  pub level : F32 (voice .level)
-  pub tuning : F32 (voice .«tuning_semitones»)
-  pub pressure : F32 (voice .pressure)
-  pub timbre : F32 (voice .timbre)
-  pub volume : F32 (voice .«volume_gain»)
-  pub expression : F32 (voice .«expression_gain»)
-  pub pan : F32 (voice .pan)
-
-pub record F32Settings (config : MaskConfig) : Type 0 where
-  pub rate : F32 (config .«sample_rate»)
-  pub note-depth : F32 (config .«note_depth_db»)
-  pub width : F32 (config .«width_cents»)
-  pub rolloff : F32 (config .«harmonic_rolloff_db_per_octave»)
-  pub motion-depth : F32 (config .motion .«depth_db»)
-  pub phase : F32 (config .motion .phase)
-  pub motion-size : F32 (config .motion .«size_octaves»)
-
+-- ---- every number of the call is an f32
 pub record F32Call (call : Call) : Type 0 where
-  pub curve : (i : ℕ) → i < length (call .curve) → F32 (getD (call .curve) i nan)
-  pub voices : (i : ℕ) → i < length (call .voices) → F32Voice (getD (call .voices) i noVoice)
+  pub curve : F32List (call .curve)
+  pub voices : F32Voices (call .voices)
   pub settings : F32Settings (call .config)
-  pub table : (i : ℕ) → i < length (call .table) → F32 (getD (call .table) i nan)
+  pub table : F32List (call .table)

@@ -15,7 +15,7 @@ use Rattle.scene.specs.declared.MaskVoice.{MaskVoice}
 use Rattle.scene.specs.declared.MaskConfig.{MaskConfig}
 use Rattle.scene.specs.Accepted.{voiceAccepted}
 use Rattle.spectral_dsp.specs.Masks.{MOST-VOICES, first, settingsReply, voicesReply, tableReply, voicesMaskReply, tabledMaskReply, stereoReply}
-use Rattle.spectral_dsp.proofs.MaskAccepted.{Done, both-done, voices-done}
+use Rattle.refusals.proofs.MaskAccepted.{Done, both-done, voices-done}
 use Rattle.lent_voices.specs.Gathered.{gathered}
 use Rattle.lent_voices.proofs.Gathered.{take-gathered}
 

@@ -1,7 +1,6 @@
-// The open calls of spectral-dsp, under the Rust's names. Each tests what it is given, in the order of document 01's numbers, and then makes one call of the core.
+// The open calls of spectral-dsp, under the Rust's names. What each does, its tests and its one call of the core, stands in `number_calls`, `list_calls` and `mask_calls`.
 mod builders;
 pub mod processing;
-mod refusals;
 
 pub use builders::build_mask;
 pub use builders::build_mask_with_voices;
@@ -21,94 +20,48 @@ ghost use Rattle.spectral_dsp.specs.Prepared.{prepareReply};
 use answer::Answer;
 use answer::Envelopes;
 use answer::Outcome;
-use masks::manual::MANUAL_MASK_POINTS;
 use scene::MotionConfig;
 
 // The lift of a fully open note centre: 6 dB for a narrow note, none for the widest.
 pub fn note_emphasis_gain(width_cents: f32) -> Answer
     ensures { λ r. ⌜ ofAnswer r ≡ noteEmphasisGain «width_cents» ⌝ }
 {
-    if !limits::width(width_cents) {
-        return Answer::Refused(2, 0);
-    }
-    let powers = power::table::power_table();
-    Answer::Gain(masks::gates::emphasis(&powers, width_cents))
+    number_calls::note_emphasis_gain(width_cents)
 }
 
 // Gain of the complete note layer at one bin. Closed regions follow the note depth while fully open note centres retain their width-compensated lift.
 pub fn note_gate_gain(note_depth_db: f32, width_cents: f32, openness: f32) -> Answer
     ensures { λ r. ⌜ ofAnswer r ≡ noteGateGain «note_depth_db» «width_cents» openness ⌝ }
 {
-    if !limits::note_depth(note_depth_db) {
-        return Answer::Refused(2, 0);
-    }
-    if !limits::width(width_cents) {
-        return Answer::Refused(2, 0);
-    }
-    if !float32::order::is_finite(openness) {
-        return Answer::Refused(2, 0);
-    }
-    let powers = power::table::power_table();
-    Answer::Gain(masks::gates::gate(&powers, note_depth_db, width_cents, openness))
+    number_calls::note_gate_gain(note_depth_db, width_cents, openness)
 }
 
 // Gain that the drawn curve gives a bin.
 pub fn manual_gain_at_bin(mask_db: &[f32], bin: usize, fft_size: usize) -> Answer
     ensures { λ r. ⌜ ofAnswer r ≡ manualGainAtBin (now («mask_db» .entry)) bin «fft_size» ⌝ }
 {
-    if !limits::size(fft_size) {
-        return Answer::Refused(1, 0);
-    }
-    if !limits::bin(bin) {
-        return Answer::Refused(2, 0);
-    }
-    if mask_db.len() != MANUAL_MASK_POINTS {
-        return Answer::Refused(4, 0);
-    }
-    let powers = power::table::power_table();
-    Answer::Gain(masks::manual::manual_gain(&powers, mask_db, bin, fft_size))
+    number_calls::manual_gain_at_bin(mask_db, bin, fft_size)
 }
 
 // How open the moving field is at a frequency: 1 is the crest, and 0 receives the whole attenuation.
 pub fn motion_openness(frequency: f32, config: MotionConfig) -> Answer
     ensures { λ r. ⌜ ofAnswer r ≡ opennessReply frequency config ⌝ }
 {
-    if !limits::frequency(frequency) {
-        return Answer::Refused(2, 0);
-    }
-    if !scene::motion_accepted(config) {
-        return Answer::Refused(2, 0);
-    }
-    let powers = power::table::power_table();
-    let sines = sine::table::sine_table();
-    Answer::Gain(motion::field::openness(&powers, &sines, frequency, config))
+    number_calls::motion_openness(frequency, config)
 }
 
 // The moving field's attenuation at a frequency, in decibels.
 pub fn motion_attenuation_db(frequency: f32, config: MotionConfig) -> Answer
     ensures { λ r. ⌜ ofAnswer r ≡ attenuationReply frequency config ⌝ }
 {
-    if !limits::frequency(frequency) {
-        return Answer::Refused(2, 0);
-    }
-    if !scene::motion_accepted(config) {
-        return Answer::Refused(2, 0);
-    }
-    let powers = power::table::power_table();
-    let sines = sine::table::sine_table();
-    Answer::Gain(motion::field::attenuation_db(&powers, &sines, frequency, config))
+    number_calls::motion_attenuation_db(frequency, config)
 }
 
 // The gain that makes up for the moving field, over the whole spectrum.
 pub fn motion_compensation_gain(config: MotionConfig) -> Answer
     ensures { λ r. ⌜ ofAnswer r ≡ compensationReply config ⌝ }
 {
-    if !scene::motion_accepted(config) {
-        return Answer::Refused(2, 0);
-    }
-    let powers = power::table::power_table();
-    let sines = sine::table::sine_table();
-    Answer::Gain(motion::compensation::compensation_gain(&powers, &sines, config))
+    number_calls::motion_compensation_gain(config)
 }
 
 // The frequency table, which the caller holds and lends.
@@ -120,17 +73,7 @@ impl MaskWorkspace {
         ensures { λ r. ⌜ ofOutcome r ≡ prepareReply (length (now (table .entry))) «sample_rate» «fft_size» ⌝ }
         ensures { λ r. ⌜ now (table .exit) ≡ written (ofOutcome r) (tabulate (length (now (table .entry))) (prepared «sample_rate» «fft_size»)) (now (table .entry)) ⌝ }
     {
-        if !limits::size(fft_size) {
-            return Outcome::Refused(1, 0);
-        }
-        if !limits::rate(sample_rate) {
-            return Outcome::Refused(1, 0);
-        }
-        if table.len() != fft_size / 2 + 1 {
-            return Outcome::Refused(4, 0);
-        }
-        frequencies::fill(table, sample_rate, fft_size);
-        Outcome::Done
+        list_calls::prepare_table(table, sample_rate, fft_size)
     }
 }
 
@@ -143,29 +86,5 @@ pub fn advance_note_envelopes(
 ) -> Envelopes
     ensures { λ r. ⌜ ofEnvelopes r ≡ advanceOf levels held «elapsed_seconds» «fade_ms» ⌝ }
 {
-    if !limits::elapsed(elapsed_seconds) {
-        return Envelopes {
-            outcome: Outcome::Refused(2, 0),
-            levels: levels,
-        };
-    }
-    if !limits::fade(fade_ms) {
-        return Envelopes {
-            outcome: Outcome::Refused(2, 0),
-            levels: levels,
-        };
-    }
-    let note = limits::first_outside(&levels, limits::LEAST_LEVEL, limits::MOST_LEVEL);
-    if note < 128 {
-        return Envelopes {
-            outcome: Outcome::Refused(7, note),
-            levels: levels,
-        };
-    }
-    let powers = power::table::power_table();
-    let next = envelopes::advance(&powers, levels, held, elapsed_seconds, fade_ms);
-    Envelopes {
-        outcome: Outcome::Done,
-        levels: next,
-    }
+    list_calls::advance_note_envelopes(levels, held, elapsed_seconds, fade_ms)
 }

@@ -1,40 +1,16 @@
 // The open calls on windows and gain lists: numerical spectral processing.
 ghost use mathlib.Core.Path.{_≡_};
 ghost use mathlib.Core.List.{[]};
-ghost use Prim.Native.Nat.{_≤_};
 ghost use lib.ListN.{length};
 ghost use Rattle.answer.specs.Reply.{done, ofOutcome, ofPrepared};
 ghost use Rattle.answer.specs.Written.{written};
 ghost use Rattle.windows.specs.Windows.{dualOf};
 ghost use Rattle.smoothing.specs.Smoothing.{softenedOf, smoothedOf};
-ghost use Rattle.prepared_spectrum.specs.Block.{blockLength, blockOf};
-ghost use Rattle.spectral_dsp.specs.Processing.{windowLength, gainsLength, dualReply, softenReply, smoothReply, preparedReply};
+ghost use Rattle.prepared_spectrum.specs.Block.{blockOf};
+ghost use Rattle.spectral_dsp.specs.Processing.{dualReply, softenReply, smoothReply, preparedReply};
 ghost use Rattle.spectral_dsp.specs.DualWindow.{IsDual};
 use answer::Outcome;
 use answer::Prepared;
-use limits::LEAST_GAIN;
-use limits::LEAST_WINDOW_VALUE;
-use limits::MOST_GAIN;
-use limits::MOST_WINDOW_VALUE;
-
-fn window_length(n: usize) -> bool
-    ensures { λ r. ⌜ r ≡ windowLength n ⌝ }
-{
-    if 1 <= n { n <= 16384 } else { false }
-}
-
-fn gains_length(n: usize) -> bool
-    ensures { λ r. ⌜ r ≡ gainsLength n ⌝ }
-{
-    n <= 8193
-}
-
-fn block_length(size: usize) -> usize
-    requires { ⌜ size ≤ 16384 ⌝ }
-    ensures { λ r. ⌜ r ≡ blockLength size ⌝ }
-{
-    4 * size + size / 2 + 1
-}
 
 // Build the canonical dual window for the given overlap.
 pub fn build_dual_synthesis_window(
@@ -46,22 +22,7 @@ pub fn build_dual_synthesis_window(
     ensures { λ r. ⌜ now (synthesis .exit) ≡ written (ofOutcome r) (dualOf (now (analysis .entry)) overlap) (now (synthesis .entry)) ⌝ }
     ensures { λ r. ⌜ (ofOutcome r ≡ done [] → IsDual (now (analysis .entry)) (now (synthesis .exit)) overlap) ⌝ }
 {
-    let length = analysis.len();
-    if !window_length(length) {
-        return Outcome::Refused(4, 0);
-    }
-    if length != synthesis.len() {
-        return Outcome::Refused(4, 0);
-    }
-    let index = limits::first_outside(analysis, LEAST_WINDOW_VALUE, MOST_WINDOW_VALUE);
-    if index < length {
-        return Outcome::Refused(7, index);
-    }
-    if !limits::overlap(overlap, length) {
-        return Outcome::Refused(8, 0);
-    }
-    windows::dual_window(analysis, synthesis, overlap);
-    Outcome::Done
+    list_calls::build_dual_synthesis_window(analysis, synthesis, overlap)
 }
 
 // Smooth adjacent gain bins in decibels, retaining the edge bins.
@@ -69,19 +30,7 @@ pub fn soften_spectral_edges(source: &[f32], output: &mut [f32]) -> Outcome
     ensures { λ r. ⌜ ofOutcome r ≡ softenReply (now (source .entry)) (length (now (output .entry))) ⌝ }
     ensures { λ r. ⌜ now (output .exit) ≡ written (ofOutcome r) (softenedOf (now (source .entry))) (now (output .entry)) ⌝ }
 {
-    let length = source.len();
-    if !gains_length(length) {
-        return Outcome::Refused(4, 0);
-    }
-    if length != output.len() {
-        return Outcome::Refused(4, 0);
-    }
-    let bin = limits::first_outside(source, LEAST_GAIN, MOST_GAIN);
-    if bin < length {
-        return Outcome::Refused(7, bin);
-    }
-    smoothing::soften(source, output);
-    Outcome::Done
+    list_calls::soften_spectral_edges(source, output)
 }
 
 // Approach a target gain mask with a 30 ms time constant.
@@ -89,22 +38,7 @@ pub fn smooth_mask_in_db(current: &mut [f32], target: &[f32], elapsed_seconds: f
     ensures { λ r. ⌜ ofOutcome r ≡ smoothReply (now (current .entry)) (now (target .entry)) «elapsed_seconds» ⌝ }
     ensures { λ r. ⌜ now (current .exit) ≡ written (ofOutcome r) (smoothedOf (now (current .entry)) (now (target .entry)) «elapsed_seconds») (now (current .entry)) ⌝ }
 {
-    if !limits::elapsed(elapsed_seconds) {
-        return Outcome::Refused(2, 0);
-    }
-    let length = current.len();
-    if !gains_length(length) {
-        return Outcome::Refused(4, 0);
-    }
-    if length != target.len() {
-        return Outcome::Refused(4, 0);
-    }
-    let place = limits::first_pair_outside(current, target, LEAST_GAIN, MOST_GAIN);
-    if place < length {
-        return Outcome::Refused(7, place);
-    }
-    smoothing::smooth(current, target, elapsed_seconds);
-    Outcome::Done
+    list_calls::smooth_mask_in_db(current, target, elapsed_seconds)
 }
 
 // Prepared analysis and synthesis windows and frequency lookup for one size, in a block that the caller holds and lends.
@@ -122,35 +56,6 @@ impl PreparedSpectrum {
         ensures { λ r. ⌜ ofPrepared r ≡ preparedReply «sample_rate» (now (window .entry)) (now («smooth_analysis_window» .entry)) overlap (length (now (block .entry))) ⌝ }
         ensures { λ r. ⌜ now (block .exit) ≡ written (ofPrepared r) (blockOf «sample_rate» (now (window .entry)) (now («smooth_analysis_window» .entry)) overlap) (now (block .entry)) ⌝ }
     {
-        let size = window.len();
-        if !limits::size(size) {
-            return Prepared::Refused(1, 0);
-        }
-        if !limits::rate(sample_rate) {
-            return Prepared::Refused(1, 0);
-        }
-        if size != smooth_analysis_window.len() {
-            return Prepared::Refused(4, 0);
-        }
-        if block.len() != block_length(size) {
-            return Prepared::Refused(4, 0);
-        }
-        let index = limits::first_pair_outside(
-            window,
-            smooth_analysis_window,
-            LEAST_WINDOW_VALUE,
-            MOST_WINDOW_VALUE,
-        );
-        if index < size {
-            return Prepared::Refused(7, index);
-        }
-        if !limits::overlap(overlap, size) {
-            return Prepared::Refused(8, 0);
-        }
-        prepared_spectrum::fill_block(sample_rate, window, smooth_analysis_window, overlap, block);
-        Prepared::Gains(
-            windows::coherent_gain(window),
-            windows::coherent_gain(smooth_analysis_window),
-        )
+        list_calls::prepare_spectrum(sample_rate, window, smooth_analysis_window, overlap, block)
     }
 }

@@ -10,7 +10,7 @@ use Rattle.answer.specs.Reply.{Reply, refused}
 use Rattle.scene.specs.declared.MaskConfig.{MaskConfig}
 use Rattle.scene.specs.Accepted.{sizeAccepted}
 use Rattle.answer.specs.Written.{written}
-use Rattle.spectral_dsp.proofs.MaskAccepted.{Done}
+use Rattle.refusals.proofs.MaskAccepted.{Done}
 use Rattle.spectral_dsp_c.specs.declared.builders.Settings.{Settings}
 use Rattle.spectral_dsp_c.specs.MaskSettings.{configOf, withSettings}
 

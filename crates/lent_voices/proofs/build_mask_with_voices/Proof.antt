@@ -51,7 +51,7 @@ use Rattle.lobes.specs.Distance.{none}
 use Rattle.lobes.specs.Pan as side
 use Rattle.mask_builder.specs.Mask.{maskOf}
 use Rattle.spectral_dsp.specs.Masks.{voicesMaskReply}
-use Rattle.spectral_dsp.proofs.MaskAccepted.{Done}
+use Rattle.refusals.proofs.MaskAccepted.{Done}
 use Rattle.spectral_dsp.proofs.build_mask_with_voices as core
 use Rattle.spectral_dsp.proofs.build_mask_with_voices.Symbol as core-def
 use Rattle.spectral_dsp.proofs.build_mask_with_voices.Symbol.{name as #core}

@@ -1,0 +1,64 @@
+-- `prepare_table` answers as the chain of its tests says, leaves the table as it was where it refuses, and fills it where it is done. Assumes nothing.
+use mathlib.Core.Path.{refl}
+use native.Mathlib.Omega.{arith}
+use borrow.Author.Needs.{needs}
+use Rattle.refusals.proofs.Tests.{fails, passes, differ, agree}
+use Rattle.list_calls.proofs.Accepted.{passed, size-at-most}
+use Rattle.list_calls.proofs.prepare_table.Statement.{statement}
+use Rattle.list_calls.proofs.prepare_table.Tie as tie
+
+size-requires : tie.Need-size-requires
+size-requires c κs = search needs
+
+returns : tie.Need-returns
+returns c = (fails _ _ (c .before .size .ensures) (c .if1 .taken), refl)
+
+rate-requires : tie.Need-rate-requires
+rate-requires c κs = search needs
+
+returns-2 : tie.Need-returns-2
+returns-2 c =
+    let s = c .before .before in
+    (passes _ _ (s .before .size .ensures) (s .if1 .left) (fails _ _ (c .before .rate .ensures) (c .if2 .taken)), refl)
+
+add-if3 : tie.Need-add-if3
+add-if3 c = search needs
+
+returns-3 : tie.Need-returns-3
+returns-3 c =
+    let r = c .before in
+    let s = r .before .before in
+    (passes _ _ (s .before .size .ensures) (s .if1 .left) (passes _ _ (r .before .rate .ensures) (r .if2 .left) (differ _ _ (c .if3 .taken))), refl)
+
+fill-requires : tie.Need-fill-requires
+fill-requires c κs =
+    let t = c .before in
+    let s = t .before .before .before in
+    let small = size-at-most (s .before .before .before .args .fft-size) (passed (s .before .size .ensures) (s .if1 .left)) in
+    (omega arith, omega arith)
+
+same-length : tie.Need-same-length
+same-length c = search needs
+
+returns-4 : tie.Need-returns-4
+returns-4 c =
+    let t = c .before .before .before .before in
+    let r = t .before in
+    let s = r .before .before in (
+      passes _ _ (s .before .size .ensures) (s .if1 .left) (passes _ _ (r .before .rate .ensures) (r .if2 .left) (agree _ _ (t .if3 .left) refl)),
+      c .before .before .fill .ensures,
+    )
+
+pub prepare-table-spec : {M : Type 1} → statement M
+prepare-table-spec =
+    tie.close
+    (tie.spec
+    size-requires
+    returns
+    rate-requires
+    returns-2
+    add-if3
+    returns-3
+    fill-requires
+    same-length
+    returns-4)

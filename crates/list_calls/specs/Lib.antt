@@ -1,0 +1,4 @@
+pub mod Advanced
+pub mod Prepared
+pub mod Processing
+pub mod DualWindow

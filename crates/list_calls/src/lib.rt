@@ -1,0 +1,211 @@
+// The work of the open calls that fill or move a list: windows, gain lists, tables and the bank of note levels. Each tests what it is given, in the order of document 01's numbers, and then makes
+// one call of the core. `spectral_dsp` has the open calls, one for each of these.
+ghost use mathlib.Core.Path.{_≡_};
+ghost use mathlib.Core.List.{[]};
+ghost use Prim.Native.Nat.{_≤_};
+ghost use lib.ListN.{length};
+ghost use Rattle.answer.specs.Reply.{done, ofOutcome, ofPrepared};
+ghost use Rattle.answer.specs.Written.{written};
+ghost use Rattle.lists.specs.Maps.{tabulate};
+ghost use Rattle.frequencies.specs.Frequency.{prepared};
+ghost use Rattle.windows.specs.Windows.{dualOf};
+ghost use Rattle.smoothing.specs.Smoothing.{softenedOf, smoothedOf};
+ghost use Rattle.prepared_spectrum.specs.Block.{blockLength, blockOf};
+ghost use Rattle.list_calls.specs.Processing.{windowLength, gainsLength, dualReply, softenReply, smoothReply, preparedReply};
+ghost use Rattle.list_calls.specs.DualWindow.{IsDual};
+ghost use Rattle.list_calls.specs.Advanced.{ofEnvelopes, advanceOf};
+ghost use Rattle.list_calls.specs.Prepared.{prepareReply};
+use answer::Envelopes;
+use answer::Outcome;
+use answer::Prepared;
+use limits::LEAST_GAIN;
+use limits::LEAST_WINDOW_VALUE;
+use limits::MOST_GAIN;
+use limits::MOST_WINDOW_VALUE;
+
+fn window_length(n: usize) -> bool
+    ensures { λ r. ⌜ r ≡ windowLength n ⌝ }
+{
+    if 1 <= n { n <= 16384 } else { false }
+}
+
+fn gains_length(n: usize) -> bool
+    ensures { λ r. ⌜ r ≡ gainsLength n ⌝ }
+{
+    n <= 8193
+}
+
+fn block_length(size: usize) -> usize
+    requires { ⌜ size ≤ 16384 ⌝ }
+    ensures { λ r. ⌜ r ≡ blockLength size ⌝ }
+{
+    4 * size + size / 2 + 1
+}
+
+// Build the canonical dual window for the given overlap.
+pub fn build_dual_synthesis_window(
+    analysis: &[f32],
+    synthesis: &mut [f32],
+    overlap: usize,
+) -> Outcome
+    ensures { λ r. ⌜ ofOutcome r ≡ dualReply (now (analysis .entry)) (length (now (synthesis .entry))) overlap ⌝ }
+    ensures { λ r. ⌜ now (synthesis .exit) ≡ written (ofOutcome r) (dualOf (now (analysis .entry)) overlap) (now (synthesis .entry)) ⌝ }
+    ensures { λ r. ⌜ (ofOutcome r ≡ done [] → IsDual (now (analysis .entry)) (now (synthesis .exit)) overlap) ⌝ }
+{
+    let length = analysis.len();
+    if !window_length(length) {
+        return Outcome::Refused(4, 0);
+    }
+    if length != synthesis.len() {
+        return Outcome::Refused(4, 0);
+    }
+    let index = limits::first_outside(analysis, LEAST_WINDOW_VALUE, MOST_WINDOW_VALUE);
+    if index < length {
+        return Outcome::Refused(7, index);
+    }
+    if !limits::overlap(overlap, length) {
+        return Outcome::Refused(8, 0);
+    }
+    windows::dual_window(analysis, synthesis, overlap);
+    Outcome::Done
+}
+
+// Smooth adjacent gain bins in decibels, retaining the edge bins.
+pub fn soften_spectral_edges(source: &[f32], output: &mut [f32]) -> Outcome
+    ensures { λ r. ⌜ ofOutcome r ≡ softenReply (now (source .entry)) (length (now (output .entry))) ⌝ }
+    ensures { λ r. ⌜ now (output .exit) ≡ written (ofOutcome r) (softenedOf (now (source .entry))) (now (output .entry)) ⌝ }
+{
+    let length = source.len();
+    if !gains_length(length) {
+        return Outcome::Refused(4, 0);
+    }
+    if length != output.len() {
+        return Outcome::Refused(4, 0);
+    }
+    let bin = limits::first_outside(source, LEAST_GAIN, MOST_GAIN);
+    if bin < length {
+        return Outcome::Refused(7, bin);
+    }
+    smoothing::soften(source, output);
+    Outcome::Done
+}
+
+// Approach a target gain mask with a 30 ms time constant.
+pub fn smooth_mask_in_db(current: &mut [f32], target: &[f32], elapsed_seconds: f32) -> Outcome
+    ensures { λ r. ⌜ ofOutcome r ≡ smoothReply (now (current .entry)) (now (target .entry)) «elapsed_seconds» ⌝ }
+    ensures { λ r. ⌜ now (current .exit) ≡ written (ofOutcome r) (smoothedOf (now (current .entry)) (now (target .entry)) «elapsed_seconds») (now (current .entry)) ⌝ }
+{
+    if !limits::elapsed(elapsed_seconds) {
+        return Outcome::Refused(2, 0);
+    }
+    let length = current.len();
+    if !gains_length(length) {
+        return Outcome::Refused(4, 0);
+    }
+    if length != target.len() {
+        return Outcome::Refused(4, 0);
+    }
+    let place = limits::first_pair_outside(current, target, LEAST_GAIN, MOST_GAIN);
+    if place < length {
+        return Outcome::Refused(7, place);
+    }
+    smoothing::smooth(current, target, elapsed_seconds);
+    Outcome::Done
+}
+
+// Fills the block: window, its dual, smooth window, its dual, logarithms. Answers both coherent gains.
+pub fn prepare_spectrum(
+    sample_rate: f32,
+    window: &[f32],
+    smooth_analysis_window: &[f32],
+    overlap: usize,
+    block: &mut [f32],
+) -> Prepared
+    ensures { λ r. ⌜ ofPrepared r ≡ preparedReply «sample_rate» (now (window .entry)) (now («smooth_analysis_window» .entry)) overlap (length (now (block .entry))) ⌝ }
+    ensures { λ r. ⌜ now (block .exit) ≡ written (ofPrepared r) (blockOf «sample_rate» (now (window .entry)) (now («smooth_analysis_window» .entry)) overlap) (now (block .entry)) ⌝ }
+{
+    let size = window.len();
+    if !limits::size(size) {
+        return Prepared::Refused(1, 0);
+    }
+    if !limits::rate(sample_rate) {
+        return Prepared::Refused(1, 0);
+    }
+    if size != smooth_analysis_window.len() {
+        return Prepared::Refused(4, 0);
+    }
+    if block.len() != block_length(size) {
+        return Prepared::Refused(4, 0);
+    }
+    let index = limits::first_pair_outside(
+        window,
+        smooth_analysis_window,
+        LEAST_WINDOW_VALUE,
+        MOST_WINDOW_VALUE,
+    );
+    if index < size {
+        return Prepared::Refused(7, index);
+    }
+    if !limits::overlap(overlap, size) {
+        return Prepared::Refused(8, 0);
+    }
+    prepared_spectrum::fill_block(sample_rate, window, smooth_analysis_window, overlap, block);
+    Prepared::Gains(
+        windows::coherent_gain(window),
+        windows::coherent_gain(smooth_analysis_window),
+    )
+}
+
+// Fills the table after a change of the sample rate or of the size.
+pub fn prepare_table(table: &mut [f32], sample_rate: f32, fft_size: usize) -> Outcome
+    ensures { λ r. ⌜ ofOutcome r ≡ prepareReply (length (now (table .entry))) «sample_rate» «fft_size» ⌝ }
+    ensures { λ r. ⌜ now (table .exit) ≡ written (ofOutcome r) (tabulate (length (now (table .entry))) (prepared «sample_rate» «fft_size»)) (now (table .entry)) ⌝ }
+{
+    if !limits::size(fft_size) {
+        return Outcome::Refused(1, 0);
+    }
+    if !limits::rate(sample_rate) {
+        return Outcome::Refused(1, 0);
+    }
+    if table.len() != fft_size / 2 + 1 {
+        return Outcome::Refused(4, 0);
+    }
+    frequencies::fill(table, sample_rate, fft_size);
+    Outcome::Done
+}
+
+// The levels of the 128 notes after one frame: 16 bytes say which notes are held, note 0 by the top bit of byte 0.
+pub fn advance_note_envelopes(
+    levels: [f32; 128],
+    held: [u8; 16],
+    elapsed_seconds: f32,
+    fade_ms: f32,
+) -> Envelopes
+    ensures { λ r. ⌜ ofEnvelopes r ≡ advanceOf levels held «elapsed_seconds» «fade_ms» ⌝ }
+{
+    if !limits::elapsed(elapsed_seconds) {
+        return Envelopes {
+            outcome: Outcome::Refused(2, 0),
+            levels: levels,
+        };
+    }
+    if !limits::fade(fade_ms) {
+        return Envelopes {
+            outcome: Outcome::Refused(2, 0),
+            levels: levels,
+        };
+    }
+    let note = limits::first_outside(&levels, limits::LEAST_LEVEL, limits::MOST_LEVEL);
+    if note < 128 {
+        return Envelopes {
+            outcome: Outcome::Refused(7, note),
+            levels: levels,
+        };
+    }
+    let powers = power::table::power_table();
+    let next = envelopes::advance(&powers, levels, held, elapsed_seconds, fade_ms);
+    Envelopes {
+        outcome: Outcome::Done,
+        levels: next,
+    }
+}

@@ -1,0 +1,4 @@
+pub mod MaskAnswers
+pub mod Parameters
+pub mod SettingsNumbers
+pub mod RealScene
