@@ -5,6 +5,7 @@ pub mod Made
 pub mod Sums
 pub mod Floor
 pub mod Shifts
+pub mod StepsAbove
 pub mod Magnitude
 pub mod FiniteTest
 pub mod Limits

@@ -3,6 +3,7 @@
 pub mod bits;
 pub mod constants;
 pub mod counts;
+pub mod fixed;
 pub mod order;
 pub mod powers;
 pub mod remainder;
