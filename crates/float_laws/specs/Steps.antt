@@ -5,7 +5,7 @@ use mathlib.Core.Path.{_≡_, refl, sym, ap, _∙_, subst}
 use mathlib.Core.Logic.{inl, inr}
 use mathlib.Core.Bool.{Bool, true, false, not, cond}
 use Prim.Native.Nat.{ℕ, suc, _+_, _-_, _*_, _/_, _%_, _^_, _≤_, _<_}
-use native.Mathlib.Nat.{le-trans, le-of-eq, le-of-lt, lt-of-le-of-lt, lt-of-lt-of-le, eq-or-lt-of-le, zero-add, mul-pos, mul-right-comm, add-mul, suc-mul, mul-le-mul-right, mul-lt-mul-of-pos-right, le-of-mul-le-mul-right, lt-of-mul-lt-mul-right, le-div-iff-mul-le, div-add-mod', mod-lt, mod-eq-of-lt, div-eq-of-lt, add-mul-div-right, add-mul-mod-self-right}
+use native.Mathlib.Nat.{le-trans, le-of-eq, le-of-lt, lt-of-le-of-lt, lt-of-lt-of-le, eq-or-lt-of-le, zero-add, mul-pos, mul-right-comm, add-mul, suc-mul, mul-le-mul-right, mul-lt-mul-of-pos-right, le-of-mul-le-mul-right, lt-of-mul-lt-mul-right, eq-of-mul-eq-mul-right, mul-div-cancel, le-div-iff-mul-le, div-add-mod', mod-lt, mod-eq-of-lt, div-eq-of-lt, add-mul-div-right, add-mul-mod-self-right}
 use native.Mathlib.Omega.{arith}
 use lib.Pow.{pow-pos, pow-add, pow-mono}
 use lib.Dec.{T, lit≤}
@@ -221,6 +221,12 @@ module _ (f : Format) (x c : Float) (k m t : ℕ) (p : T (real f x)) (q : T (rea
       steps-digits f k n (le-trans enough n-from) n-below room s (add-number f x c p q) sum-key
       ∙ omega (arith, counted, enough)
 
+  -- where t is a whole number of steps, nothing is rounded
+  pub exact-by-sum : t ≡ t / 2 ^ k * 2 ^ k → toBits f (add f x c) % hid f ≡ t / 2 ^ k - hid f
+  exact-by-sum e =
+      steps-digits f k n (le-trans enough n-from) n-below room s (add-number f x c p q) sum-key
+      ∙ ap (λ (z : ℕ). z - hid f) (eq-of-mul-eq-mul-right (2 ^ k) (pow-pos k) n Q (sym (whole .1) ∙ ap (rndU f) e ∙ kept Q at-most))
+
 -- ---- in its two uses
 -- x from 0 up, with the least constant, of 2 ^ (prec - 1) steps: the digits are the floor of x itself
 module _ (f : Format) (x c : Float) (k t : ℕ) (p : T (real f x)) (q : T (real f c)) (C : key f c ≡ overflow f + hid f * 2 ^ k) (E : key f x ≡ overflow f + t)
@@ -264,6 +270,22 @@ module _ (f : Format) (x c : Float) (k m j : ℕ) (p : T (real f x)) (q : T (rea
 
   pub signed-floor : toBits f (add f x c) % hid f ≡ keyed (m * 2 ^ k) (sign x) (mag f x) / 2 ^ k - hid f + cond (lt x (sub f (add f x c) c)) 1 0
   signed-floor = floor-by-sum f x c k m t p q C (meets (sign x) (mag f x) (le-of-lt (mag-below f x p)) size) (omega arith) low-end high-end room
+
+  -- x of q whole steps
+  pub signed-exact : (q : ℕ) → mag f x ≡ q * 2 ^ k → toBits f (add f x c) % hid f ≡ keyed m (sign x) q - hid f
+  signed-exact n e =
+      exact-by-sum f x c k m t p q C (meets (sign x) (mag f x) (le-of-lt (mag-below f x p)) size) (omega arith) low-end high-end room (whole ∙ ap (λ (z : ℕ). z * 2 ^ k) (sym over))
+      ∙ ap (λ (z : ℕ). z - hid f) over
+    where
+      times : (s : Bool) → keyed (m * 2 ^ k) s (n * 2 ^ k) ≡ keyed m s n * 2 ^ k
+      times false = sym (add-mul m n (2 ^ k))
+      times true = sym (sub-mul m n (2 ^ k))
+
+      whole : t ≡ keyed m (sign x) n * 2 ^ k
+      whole = ap (keyed (m * 2 ^ k) (sign x)) e ∙ times (sign x)
+
+      over : t / 2 ^ k ≡ keyed m (sign x) n
+      over = ap (λ (z : ℕ). z / 2 ^ k) whole ∙ mul-div-cancel (keyed m (sign x) n) (pow-pos k)
 
 -- ---- f32: whole steps of 1, for a v from 0 to 2 ^ 22, with 2 ^ 23 added
 module _ (v : Float) (p : T (real binary32 v)) (lo : T (le plus-zero v)) (hi : T (le v (power 22))) where
