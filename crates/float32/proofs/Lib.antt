@@ -5,7 +5,9 @@ pub mod Made
 pub mod Sums
 pub mod Floor
 pub mod Shifts
-pub mod StepsAbove
+pub mod Wide
+pub mod FarSteps
+pub mod NearSteps
 pub mod Magnitude
 pub mod FiniteTest
 pub mod Limits
