@@ -1,7 +1,7 @@
 -- The floor of an f32 up to 2 ^ 23 in size in steps of 2 ^ -24, by the sum with 2 ^ 28 + 2 ^ 23: between 2 ^ 28 and 2 ^ 29 a step is the last digit of an f64. Assumes nothing.
 use mathlib.Core.Path.{_≡_, refl, ap, sym, _∙_}
 use mathlib.Core.Bool.{Bool, true, false, not, cond}
-use Prim.Native.Nat.{ℕ, _+_, _-_, _*_, _/_, _%_, _^_, _≤_}
+use Prim.Native.Nat.{ℕ, _+_, _-_, _*_, _/_, _^_, _≤_}
 use native.Mathlib.Omega.{arith}
 use mir.Val.{boolByte}
 use lib.Dec.{T, lit≤}
@@ -12,7 +12,7 @@ use lib.Ieee.{Float, fin, Format, binary32, binary64, lt, neg, fits, isNan, add,
 use lib.Ieee.Scale.{overflow}
 use Rattle.float_laws.specs.Units.{mag, sign, real, key, keyed, real-number}
 use Rattle.float_laws.specs.Steps.{signed-real, signed-floor, number-no-nan}
-use Rattle.float32.specs.Value.{floorAt, moved}
+use Rattle.float32.specs.Value.{moved}
 use Rattle.float32.specs.Order.{within}
 use Rattle.float32.specs.Fixed.{farthest}
 use Rattle.float32.proofs.Wide.{floorAt-more, keyed-floor, moved-wide, wide-real, wide-size}

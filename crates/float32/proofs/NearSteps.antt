@@ -2,14 +2,14 @@
 -- of these, so that the sum is exact. Assumes nothing.
 use mathlib.Core.Path.{_≡_, refl, ap, sym, subst, _∙_}
 use mathlib.Core.Bool.{Bool, true, false, not}
-use Prim.Native.Nat.{ℕ, _+_, _-_, _*_, _/_, _%_, _^_, _≤_}
+use Prim.Native.Nat.{ℕ, _+_, _-_, _*_, _/_, _^_, _≤_}
 use native.Mathlib.Nat.{le-trans, le-of-eq, mul-assoc, mul-right-comm, mul-le-mul-right, eq-of-mul-eq-mul-right, le-of-mul-le-mul-right}
 use native.Mathlib.Omega.{arith}
 use lib.Dec.{T, lit≤}
-use lib.IntN.{ℤ, pos}
+use lib.IntN.{pos}
 use lib.Pow.{pow-pos, pow-add}
 use lib.Bits.{bitAnd, and-mask}
-use lib.Ieee.{Float, nan, inf, fin, Format, binary32, binary64, up, down, low, le, neg, fits, isNan, add, toBits}
+use lib.Ieee.{Float, nan, inf, fin, Format, binary32, binary64, up, down, le, neg, fits, isNan, add, toBits}
 use lib.Ieee.Fits.{down-pos}
 use lib.Ieee.Scale.{overflow}
 use Rattle.float_laws.specs.Units.{mag, sign, real, key, keyed, real-number, mag-exact, le→key}
@@ -20,7 +20,7 @@ use Rattle.float32.specs.Value.{floorAt, moved}
 use Rattle.float32.specs.Order.{within, magnitude}
 use Rattle.float32.specs.Fixed.{nearby, least}
 use Rattle.float32.proofs.Magnitude.{magnitude-clear, magnitude-size, magnitude-is-number}
-use Rattle.float32.proofs.Shifts.{floorAt-same}
+use Rattle.float32.proofs.Floor.{floorAt-same}
 use Rattle.float32.proofs.Wide.{moved-wide, wide-real, wide-size}
 
 -- 2 ^ 11 + 2 ^ 10, which is 3 * 2 ^ 51 digits

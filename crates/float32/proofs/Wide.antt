@@ -6,7 +6,7 @@ use native.Mathlib.Nat.{le-trans, le-of-eq, mul-assoc, add-mul, mul-add-div-righ
 use native.Mathlib.Omega.{arith}
 use lib.Dec.{T}
 use lib.Pow.{pow-pos}
-use lib.Ieee.{Float, nan, inf, fin, Format, binary32, binary64, up, down, low, emax, neg, fits, isNan}
+use lib.Ieee.{Float, nan, inf, fin, Format, binary32, binary64, up, down, low, neg, fits, isNan}
 use lib.Ieee.Fits.{fits-widens}
 use lib.Ieee.Scale.{overflow}
 use Rattle.float_laws.specs.Units.{mag, sign, real, key, keyed, real-number, mag-exact, mag-below, le→key}
@@ -15,9 +15,8 @@ use Rattle.float_laws.specs.Mono.{real-neg, key-neg}
 use Rattle.float_laws.specs.Steps.{number-no-nan}
 use Rattle.float32.specs.Value.{floorAt, moved}
 use Rattle.float32.specs.Order.{within}
-use Rattle.float32.proofs.Floor.{below-pos}
+use Rattle.float32.proofs.Floor.{below-pos, floorAt-same}
 use Rattle.float32.proofs.Limits.{within-low, within-high, within-real}
-use Rattle.float32.proofs.Shifts.{floorAt-same}
 
 -- ---- floors with a larger base
 pub floorAt-more : (s : Bool) (D C a b : ℕ) → 0 < b → a ≤ C * b → floorAt s (D + C) a b ≡ D + floorAt s C a b

@@ -1,4 +1,4 @@
-// f32 beside the language's own operators, by topic. Every function is equal to a definition in specs/, and none but the inner ones of bits, counts and root
+// f32 beside the language's own operators, by topic. Every function is equal to a definition in specs/, and none but the inner ones of bits, counts, fixed and root
 // asks anything of its arguments.
 pub mod bits;
 pub mod constants;

@@ -1,21 +1,20 @@
 -- An x from -126 to 128 in steps of 2 ^ -24, moved up by 128: what `near_steps` and `far_steps` give is that and whole steps more, 896 * 2 ^ 24 and 8388480 * 2 ^ 24. Assumes nothing.
 use mathlib.Core.Path.{_≡_, sym}
 use mathlib.Core.Bool.{false, not}
-use Prim.Native.Nat.{ℕ, _+_, _*_, _^_, _≤_, _<_}
-use native.Mathlib.Omega.{arith}
+use Prim.Native.Nat.{_+_, _*_, _^_, _≤_, _<_}
 use lib.Dec.{T, lit≤}
 use lib.IntN.{pos}
 use lib.Ieee.{Float, nan, inf, fin, binary32, le, lt, eq, neg, fits, isNan}
 use lib.Ieee.Fits.{and-i}
 use Rattle.float_laws.specs.Units.{number}
-use Rattle.float_laws.specs.Order.{le-right, le-trans-f, lt-of-le-of-lt-f, lt→le-f, not-lt-f, not-le-f, fits-number}
+use Rattle.float_laws.specs.Order.{le-right, le-trans-f, lt-of-le-of-lt-f, lt→le-f, not-lt-f, not-le-f}
 use Rattle.float32.specs.Value.{moved}
 use Rattle.float32.specs.Order.{within}
 use Rattle.float32.specs.Fixed.{nearby, farthest}
 use Rattle.float32.proofs.Limits.{within-low, within-high}
 use Rattle.float32.proofs.Wide.{moved-more}
 use Rattle.power.specs.Power.{positiveZero, largest, E2}
-use Rattle.power.proofs.Ends.{lowest, limit, low-of-lt, high-of-le, under-of-lt, E2-nan, E2-below, E2-from}
+use Rattle.power.proofs.Ends.{lowest, limit, high-of-le, under-of-lt, E2-nan, E2-below, E2-from}
 
 -- 126
 abbrev pub highest-near : Float

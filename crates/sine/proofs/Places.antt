@@ -1,8 +1,8 @@
 -- The place of an angle in its turn: floor(u * 2 ^ 24) mod 2 ^ 24 is what is left of the steps with whole turns added, since whole turns do not count; and from 2 ^ 23 turns on it is 0. Assumes nothing.
-use mathlib.Core.Path.{_≡_, refl, sym, ap, subst, _∙_}
+use mathlib.Core.Path.{_≡_, refl, sym, ap, _∙_}
 use mathlib.Core.Bool.{Bool, true, false, not}
-use Prim.Native.Nat.{ℕ, _+_, _-_, _*_, _/_, _%_, _^_, _≤_, _<_}
-use native.Mathlib.Nat.{le-trans, le-of-eq, le-of-lt, lt-of-not-le, mul-le-mul-right, mul-comm, mul-assoc, mul-one, mul-right-comm, add-mul, mul-add-mod-self-left, mul-mod-left, mod-lt, div-one, eq-of-mul-eq-mul-right}
+use Prim.Native.Nat.{ℕ, _+_, _-_, _*_, _%_, _^_, _≤_, _<_}
+use native.Mathlib.Nat.{le-of-lt, lt-of-not-le, mul-le-mul-right, mul-comm, mul-one, mul-right-comm, add-mul, mul-add-mod-self-left, mul-mod-left, mod-lt, div-one, eq-of-mul-eq-mul-right}
 use native.Mathlib.Decide.{decLe}
 use native.Mathlib.Omega.{arith}
 use lib.Dec.{T, T-not, lit<, lit≤}
@@ -12,14 +12,14 @@ use lib.Bits.{bitAnd, and-mask}
 use lib.Ieee.{Float, nan, inf, fin, binary32, up, down, le, neg, fits}
 use lib.Ieee.Fits.{and-i, down-pos}
 use lib.Ieee.Scale.{overflow}
-use Rattle.float_laws.specs.Units.{mag, sign, number, real, key, keyed, mag-exact, mag-below, key→le}
+use Rattle.float_laws.specs.Units.{mag, number, keyed, mag-exact, key→le}
 use Rattle.float_laws.specs.Round.{held-real}
 use Rattle.float_laws.specs.Signs.{sub-mul}
 use Rattle.float_laws.specs.Exact.{held-multiple}
 use Rattle.float32.specs.Value.{floorAt, moved}
 use Rattle.float32.specs.Order.{within}
 use Rattle.float32.specs.Fixed.{nearby, farthest}
-use Rattle.float32.proofs.Shifts.{floorAt-same}
+use Rattle.float32.proofs.Floor.{floorAt-same}
 use Rattle.float32.proofs.Wide.{moved-more}
 use Rattle.sine.specs.Sine.{u, U}
 
