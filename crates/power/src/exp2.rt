@@ -12,12 +12,17 @@ use float32::order::in_range;
 
 pub(crate) const LARGEST: f32 = 3.4028235e38;
 
-// Below the lowest x the power is 0, and from LIMIT on LARGEST.
+// Below LOWEST the power is 0, and from LIMIT on LARGEST. Up to HIGHEST_NEAR the sum of `near_steps` serves.
 const LOWEST: f32 = -126.0;
 
 const HIGHEST_NEAR: f32 = 126.0;
 
 const LIMIT: f32 = 128.0;
+
+// What `near_steps` and `far_steps` move x up by beyond 128, in steps: 896 * 2^24 and 8388480 * 2^24.
+const NEAR_MORE: u64 = 15032385536;
+
+const FAR_MORE: u64 = 140735340871680;
 
 // The power whose exponent, moved up by 128, is y steps of 2^-24: y has the whole part above 24 bits of fraction, F.
 fn power_of_steps(powers: &PowerTable, y: u64) -> f32
@@ -31,8 +36,8 @@ fn power_of_steps(powers: &PowerTable, y: u64) -> f32
 
 // 2^x: E2 of document 01.
 //
-// Method. x is moved up by 128, so that it is not negative, and cut down to a multiple of 2^-24; that is one sum, and for most x one that is exact (float32::fixed, which moves
-// x up by more: by 896 and 8388480 more than 128). The table holds 2^(30 + h/256) rounded down, and a straight line joins its entries.
+// Method. x is moved up by 128, so that it is not negative, and cut down to a multiple of 2^-24: by one sum, which for most x is exact (float32::fixed).
+// The table holds 2^(30 + h/256) rounded down, and a straight line joins its entries.
 // The 24 leading bits of that are added to the field of the exponent, into which their leading one carries.
 // Error, measured over the floats from -126 to 128: from -1.6e-7 to 9.2e-7 of 2^x, the line being above the curve and the cuts taking away.
 pub fn exp2(powers: &PowerTable, x: f32) -> f32
@@ -41,7 +46,7 @@ pub fn exp2(powers: &PowerTable, x: f32) -> f32
 {
     if in_range(x, LOWEST, HIGHEST_NEAR) {
         if LEAST <= abs(x) {
-            return power_of_steps(powers, near_steps(x) - 15032385536);
+            return power_of_steps(powers, near_steps(x) - NEAR_MORE);
         }
     }
     if !(LOWEST <= x) {
@@ -50,5 +55,5 @@ pub fn exp2(powers: &PowerTable, x: f32) -> f32
     if !(x < LIMIT) {
         return LARGEST;
     }
-    power_of_steps(powers, far_steps(x) - 140735340871680)
+    power_of_steps(powers, far_steps(x) - FAR_MORE)
 }
