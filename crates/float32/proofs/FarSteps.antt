@@ -53,7 +53,7 @@ module _ (x : Float) (F : T (fits binary32 x)) (w : T (within (neg farthest) far
       ∙ floorAt-more (sign x) (2 ^ 52) (2 ^ 47) (mag f x) (2 ^ 1050) (pow-pos 1050) size-is
       ∙ ap (λ (z : ℕ). 2 ^ 52 + z) (sym (moved-wide (2 ^ 23) x finite))
 
-  pub far-counted : bitAnd (toBits binary64 (add binary64 x larger)) (2 ^ 52 - 1) ≡ moved (2 ^ 23) x + boolByte (lt x (sub binary64 (add binary64 x larger) larger))
+  far-counted : bitAnd (toBits binary64 (add binary64 x larger)) (2 ^ 52 - 1) ≡ moved (2 ^ 23) x + boolByte (lt x (sub binary64 (add binary64 x larger) larger))
   far-counted =
       and-mask (toBits f (add f x larger)) 52
       ∙ signed-floor f x larger 1050 many (2 ^ 47) finite larger-real larger-key size-is (lit≤ tt) (lit≤ tt) (lit≤ tt)
@@ -62,3 +62,9 @@ module _ (x : Float) (F : T (fits binary32 x)) (w : T (within (neg farthest) far
       go : (t u H : ℕ) (b : Bool) → t ≡ H + u → t - H + cond b 1 0 ≡ u + boolByte b
       go t u H true e = omega arith
       go t u H false e = omega arith
+
+  pub far-room : boolByte (lt x (sub binary64 (add binary64 x larger) larger)) ≤ bitAnd (toBits binary64 (add binary64 x larger)) (2 ^ 52 - 1)
+  far-room = omega (arith, far-counted)
+
+  pub far-steps-are : bitAnd (toBits binary64 (add binary64 x larger)) (2 ^ 52 - 1) - boolByte (lt x (sub binary64 (add binary64 x larger) larger)) ≡ moved (2 ^ 23) x
+  far-steps-are = omega (arith, far-counted)

@@ -1,12 +1,11 @@
 -- `far_steps` meets its contract: proofs/FarSteps.antt says it of the sum. Assumes nothing.
 use mathlib.Core.Path.{sym, subst}
 use mathlib.Core.Bool.{not}
-use native.Mathlib.Omega.{arith}
 use borrow.Author.Needs.{needs}
 use lib.Dec.{T, lit≤}
 use lib.Ieee.{Float, binary32, binary64, fits, isNan, ofBits}
 use lib.Ieee.Fits.{and-i, fits-widens}
-use Rattle.float32.proofs.FarSteps.{far-no-nan, far-counted}
+use Rattle.float32.proofs.FarSteps.{far-no-nan, far-room, far-steps-are}
 use Rattle.float32.proofs.Wide.{wide-no-nan}
 use Rattle.float32.proofs.fixed.far_steps.Statement.{statement}
 use Rattle.float32.proofs.fixed.far_steps.Tie as tie
@@ -30,11 +29,11 @@ cast-result c = search needs
 
 sub-result : tie.Need-sub-result
 unfolding ofBits
-sub-result c = omega (arith, far-counted (x c) (held c) (c .before .pre))
+sub-result c = far-room (x c) (held c) (c .before .pre)
 
 returns : tie.Need-returns
 unfolding ofBits
-returns c = omega (arith, far-counted (x c) (held c) (c .before .pre))
+returns c = far-steps-are (x c) (held c) (c .before .pre)
 
 pub far-steps-spec : {M : Type 1} → statement M
 far-steps-spec =
