@@ -1,14 +1,14 @@
--- floor((x + c) * 2 ^ 24) never falls as the finite x rises: over one common denominator the two fractions stand in the order of the floats. Assumes nothing.
-use mathlib.Core.Path.{_≡_, _∙_}
+-- floor((x + c) * 2 ^ 24) never falls as the finite x rises: over one common denominator the two fractions stand in the order of the floats. Equal fractions have equal floors. Assumes nothing.
+use mathlib.Core.Path.{_≡_, sym, ap, _∙_}
 use mathlib.Core.Bool.{Bool, true, false}
-use Prim.Native.Nat.{ℕ, _+_, _-_, _*_, _^_, _≤_, _<_}
-use native.Mathlib.Nat.{mul-comm, mul-assoc, mul-le-mul-right, add-mul, zero-mul}
+use Prim.Native.Nat.{ℕ, _+_, _-_, _*_, _/_, _^_, _≤_, _<_}
+use native.Mathlib.Nat.{mul-comm, mul-assoc, mul-right-comm, mul-le-mul-right, add-mul, zero-mul}
 use native.Mathlib.Omega.{arith}
 use lib.Dec.{T, lit<}
 use lib.IntN.{ℤ}
 use lib.Ieee.{Float, nan, inf, fin, up, down, le}
 use lib.Ieee.Fits.{down-pos}
-use lib.Ieee.Nearest.{div-mono}
+use lib.Ieee.Nearest.{div-mono, div-same}
 use Rattle.float_laws.specs.Signs.{Ord, sub-mul, ord-of-le}
 use Rattle.float32.specs.Value.{below, floorAt, moved}
 
@@ -44,3 +44,10 @@ pub below-pos : (x : Float) → 0 < below x
 below-pos nan = lit< tt
 below-pos (inf s) = lit< tt
 below-pos (fin s m e) = down-pos e
+
+-- ---- equal fractions
+pub floorAt-same : (s : Bool) (C a b a' b' : ℕ) → 0 < b → 0 < b' → a * b' ≡ a' * b → floorAt s C a b ≡ floorAt s C a' b'
+floorAt-same false C a b a' b' z z' e =
+    div-same (C * b + a) b (C * b' + a') b' z z' (add-mul (C * b) a b' ∙ ap (λ (x : ℕ). C * b * b' + x) e ∙ ap (λ (x : ℕ). x + a' * b) (mul-right-comm C b b') ∙ sym (add-mul (C * b') a' b))
+floorAt-same true C a b a' b' z z' e =
+    div-same (C * b - a) b (C * b' - a') b' z z' (sub-mul (C * b) a b' ∙ ap (λ (x : ℕ). C * b * b' - x) e ∙ ap (λ (x : ℕ). x - a' * b) (mul-right-comm C b b') ∙ sym (sub-mul (C * b') a' b))

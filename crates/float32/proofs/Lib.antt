@@ -4,7 +4,9 @@ pub mod Patterns
 pub mod Made
 pub mod Sums
 pub mod Floor
-pub mod Shifts
+pub mod Wide
+pub mod FarSteps
+pub mod NearSteps
 pub mod Magnitude
 pub mod FiniteTest
 pub mod Limits

@@ -1,10 +1,10 @@
 // A float and its bit pattern: the sign is the top bit, then 8 bits of exponent, then 23 digits below the leading one.
 ghost use mathlib.Core.Path.{_≡_};
-ghost use mathlib.Core.Bool.{false, not, cond};
-ghost use Prim.Native.Nat.{_+_, _-_, _≤_, _<_, _^_, min};
+ghost use mathlib.Core.Bool.{false, not};
+ghost use Prim.Native.Nat.{_≤_, min};
 ghost use lib.Dec.{T};
 ghost use lib.Ieee.{isNan, round, binary32, toBits, ofBits};
-ghost use Rattle.float32.specs.Value.{Decoded, floorAt};
+ghost use Rattle.float32.specs.Value.{Decoded};
 
 // The bit pattern of a float; of a NaN the quiet one with its sign clear.
 pub fn bits_of(x: f32) -> u32
@@ -66,24 +66,4 @@ pub fn capped_shift(places: u32) -> u32
     ensures { λ r. ⌜ r ≡ min places 31 ⌝ }
 {
     if places < 31 { places } else { 31 }
-}
-
-// a + b, or a - b where neg is true: a choice between two numbers, and not a branch that no processor can foresee.
-fn signed_sum(neg: bool, a: u64, b: u64) -> u64
-    requires { ⌜ (b ≤ a) × (a + b < 2 ^ 64) ⌝ }
-    ensures { λ r. ⌜ r ≡ cond neg (a - b) (a + b) ⌝ }
-{
-    if neg {
-        return a - b;
-    }
-    a + b
-}
-
-// floor(base + digits / 2^places), or floor(base - digits / 2^places) where neg is true.
-pub fn floor_above(neg: bool, base: u64, digits: u64, places: u32) -> u64
-    requires { ⌜ (0 < base) × (base ≤ 2 ^ 32) × (digits < 2 ^ 31) × (digits ≤ base) ⌝ }
-    ensures { λ r. ⌜ r ≡ floorAt neg base digits (2 ^ places) ⌝ }
-{
-    let s = capped_shift(places);
-    signed_sum(neg, base << s, digits) >> s
 }

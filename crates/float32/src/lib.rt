@@ -1,8 +1,9 @@
-// f32 beside the language's own operators, by topic. Every function is equal to a definition in specs/, and none but the inner ones of bits, counts and root
+// f32 beside the language's own operators, by topic. Every function is equal to a definition in specs/, and none but the inner ones of bits, counts, fixed and root
 // asks anything of its arguments.
 pub mod bits;
 pub mod constants;
 pub mod counts;
+pub mod fixed;
 pub mod order;
 pub mod powers;
 pub mod remainder;

@@ -1,9 +1,9 @@
 pub mod Entries
 pub mod Interpolated
 pub mod Rising
-pub mod Moved
 pub mod Made
 pub mod Ends
+pub mod InSteps
 pub mod Between
 pub mod Range
 pub mod Greatest

@@ -2,6 +2,7 @@ pub mod Entries
 pub mod Places
 pub mod WholeTurns
 pub mod Waves
+pub mod Signed
 pub mod Chord
 pub mod Circle
 pub mod Range

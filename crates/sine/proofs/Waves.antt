@@ -57,7 +57,7 @@ interp-le n h =
 
 -- ---- the wave, w being what is left of v
 module _ (U w : ℕ) (e : w ≡ v U / 64) where
-  wave-is : wave U ≡ round binary32 (leb 2 (q U) && ltb 0 w) w 16777216
+  pub wave-is : wave U ≡ round binary32 (leb 2 (q U) && ltb 0 w) w 16777216
   unfolding wave
   wave-is = rw e
 

@@ -1,45 +1,44 @@
 // The place of an angle in its turn.
 //
-// Method. The angle times 0.15915494, rounded once, is u, the angle in turns. Its floor in units of 2^-24 of a turn is
-// a shift of u's digits. Whole turns are added first, so that a negative u too is a matter of whole numbers, and a mask
-// takes them away again. From 2^23 turns on every u is a whole number of turns, and the place is 0.
+// Method. The angle times 0.15915494, rounded once, is u, the angle in turns. Its floor in units of 2^-24 of a turn is one sum with whole turns (float32::fixed), which makes a negative
+// u too a matter of whole numbers, and a mask takes the turns away again. From 2^23 turns on every u is a whole number of turns, and the place is 0.
 ghost use mathlib.Core.Path.{_≡_};
 ghost use Rattle.sine.specs.Sine.{U};
+use float32::fixed::LEAST;
+use float32::fixed::far_steps;
+use float32::fixed::near_steps;
+use float32::order::abs;
+use float32::order::in_range;
 
 // The turns in a radian.
 const TURNS_PER_RADIAN: f32 = 0.15915494;
 
-// A turn, and a quarter of it, in units of 2^-24 of a turn; and the bits of a place in the turn.
-pub const TURN: u64 = 16777216;
-
+// A quarter of a turn in units of 2^-24 of a turn, and the bits of a place in the turn.
 pub const QUARTER: u64 = 4194304;
 
 pub const IN_TURN: u64 = 0xff_ffff;
 
-// 2^24 turns, more than any u that is no whole number of turns has.
-const MANY_TURNS: u64 = 281474976710656;
+// The turns either way that `near_steps` and `far_steps` take.
+const NEARBY: f32 = 512.0;
+
+const NEARBY_BACK: f32 = -512.0;
+
+const FARTHEST: f32 = 8388608.0;
+
+const FARTHEST_BACK: f32 = -8388608.0;
 
 // U: floor(u * 2^24) mod 2^24; 0 for a u that is infinite or no number.
 pub fn place_in_turn(angle: f32) -> u64
     ensures { λ r. ⌜ r ≡ U angle ⌝ }
 {
     let u = angle * TURNS_PER_RADIAN;
-    if u != u {
-        return 0;
+    if in_range(u, NEARBY_BACK, NEARBY) {
+        if LEAST <= abs(u) {
+            return near_steps(u) & IN_TURN;
+        }
     }
-    let d = float32::bits::decode(u);
-    let neg = d.neg;
-    let mant = d.mant;
-    let expo = d.expo;
-    if expo < 125 {
-        return float32::bits::floor_above(neg, TURN, mant as u64, 125 - expo) & IN_TURN;
+    if in_range(u, FARTHEST_BACK, FARTHEST) {
+        return far_steps(u) & IN_TURN;
     }
-    if 148 < expo {
-        return 0;
-    }
-    let n = (mant as u64) << (expo - 125);
-    if neg {
-        return (MANY_TURNS - n) & IN_TURN;
-    }
-    (MANY_TURNS + n) & IN_TURN
+    0
 }

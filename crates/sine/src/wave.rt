@@ -4,7 +4,9 @@
 // read backwards. The 8 top bits of p pick an entry of R and the 14 others the part of the step to the next, rounded
 // down. Of the 30 digits 24 are kept, which an f32 holds exactly.
 ghost use mathlib.Core.Path.{_≡_};
+ghost use mathlib.Core.Bool.{cond};
 ghost use Prim.Native.Nat.{_^_, _<_, _≤_};
+ghost use lib.IntN.{pos, negℤ};
 ghost use Rattle.lists.specs.Interpolation.{interp};
 ghost use Rattle.sine.specs.Table.{sineTable, R};
 ghost use Rattle.sine.specs.Sine.{turned, wave};
@@ -48,18 +50,23 @@ fn turned_place(place: u64) -> u64
     p
 }
 
+// w, or -w where it is to be negative: a choice between two numbers, and not a branch that no processor can foresee.
+fn signed(negative: bool, w: u32) -> i32
+    requires { ⌜ w ≤ 16777216 ⌝ }
+    ensures { λ r. ⌜ r ≡ cond negative (negℤ (pos w)) (pos w) ⌝ }
+{
+    let v = w as i32;
+    if negative {
+        return 0 - v;
+    }
+    v
+}
+
 // Negative in the quarters 2 and 3, but for zero.
 pub fn wave_at(sines: &SineTable, place: u64) -> f32
     requires { ⌜ (now sines ≡ sineTable) × (place < 2 ^ 24) ⌝ }
     ensures { λ r. ⌜ r ≡ wave place ⌝ }
 {
-    let w = interpolated(sines, turned_place(place)) >> 6;
-    let x = float32::bits::fraction(w as u32);
-    if place >> 22 < 2 {
-        return x;
-    }
-    if w == 0 {
-        return x;
-    }
-    -x
+    let w = (interpolated(sines, turned_place(place)) >> 6) as u32;
+    (signed(1 < place >> 22, w) as f32) / 16777216.0
 }

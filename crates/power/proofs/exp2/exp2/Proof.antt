@@ -1,120 +1,146 @@
--- `exp2` meets its contract: its parts give floor ((x + 128) * 2 ^ 24), whose high and low bits are N and F. Assumes nothing.
+-- `exp2` meets its contract: the steps that it hands over are floor ((x + 128) * 2 ^ 24), whose high and low bits are N and F. Assumes nothing.
 use mathlib.Core.Path.{_≡_, sym, ap, subst, _∙_}
-use mathlib.Core.Bool.{Bool, not}
-use Prim.Native.Nat.{ℕ, _-_, _*_, _/_, _%_, _^_, _<_}
-use native.Mathlib.Nat.{lt-of-le-of-lt}
+use mathlib.Core.Bool.{Bool, true, false, not, true≢false}
+use Prim.Native.Nat.{ℕ, _+_, _-_, _*_, _/_, _%_, _^_}
 use native.Mathlib.Omega.{arith}
-use lib.Dec.{T, lit<}
-use lib.Ieee.{Float, isNan}
-use lib.Bits.{and-le-r}
+use lib.Dec.{T}
+use lib.Ieee.{Float, binary32, fits, le, lt, isNan, ofBits}
 use borrow.Author.Needs.{needs}
-use Rattle.float32.specs.Value.{floorAt, moved}
-use Rattle.power.proofs.Moved.{moved-is, moved-low, moved-high}
-use Rattle.power.proofs.Made.{Middle, at-nan, at-low, at-high, bits-are, bits-fit, bits-no-nan, floorAt-lt}
-use Rattle.float32.proofs.Made.{no-nan}
+use Rattle.float32.specs.Value.{moved}
+use Rattle.float32.specs.Order.{within, magnitude}
+use Rattle.float32.specs.Fixed.{least}
+use Rattle.power.specs.Table.{lowBits, P}
+use Rattle.power.specs.Power.{powerAt, E2}
+use Rattle.power.proofs.Ends.{lowest, limit}
+use Rattle.power.proofs.Made.{at}
+use Rattle.power.proofs.InSteps.{highest-near, near-from, near-under, not-from, not-under, near-range, far-range, near-is, far-is, steps-from, steps-below, not-nan}
 use Rattle.power.proofs.exp2.exp2.Statement.{statement}
 use Rattle.power.proofs.exp2.exp2.Tie as tie
 
+in-range-requires : tie.Need-in-range-requires
+in-range-requires c κs = search needs
+
+abs-requires : tie.Need-abs-requires
+abs-requires c κs = search needs
+
+held : (c : tie.Start) → T (fits binary32 (c .args .x))
+held c = subst T (sym (c .good .1 .0 .1)) tt
+
+-- the result for y steps, where they are those of x
+of-steps : (x : Float) (y : ℕ) (r : Float) → T (not (isNan x)) → y ≡ moved 128 x → r ≡ powerAt lowBits P (y / 2 ^ 24) (y % 2 ^ 24) → r ≡ E2 x
+of-steps x y r n e h = h ∙ ap (λ (z : ℕ). powerAt lowBits P (z / 2 ^ 24) (z % 2 ^ 24)) e ∙ sym (at x n)
+
+-- ---- an x from 2 ^ -18 to 126 in size
+module _ (c : tie.Then2) where
+  abbrev start : tie.Start
+  start = c .before .before .before .before
+
+  abbrev near-x : Float
+  near-x = start .args .x
+
+  ranged : T (within lowest highest-near near-x)
+  unfolding ofBits
+  ranged = subst T (sym (sym (c .before .before .before .in-range .ensures) ∙ c .before .before .if1 .taken)) tt
+
+  near-low : T (le lowest near-x)
+  near-low = near-from near-x (held start) ranged
+
+  near-high : T (lt near-x limit)
+  near-high = near-under near-x (held start) ranged
+
+  large-enough : T (le least (magnitude near-x))
+  unfolding ofBits
+  large-enough = subst T (sym (ap (le least) (sym (c .before .abs .ensures)) ∙ c .if2 .taken)) tt
+
+near-steps-requires : tie.Need-near-steps-requires
+near-steps-requires c κs = (near-range (near-x c) (held (start c)) (near-low c) (near-high c), large-enough c)
+
+near-y : (d : tie.After-near-steps) → d .near-steps .result ≡ 896 * 2 ^ 24 + moved 128 (near-x (d .before))
+near-y d = let c = d .before in d .near-steps .ensures ∙ near-is (near-x c) (held (start c)) (near-low c) (near-high c)
+
+sub-power-of-steps : tie.Need-sub-power-of-steps
+sub-power-of-steps d = omega (arith, near-y d)
+
+power-of-steps-requires : tie.Need-power-of-steps-requires
+power-of-steps-requires d κs =
+    let c = d .before in
+    let l = steps-from (near-x c) (held (start c)) (near-low c) (near-high c) in
+    let h = steps-below (near-x c) (held (start c)) (near-low c) (near-high c) in
+    (start c .pre, omega (arith, near-y d), omega (arith, near-y d))
+
 returns : tie.Need-returns
-returns c = at-nan (c .before .args .x) (subst T (sym (c .if1 .taken)) tt)
+returns e =
+    let d = e .before in
+    let c = d .before in
+    of-steps (near-x c) (d .near-steps .result - 15032385536) (e .power-of-steps .result) (not-nan (near-x c) (held (start c)) (near-low c) (near-high c)) (omega (arith, near-y d))
+    (e .power-of-steps .ensures)
 
-fine : (c : tie.Else1) → T (not (isNan (c .before .args .x)))
-fine c = no-nan (c .before .args .x) (subst (λ b. T (not b)) (sym (c .if1 .left)) tt)
-
-decode-requires : tie.Need-decode-requires
-decode-requires c κs = fine c
-
-module _ (d : tie.After-decode) where
-  abbrev x : Float
-  x = d .before .before .args .x
-
-  abbrev neg : Bool
-  neg = d .decode .result .neg
-
-  abbrev mant : ℕ
-  mant = d .decode .result .mant
-
-  abbrev expo : ℕ
-  expo = d .decode .result .expo
+-- ---- beyond the ends
+passed : (b : Bool) → not b ≡ false → T b
+passed true e = tt
+passed false e = absurd (true≢false e)
 
 returns-2 : tie.Need-returns-2
-returns-2 c =
-    let d = c .before .before in
-    let e = moved-low (x d) (neg d) (mant d) (expo d) (d .decode .ensures) (c .before .if2 .taken) (c .if3 .taken) in
-    at-low (x d) (fine (d .before)) (omega arith)
+unfolding ofBits
+returns-2 c = not-from (c .before .before .before .args .x) (held (c .before .before .before)) (subst T (sym (c .if3 .taken)) tt)
 
 returns-3 : tie.Need-returns-3
+unfolding ofBits
 returns-3 c =
-    let d = c .before .before in
-    let e = moved-high (x d) (neg d) (mant d) (expo d) (d .decode .ensures) (c .before .if2 .taken) (c .if3 .left) in
-    at-high (x d) (fine (d .before)) (omega arith)
+    let x = c .before .before .before .before .args .x in
+    not-under x (held (c .before .before .before .before)) (passed (le lowest x) (c .before .if3 .left)) (subst T (sym (c .if4 .taken)) tt)
 
-cast-floor-above : tie.Need-cast-floor-above
-cast-floor-above c = search needs
+-- ---- any other x between the ends
+module _ (c : tie.Else4) where
+  abbrev begin : tie.Start
+  begin = c .before .before .before .before
 
-floor-above-requires : tie.Need-floor-above-requires
-floor-above-requires c κs = search needs
+  abbrev x : Float
+  x = begin .args .x
 
-y-at : (m : tie.After-floor-above) → m .floor-above .result ≡ floorAt (neg (m .before .before)) (2 ^ 31) (mant (m .before .before) * 128) (2 ^ (132 - expo (m .before .before)))
-y-at m =
-    let d = m .before .before in
-    let l = d .decode .ensures .small in
-    let e : mant d * 128 % 2 ^ 64 ≡ mant d * 128 = omega arith in
-    m .floor-above .ensures ∙ ap (λ (z : ℕ). floorAt (neg d) (2 ^ 31) z (2 ^ (132 - expo d))) e
+  low : T (le lowest x)
+  unfolding ofBits
+  low = passed (le lowest x) (c .before .if3 .left)
 
-y-is : (m : tie.After-floor-above) → m .floor-above .result ≡ moved 128 (x (m .before .before))
-y-is m =
-    let d = m .before .before in
-    y-at m ∙ sym (moved-is (x d) (neg d) (mant d) (expo d) (d .decode .ensures) (m .before .if2 .left))
+  high : T (lt x limit)
+  unfolding ofBits
+  high = passed (lt x limit) (c .if4 .left)
 
-y-lt : (m : tie.After-floor-above) → m .floor-above .result < 2 ^ 32
-y-lt m =
-    let d = m .before .before in
-    subst (λ (z : ℕ). z < 2 ^ 32) (sym (y-at m)) (floorAt-lt (neg d) (mant d) (132 - expo d) (d .decode .ensures .small))
+far-steps-requires : tie.Need-far-steps-requires
+far-steps-requires c κs = far-range (x c) (held (begin c)) (low c) (high c)
+
+far-y : (d : tie.After-far-steps) → d .far-steps .result ≡ 8388480 * 2 ^ 24 + moved 128 (x (d .before))
+far-y d = let c = d .before in d .far-steps .ensures ∙ far-is (x c) (held (begin c)) (low c) (high c)
+
+sub-power-of-steps-2 : tie.Need-sub-power-of-steps-2
+sub-power-of-steps-2 d = omega (arith, far-y d)
+
+power-of-steps-requires-2 : tie.Need-power-of-steps-requires-2
+power-of-steps-requires-2 d κs =
+    let c = d .before in
+    let l = steps-from (x c) (held (begin c)) (low c) (high c) in
+    let h = steps-below (x c) (held (begin c)) (low c) (high c) in
+    (begin c .pre, omega (arith, far-y d), omega (arith, far-y d))
 
 returns-4 : tie.Need-returns-4
-returns-4 c =
-    let d = c .before .before .before in
-    at-low (x d) (fine (d .before)) (subst (λ (z : ℕ). z / 2 ^ 24 < 2) (y-is (c .before)) (c .if4 .taken))
-
-interpolate-requires : tie.Need-interpolate-requires
-interpolate-requires c κs = (c .before .before .before .before .before .pre, lt-of-le-of-lt (and-le-r (c .before .floor-above .result) _) (lit< tt))
-
-middle : (c : tie.After-interpolate) → Middle (x (c .before .before .before .before)) (c .before .before .floor-above .result) (c .interpolate .result)
-middle c =
-    record {
-      number = fine (c .before .before .before .before .before);
-      floor = y-is (c .before .before);
-      from = c .before .if4 .left;
-      below = y-lt (c .before .before);
-      power = c .interpolate .ensures;
-    }
-
-returns-5 : tie.Need-returns-5
-returns-5 c = bits-are (middle c)
-
-add-result : tie.Need-add-result
-add-result c = search needs
-
-cast-result : tie.Need-cast-result
-cast-result c = record { fits = bits-fit (middle c) }
-
-float-from-bits-result : tie.Need-float-from-bits-result
-float-from-bits-result c = bits-no-nan (middle c)
+returns-4 e =
+    let d = e .before in
+    let c = d .before in
+    of-steps (x c) (d .far-steps .result - 140735340871680) (e .power-of-steps2 .result) (not-nan (x c) (held (begin c)) (low c) (high c)) (omega (arith, far-y d)) (e .power-of-steps2 .ensures)
 
 pub exp2-spec : {M : Type 1} → statement M
 exp2-spec =
     tie.close
     (tie.spec
+    in-range-requires
+    abs-requires
+    near-steps-requires
+    sub-power-of-steps
+    power-of-steps-requires
     returns
-    decode-requires
     returns-2
     returns-3
-    cast-floor-above
-    floor-above-requires
-    returns-4
-    interpolate-requires
-    add-result
-    cast-result
-    float-from-bits-result
-    returns-5)
+    far-steps-requires
+    sub-power-of-steps-2
+    power-of-steps-requires-2
+    returns-4)
