@@ -14,6 +14,9 @@ pub mod Counted
 pub mod CountBounds
 pub mod BeyondFloor
 pub mod Squares
+pub mod WholePart
+pub mod Remainders
+pub mod RemainderByOne
 pub mod RemainderInUnit
 pub mod NearestConstants
 pub mod WholeRoot
