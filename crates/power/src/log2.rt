@@ -70,7 +70,7 @@ pub fn log2(powers: &PowerTable, v: f32) -> f32
     }
     let b = f32::to_bits(v);
     let mant = (b & 0x7f_ffff) | 0x80_0000;
-    let e = ((b >> 23) as i16) - 127;
+    let e = ((b >> 23) as i32) - 127;
     let f = float32::bits::fraction(find(powers, (mant as u64) << 7) as u32);
     f + (e as f32)
 }
