@@ -6,6 +6,7 @@ use Prim.Native.Nat.{ℕ, zero, suc, _+_, _-_, _*_, _/_, _%_, _^_, _≤_, _<_}
 use native.Mathlib.Nat.{le-trans, le-of-eq, le-refl, mul-comm, mul-right-comm, suc-mul, mul-le-mul, mul-le-mul-right, mul-lt-mul-of-pos-right, div-mul-le-self, div-lt-iff-lt-mul, le-div-iff-mul-le}
 use native.Mathlib.Omega.{arith}
 use mir.Val.{boolByte}
+use lib.Bits.{bitXor}
 use lib.Dec.{T, leb, ltb, leb→le, ltb→lt, nleb→lt}
 use lib.Ieee.Fits.{and-l, and-r}
 use Rattle.lists.specs.Tested.{allBelow, below-at}
@@ -15,10 +16,16 @@ use Rattle.power.proofs.Interpolated.{p-mono}
 use Rattle.power.proofs.Search.{P-last}
 
 abbrev pub reciprocal : ℕ → ℕ
-reciprocal h = P (255 - h) * 1514830 / 2 ^ 27
+reciprocal h = P (bitXor h 255) * 1514830 / 2 ^ 27
 
 abbrev width : ℕ → ℕ
 width h = P (h + 1) - P h
+
+all-mirrored : T (allBelow (2 ^ highBits) (λ h. leb (bitXor h 255) (2 ^ highBits)))
+all-mirrored = tt
+
+pub mirrored : (h : ℕ) → h < 2 ^ highBits → bitXor h 255 ≤ 2 ^ highBits
+mirrored h l = leb→le (bitXor h 255) (2 ^ highBits) (below-at (2 ^ highBits) (λ k. leb (bitXor k 255) (2 ^ highBits)) all-mirrored h l)
 
 -- ---- how near it is
 abbrev near : ℕ → Bool
@@ -104,14 +111,14 @@ pub record Placed (h x d e : ℕ) : Type 0 where
   pub wide : d ≡ width h
   pub some : 0 < x
   pub inside : x ≤ d
-  pub entry : e ≡ P (255 - h)
+  pub entry : e ≡ P (bitXor h 255)
 
 module _ {h x d e : ℕ} (s : Placed h x d e) where
   abbrev R : ℕ
   R = e * 1514830 / 2 ^ 27
 
   e-most : e ≤ 2 ^ 31
-  e-most = rw (s .entry) (entry-most (255 - h) (omega arith))
+  e-most = rw (s .entry) (entry-most (bitXor h 255) (mirrored h (s .within)))
 
   x-most : x ≤ 2 ^ 31
   x-most = let l = s .within in let u = entry-most (h + 1) (omega arith) in let w = s .wide in let i = s .inside in omega arith

@@ -9,6 +9,7 @@ use crate::table::power;
 
 const LEAST_NORMAL: f32 = 1.1754944e-38;
 
+// The last step: h ^ LAST_STEP is LAST_STEP - h.
 const LAST_STEP: usize = 255;
 
 // The step of the table that t = 2^30 * (1 + m) lies in, or the one before: log2(1 + m) is a little above m * (1.403 - m * (0.53 - m * 0.125)), which is taken here for m's
@@ -36,7 +37,7 @@ fn place(powers: &PowerTable, h: usize, x: u64, d: u64) -> u64
     requires { ⌜ (now powers ≡ powerTable) × (h < 2 ^ highBits) × (d ≡ P (h + 1) - P h) × (0 < x) × (x ≤ d) ⌝ }
     ensures { λ r. ⌜ r ≡ (x * 2 ^ lowBits - 1) / d ⌝ }
 {
-    let reciprocal = (power(powers, LAST_STEP - h) * 1514830) >> 27;
+    let reciprocal = (power(powers, h ^ LAST_STEP) * 1514830) >> 27;
     let n = (x * reciprocal) >> 30;
     n - ((x << LOW_BITS <= n * d) as u64)
 }
@@ -71,6 +72,6 @@ pub fn log2(powers: &PowerTable, v: f32) -> f32
     let b = f32::to_bits(v);
     let mant = (b & 0x7f_ffff) | 0x80_0000;
     let e = ((b >> 23) as i32) - 127;
-    let f = float32::bits::fraction(find(powers, (mant as u64) << 7) as u32);
+    let f = float32::bits::fraction((find(powers, (mant as u64) << 7) & 0xff_ffff) as u32);
     f + (e as f32)
 }
