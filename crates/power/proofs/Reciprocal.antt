@@ -15,8 +15,12 @@ use Rattle.power.specs.Rules.{P-rule}
 use Rattle.power.proofs.Interpolated.{p-mono}
 use Rattle.power.proofs.Search.{P-last}
 
+-- the code's multiple
+abbrev factor : ℕ
+factor = 1514830
+
 abbrev pub reciprocal : ℕ → ℕ
-reciprocal h = P (bitXor h 255) * 1514830 / 2 ^ 27
+reciprocal h = P (bitXor h 255) * factor / 2 ^ 27
 
 abbrev width : ℕ → ℕ
 width h = P (h + 1) - P h
@@ -115,7 +119,7 @@ pub record Placed (h x d e : ℕ) : Type 0 where
 
 module _ {h x d e : ℕ} (s : Placed h x d e) where
   abbrev R : ℕ
-  R = e * 1514830 / 2 ^ 27
+  R = e * factor / 2 ^ 27
 
   e-most : e ≤ 2 ^ 31
   e-most = rw (s .entry) (entry-most (bitXor h 255) (mirrored h (s .within)))
@@ -126,7 +130,7 @@ module _ {h x d e : ℕ} (s : Placed h x d e) where
   d-most : d ≤ 2 ^ 31
   d-most = let l = s .within in let u = entry-most (h + 1) (omega arith) in let w = s .wide in omega arith
 
-  pub scaled-fits : e * 1514830 < 2 ^ 64
+  pub scaled-fits : e * factor < 2 ^ 64
   scaled-fits = let l = e-most in omega arith
 
   R-most : R ≤ 24237280
