@@ -72,6 +72,7 @@ pub fn log2(powers: &PowerTable, v: f32) -> f32
     let b = f32::to_bits(v);
     let mant = (b & 0x7f_ffff) | 0x80_0000;
     let e = ((b >> 23) as i32) - 127;
+    // F has 24 bits; the mask lets the compiler see it, and convert F by one instruction.
     let f = float32::bits::fraction((find(powers, (mant as u64) << 7) & 0xff_ffff) as u32);
     f + (e as f32)
 }
