@@ -17,6 +17,9 @@ pub mod CountBounds
 pub mod Millionths
 pub mod BeyondFloor
 pub mod Squares
+pub mod WholePart
+pub mod Remainders
+pub mod RemainderByOne
 pub mod RemainderInUnit
 pub mod NearestConstants
 pub mod WholeRoot

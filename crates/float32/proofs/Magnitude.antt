@@ -28,24 +28,24 @@ magnitude-neg nan = refl
 magnitude-neg (inf s) = refl
 magnitude-neg (fin s m e) = refl
 
-fits-clear : (f : Format) (x : Float) → T (fits f x) → T (fits f (magnitude x))
+pub magnitude-fits : (f : Format) (x : Float) → T (fits f x) → T (fits f (magnitude x))
 unfolding magnitude fits
-fits-clear f nan h = tt
-fits-clear f (inf s) h = tt
-fits-clear f (fin s zero e) h = h
-fits-clear f (fin s (suc m) e) h = h
+magnitude-fits f nan h = tt
+magnitude-fits f (inf s) h = tt
+magnitude-fits f (fin s zero e) h = h
+magnitude-fits f (fin s (suc m) e) h = h
 
 pub magnitude-is-number : (f : Format) (x : Float) → T (number f x) → T (number f (magnitude x))
 unfolding magnitude
 magnitude-is-number f nan h = h
 magnitude-is-number f (inf s) h = tt
-magnitude-is-number f (fin s m e) h = fits-clear f (fin s m e) h
+magnitude-is-number f (fin s m e) h = magnitude-fits f (fin s m e) h
 
 pub magnitude-is-real : (f : Format) (x : Float) → T (real f x) → T (real f (magnitude x))
 unfolding magnitude
 magnitude-is-real f nan h = h
 magnitude-is-real f (inf s) h = h
-magnitude-is-real f (fin s m e) h = fits-clear f (fin s m e) h
+magnitude-is-real f (fin s m e) h = magnitude-fits f (fin s m e) h
 
 pub magnitude-nonneg : (f : Format) (x : Float) → T (number f x) → T (le plus-zero (magnitude x))
 unfolding magnitude

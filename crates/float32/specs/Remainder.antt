@@ -1,6 +1,9 @@
 -- "rem_euclid(1) of v is v % 1, and where that is below 0 its rounded sum with 1." The sum can be 1. Assumes nothing.
 use mathlib.Core.Bool.{cond}
-use lib.Ieee.{Float, binary32, ofBits, rem, add, lt}
+use Prim.Native.Nat.{_/_, _^_}
+use lib.IntN.{pos}
+use lib.Ieee.{Float, binary32, low, ofBits, ofInt, rem, add, lt}
+use Rattle.float_laws.specs.Units.{mag}
 
 abbrev pub zero : Float
 zero = ofBits binary32 0x0000_0000
@@ -13,3 +16,11 @@ half = ofBits binary32 0x3f00_0000
 
 unfoldable pub remEuclidOne : Float → Float
 remEuclidOne v = let r = rem binary32 v one in cond (lt r zero) (add binary32 r one) r
+
+-- The size of a cut to a whole number, for a below 2 ^ 24: `mag` counts a in units of 2 ^ -149, f32's smallest value.
+unfoldable pub wholePart : Float → Float
+wholePart a = ofInt binary32 (pos (mag binary32 a / 2 ^ low binary32))
+
+-- 2 ^ 23: from here on every f32 is a whole number
+abbrev pub allWhole : Float
+allWhole = ofBits binary32 0x4b00_0000

@@ -58,7 +58,7 @@ pub fn fraction(f: u32) -> f32
     requires { ⌜ f ≤ 16777216 ⌝ }
     ensures { λ r. ⌜ r ≡ round binary32 false f 16777216 ⌝ }
 {
-    (f as f32) / 16777216.0
+    ((f as i32) as f32) / 16777216.0
 }
 
 // A shift by 31 places is as good as one by more, for digits below 2^31.

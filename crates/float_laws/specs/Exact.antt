@@ -203,7 +203,7 @@ module _ (f : Format) (n : ℕ) (h : n ≤ 2 ^ prec f) where
   unfolding ofInt
   real-whole = real-of-size f (round f false n 1) (round-number f false n 1) (lt-of-le-of-lt (le-of-eq mag-whole) in-range)
 
-sum-minus : (f : Format) (s t : Bool) (a b c : ℕ) → s ≡ false → t ≡ true → b ≤ a → sum f s a t b c ≡ round f false (a - b) c
+pub sum-minus : (f : Format) (s t : Bool) (a b c : ℕ) → s ≡ false → t ≡ true → b ≤ a → sum f s a t b c ≡ round f false (a - b) c
 unfolding sum
 sum-minus f false true a b c e g h = go (ltb a b) (ltb→lt a b)
   where
@@ -213,7 +213,7 @@ sum-minus f false true a b c e g h = go (ltb a b) (ltb→lt a b)
 sum-minus f false false a b c e g h = absurd (true≢false (sym g))
 sum-minus f true t a b c e g h = absurd (true≢false e)
 
-sign-neg : (f : Format) (x : Float) → T (real f x) → sign (neg x) ≡ not (sign x)
+pub sign-neg : (f : Format) (x : Float) → T (real f x) → sign (neg x) ≡ not (sign x)
 unfolding neg
 sign-neg f nan p = absurd p
 sign-neg f (inf s) p = absurd p

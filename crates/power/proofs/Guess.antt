@@ -18,7 +18,7 @@ use Rattle.power.proofs.Interpolated.{p-mono}
 use Rattle.power.proofs.Search.{P-last, not-first, not-last, step-greatest}
 
 abbrev pub guessed : ℕ → ℕ
-guessed m = m * (1522565906 - m * (603980 - m * 162)) / 2 ^ 32
+guessed m = m * (1506459779 - m * (555745 - m * 128)) / 2 ^ 32
 
 -- ---- it never falls
 steps-up : T (allBelow 1023 (λ m. leb (guessed m) (guessed (suc m))))

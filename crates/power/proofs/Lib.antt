@@ -9,6 +9,7 @@ pub mod Range
 pub mod Greatest
 pub mod Division
 pub mod Search
+pub mod Reciprocal
 pub mod Guess
 pub mod Normal
 pub mod Logs

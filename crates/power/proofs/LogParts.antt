@@ -1,19 +1,19 @@
 -- The parts of a positive normal v as `log2` takes them from its bit pattern: the sign bit is clear and the exponent's field from 1 to 254, since any other pattern is of a number that
 -- is not positive and normal. And the exponent, a signed number. Assumes nothing.
-use mathlib.Core.Path.{_≡_, refl, ap, _∙_, subst}
+use mathlib.Core.Path.{_≡_, refl, sym, ap, _∙_, subst}
 use mathlib.Core.Logic.{inl, inr}
 use mathlib.Core.Bool.{Bool, true, false, not, cond}
 use Prim.Native.Nat.{ℕ, suc, _-_, _/_, _%_, _^_, _≤_, _<_}
 use native.Mathlib.Nat.{mod-lt}
 use native.Mathlib.Omega.{arith}
-use lib.Dec.{T, eqb, ltb, ltb→lt, nltb→le, lit<}
+use lib.Dec.{T, eqb, ltb, ltb→lt, nltb→le, lt→ltb, le→leb, lit<}
 use lib.Bits.{bitAnd, bitOr, and-mask, or-shifted-r}
 use lib.IntN.{ℤ, pos, negsuc, subℕ, _-ℤ_}
-use lib.Ieee.{Float, nan, inf, fin, binary32, toBits, fits, isNan}
+use lib.Ieee.{Float, nan, inf, fin, binary32, toBits, fits, isNan, inFloat}
 use lib.Ieee.Bits.{toBits-lt}
 use lib.Ieee.Fits.{eq→eqb}
 use borrow.Author.Tests.{lt-ltb}
-use mir.Syntax.{w16}
+use mir.Syntax.{w32}
 use mir.Val.{SFits, toZ, ofZ}
 use mir.Facts.{toZ-ofZ}
 use Rattle.lists.specs.Interpolation.{here-or-on}
@@ -95,18 +95,29 @@ module _ (v : Float) (h : T (fits binary32 v)) (t : T (positiveNormal v)) where
       leading = rw (ap (λ (t : ℕ). bitOr t 8388608) (and-mask bits 23) ∙ or-shifted-r 1 23 (bits % 8388608) (mod-lt bits (lit< tt))) (omega arith)
 
 -- ---- the field less 127
-signed : (n : ℕ) → n < 512 → toZ w16 n ≡ pos n
-signed n l = rw (lt-ltb n 32768 (omega arith))
+signed : (n : ℕ) → n < 512 → toZ w32 n ≡ pos n
+signed n l = rw (lt-ltb n 2147483648 (omega arith))
 
-less-fits : (n : ℕ) → n < 512 → SFits w16 (subℕ n 127)
+less-fits : (n : ℕ) → n < 512 → SFits w32 (subℕ n 127)
 less-fits n l = go (ltb n 127) (ltb→lt n 127) (nltb→le n 127)
   where
-    go : (b : Bool) → (T b → n < 127) → (T (not b) → 127 ≤ n) → SFits w16 (cond b (negsuc (127 - suc n)) (pos (n - 127)))
+    go : (b : Bool) → (T b → n < 127) → (T (not b) → 127 ≤ n) → SFits w32 (cond b (negsuc (127 - suc n)) (pos (n - 127)))
     go true y z = record { sfits = omega arith }
     go false y z = record { sfits = omega arith }
 
-pub exponent-fits : (n : ℕ) → n < 512 → SFits w16 (toZ w16 n -ℤ pos 127)
+pub exponent-fits : (n : ℕ) → n < 512 → SFits w32 (toZ w32 n -ℤ pos 127)
 exponent-fits n l = rw (signed n l) (less-fits n l)
 
-pub exponent-is : (n : ℕ) → n < 512 → toZ w16 (ofZ w16 (toZ w16 n -ℤ pos 127)) ≡ subℕ n 127
+pub exponent-is : (n : ℕ) → n < 512 → toZ w32 (ofZ w32 (toZ w32 n -ℤ pos 127)) ≡ subℕ n 127
 exponent-is n l = toZ-ofZ (exponent-fits n l) ∙ ap (λ (z : ℤ). z -ℤ pos 127) (signed n l)
+
+held : (n : ℕ) → n < 512 → T (inFloat binary32 (subℕ n 127))
+unfolding inFloat
+held n l = go (ltb n 127)
+  where
+    go : (b : Bool) → T (inFloat binary32 (cond b (negsuc (127 - suc n)) (pos (n - 127))))
+    go true = lt→ltb (127 - suc n) 16777216 (omega arith)
+    go false = le→leb (n - 127) 16777216 (omega arith)
+
+pub exponent-held : (n : ℕ) → n < 512 → T (inFloat binary32 (toZ w32 (ofZ w32 (toZ w32 n -ℤ pos 127))))
+exponent-held n l = subst (λ (z : ℤ). T (inFloat binary32 z)) (sym (exponent-is n l)) (held n l)

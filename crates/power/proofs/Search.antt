@@ -1,4 +1,4 @@
--- What `find` computes: the step that t lies in, which is within the table, since P begins at 2 ^ 30 and ends at 2 ^ 31; the division that follows is done within 64 bits.
+-- What `find` computes: the step that t lies in, which is within the table, since P begins at 2 ^ 30 and ends at 2 ^ 31; the place within the step, and the sum of both.
 -- Assumes nothing.
 use mathlib.Core.Path.{_≡_, refl, subst}
 use mathlib.Core.Logic.{inl, inr}
@@ -85,16 +85,17 @@ module _ {t h a b : ℕ} (s : Between t h a b) where
   high-bits : h * 2 ^ lowBits % 2 ^ 64 ≡ h * 2 ^ lowBits
   high-bits = let u = s .step .within in omega arith
 
-  shifted : (t - a + 1) * 2 ^ lowBits % 2 ^ 64 ≡ (t - a + 1) * 2 ^ lowBits
-  shifted = let u = s .small in omega arith
+  pub place-some : 0 < t - a + 1
+  place-some = omega arith
 
-  pub shifted-pos : 1 ≤ (t - a + 1) * 2 ^ lowBits % 2 ^ 64
-  shifted-pos = rw shifted (omega arith)
+  pub place-inside : t - a + 1 ≤ b - a
+  place-inside = let u : t < b = rw (s .right) (s .step .to) in let l = a-le in omega arith
 
-  pub sum-fits : h * 2 ^ lowBits % 2 ^ 64 + ((t - a + 1) * 2 ^ lowBits % 2 ^ 64 - 1) / (b - a) < 2 ^ 64
-  sum-fits =
-      rw (high-bits, shifted)
-      (let u = div-le-self ((t - a + 1) * 2 ^ lowBits - 1) (b - a) in let v = s .small in let w = s .step .within in omega arith)
+  pub place-wide : b - a ≡ P (h + 1) - P h
+  place-wide = rw (s .left, s .right) refl
 
-  pub is-found : h * 2 ^ lowBits % 2 ^ 64 + ((t - a + 1) * 2 ^ lowBits % 2 ^ 64 - 1) / (b - a) ≡ greatest I t (2 ^ 24)
-  is-found = rw (high-bits, shifted, s .left, s .right) (found-by-division P-rule t h (s .step .within) (s .step .from) (s .step .to))
+  pub sum-fits : h * 2 ^ lowBits % 2 ^ 64 + ((t - a + 1) * 2 ^ lowBits - 1) / (b - a) < 2 ^ 64
+  sum-fits = rw high-bits (let u = div-le-self ((t - a + 1) * 2 ^ lowBits - 1) (b - a) in let v = s .small in let w = s .step .within in omega arith)
+
+  pub is-found : h * 2 ^ lowBits % 2 ^ 64 + ((t - a + 1) * 2 ^ lowBits - 1) / (b - a) ≡ greatest I t (2 ^ 24)
+  is-found = rw (high-bits, s .left, s .right) (found-by-division P-rule t h (s .step .within) (s .step .from) (s .step .to))

@@ -1,7 +1,10 @@
--- `find` meets its contract: t lies in the step h, and there the division finds the low bits. Assumes nothing.
+-- `find` meets its contract: t lies in the step h, and there `place` gives the low bits. Assumes nothing.
+use mathlib.Core.Path.{ap, _∙_, sym, subst}
+use Prim.Native.Nat.{ℕ, _+_, _*_, _%_, _^_, _<_}
 use borrow.Author.Needs.{needs}
 use native.Mathlib.Omega.{arith}
-use Rattle.power.proofs.Search.{Step, Between, step-is, a-le, a-lt-b, shifted-pos, sum-fits, is-found}
+use Rattle.power.specs.Table.{lowBits}
+use Rattle.power.proofs.Search.{Step, Between, step-is, a-le, a-lt-b, place-some, place-inside, place-wide, sum-fits, is-found}
 use Rattle.power.proofs.log2.find.Statement.{statement}
 use Rattle.power.proofs.log2.find.Tie as tie
 
@@ -23,26 +26,26 @@ power-requires-2 c κs = let s = step (c .before) in (c .before .before .pre .0,
 between : (c : tie.After-power2) → Between (c .before .before .before .args .t) (c .before .before .step-of .result) (c .before .power .result) (c .power2 .result)
 between c = record { small = c .before .before .before .pre .2; step = step (c .before .before); left = c .before .power .ensures; right = c .power2 .ensures }
 
-sub-result : tie.Need-sub-result
-sub-result c = a-le (between c)
+sub-place : tie.Need-sub-place
+sub-place c = a-le (between c)
+
+add-place : tie.Need-add-place
+add-place c = search needs
+
+sub-place-2 : tie.Need-sub-place-2
+sub-place-2 c = omega (arith, a-lt-b (between c))
+
+place-requires : tie.Need-place-requires
+place-requires c κs = (c .before .before .before .pre .0, step (c .before .before) .within, place-wide (between c), place-some (between c), place-inside (between c))
+
+abbrev high : tie.After-place → ℕ
+high c = c .before .before .before .step-of .result * 2 ^ lowBits % 2 ^ 64
 
 add-result : tie.Need-add-result
-add-result c = search needs
-
-sub-result-2 : tie.Need-sub-result-2
-sub-result-2 c = shifted-pos (between c)
-
-sub-result-3 : tie.Need-sub-result-3
-sub-result-3 c = omega (arith, a-lt-b (between c))
-
-div-result : tie.Need-div-result
-div-result c = omega (arith, a-lt-b (between c))
-
-add-result-2 : tie.Need-add-result-2
-add-result-2 c = record { fits = sum-fits (between c) }
+add-result c = record { fits = subst (λ (r : ℕ). high c + r < 2 ^ 64) (sym (c .place .ensures)) (sum-fits (between (c .before))) }
 
 returns : tie.Need-returns
-returns c = is-found (between c)
+returns c = ap (λ (r : ℕ). high c + r) (c .place .ensures) ∙ is-found (between (c .before))
 
 pub find-spec : {M : Type 1} → statement M
 find-spec =
@@ -52,10 +55,9 @@ find-spec =
     power-requires
     add-power
     power-requires-2
-    sub-result
+    sub-place
+    add-place
+    sub-place-2
+    place-requires
     add-result
-    sub-result-2
-    sub-result-3
-    div-result
-    add-result-2
     returns)

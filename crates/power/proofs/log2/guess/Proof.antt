@@ -7,11 +7,11 @@ use Rattle.power.proofs.Guess.{guess-within, guess-from, guess-to}
 use Rattle.power.proofs.log2.guess.Statement.{statement}
 use Rattle.power.proofs.log2.guess.Tie as tie
 
-bend : (m : ℕ) → m < 1024 → m * (603980 - m * 162) ≤ 1024 * 603980
-bend m h = mul-le-mul {n₁ = m} {m₁ = 603980 - m * 162} {n₂ = 1024} {m₂ = 603980} (omega arith) (omega arith)
+bend : (m : ℕ) → m < 1024 → m * (555745 - m * 128) ≤ 1024 * 555745
+bend m h = mul-le-mul {n₁ = m} {m₁ = 555745 - m * 128} {n₂ = 1024} {m₂ = 555745} (omega arith) (omega arith)
 
-whole : (m : ℕ) → m < 1024 → m * (1522565906 - m * (603980 - m * 162)) ≤ 1024 * 1522565906
-whole m h = mul-le-mul {n₁ = m} {m₁ = 1522565906 - m * (603980 - m * 162)} {n₂ = 1024} {m₂ = 1522565906} (omega arith) (omega arith)
+whole : (m : ℕ) → m < 1024 → m * (1506459779 - m * (555745 - m * 128)) ≤ 1024 * 1506459779
+whole m h = mul-le-mul {n₁ = m} {m₁ = 1506459779 - m * (555745 - m * 128)} {n₂ = 1024} {m₂ = 1506459779} (omega arith) (omega arith)
 
 abbrev m-of : tie.Start → ℕ
 m-of c = (c .args .t - 2 ^ 30) / 2 ^ 20

@@ -2,16 +2,18 @@
 use mathlib.Core.Path.{_≡_, sym, subst, ap, _∙_}
 use mathlib.Core.Bool.{false}
 use Prim.Native.Nat.{ℕ, suc, _-_, _*_, _/_, _%_, _^_, _<_}
+use native.Mathlib.Nat.{mod-eq-of-lt}
 use native.Mathlib.Omega.{arith}
+use lib.Bits.{bitAnd, and-mask}
 use lib.Dec.{T}
 use lib.IntN.{ℤ, pos, subℕ, _-ℤ_}
 use lib.Ieee.{Float, binary32, round, add, ofInt, fits, toBits}
 use borrow.Author.Needs.{needs}
-use mir.Syntax.{w16}
+use mir.Syntax.{w32}
 use mir.Val.{toZ, ofZ}
 use Rattle.power.specs.Table.{I}
 use Rattle.power.specs.Log.{greatest, positiveNormal}
-use Rattle.power.proofs.LogParts.{Parts, mant, fields, no-nan, exponent-fits, exponent-is}
+use Rattle.power.proofs.LogParts.{Parts, mant, fields, no-nan, exponent-fits, exponent-is, exponent-held}
 use Rattle.power.proofs.LogMade.{Found, log-low, log-high, normal-tests, log-sum, F-lt}
 use Rattle.power.proofs.log2.log2.Statement.{statement}
 use Rattle.power.proofs.log2.log2.Tie as tie
@@ -70,14 +72,18 @@ found c =
     let p = made (c .before) in
     record { parts = p .parts; normal = p .full; finite = let h = p .high in omega arith; greatest-F = F-is c }
 
+-- the mask takes nothing away
+kept : (c : tie.After-find) → bitAnd (c .find .result) 16777215 ≡ c .find .result
+kept c = and-mask (c .find .result) 24 ∙ mod-eq-of-lt (F-lt (found c))
+
 cast-fraction : tie.Need-cast-fraction
-cast-fraction c = let l = F-lt (found c) in omega arith
+cast-fraction c = rw (kept c) (record { fits = let l = F-lt (found c) in omega arith })
 
 fraction-requires : tie.Need-fraction-requires
-fraction-requires c κs = let l = F-lt (found c) in omega arith
+fraction-requires c κs = rw (kept c) (let l = F-lt (found c) in omega arith)
 
 int-to-float-result : tie.Need-int-to-float-result
-int-to-float-result c = search needs
+int-to-float-result c = let f = c .before .before .before in exponent-held (field f) (field-lt f)
 
 returns-3 : tie.Need-returns-3
 returns-3 c =
@@ -85,7 +91,7 @@ returns-3 c =
     let n = field (f .before) in
     let l = made (f .before) .low in
     let e : n ≡ suc (n - 1) = omega arith in
-    ap (λ (x : Float). add binary32 x (ofInt binary32 (toZ w16 (ofZ w16 (toZ w16 n -ℤ pos 127))))) (c .before .fraction .ensures)
+    ap (λ (x : Float). add binary32 x (ofInt binary32 (toZ w32 (ofZ w32 (toZ w32 n -ℤ pos 127))))) (c .before .fraction .ensures ∙ ap (λ (F : ℕ). round binary32 false F (2 ^ 24)) (kept f))
     ∙ ap (λ (z : ℤ). add binary32 (round binary32 false (f .find .result) (2 ^ 24)) (ofInt binary32 z)) (exponent-is n (field-lt (f .before)) ∙ ap (λ (k : ℕ). subℕ k 127) e)
     ∙ log-sum (found f)
 
