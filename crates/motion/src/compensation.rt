@@ -28,8 +28,8 @@ const MOTION_COMPENSATION_SAMPLES: usize = 256;
 
 const MAX_MOTION_COMPENSATION_DB: f32 = 12.0;
 
-// The settings as the shapes take them, which is the same at every sample.
-fn settled(config: MotionConfig) -> MotionConfig
+// The settings as the shapes take them, which is the same at every sample and every bin.
+pub fn settled(config: MotionConfig) -> MotionConfig
     ensures { λ r. ⌜ r ≡ settled config ⌝ }
 {
     let depth_db = max(config.depth_db, 0.0);
