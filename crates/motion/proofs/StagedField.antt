@@ -3,9 +3,12 @@
 use mathlib.Core.Path.{_≡_, refl, sym, ap, _∙_}
 use mathlib.Core.Bool.{Bool, true, false, cond}
 use mathlib.Core.List.{List}
-use Prim.Native.Nat.{ℕ, _+_}
-use lib.Dec.{T}
-use lib.Ieee.{Float, binary32, div, lt, le}
+use Prim.Native.Nat.{ℕ, _+_, _*_, _<_}
+use native.Mathlib.Omega.{arith}
+use borrow.Author.Tests.{le-ltb, ne-eqb}
+use lib.Dec.{T, ltb→lt}
+use lib.IntN.{ℤ}
+use lib.Ieee.{Float, nan, inf, fin, binary32, up, down, ofBits, div, lt, eq, le}
 use Rattle.lists.specs.Maps.{mapRange}
 use Rattle.lists.specs.Stages.{stage-same, stages}
 use Rattle.float32.specs.Remainder.{one}
@@ -16,7 +19,7 @@ use Rattle.scene.specs.declared.MotionShape.the-variants.{Ripple, Harmonic, Dri
 use Rattle.scene.specs.declared.MotionConfig.{MotionConfig}
 use Rattle.motion.specs.Field.{MIN-DISPLAY-FREQUENCY-HZ, RESTING-DEPTH-DB, shapeAt, openness, attenuation, motionGain}
 use Rattle.motion.specs.Octaves.{settled}
-use Rattle.motion.specs.Rows.{frequencyOf, madeOfEvents, shaped, openAt, lowered, gainLeft}
+use Rattle.motion.specs.Rows.{frequencyOf, madeOfEvents, shaped, openAt, lowered, gainThere, gainLeft}
 
 -- ---- shapes that are made of events
 events-open : (shape : MotionShape) (x size phase : Float) → T (madeOfEvents shape) → shapeAt shape x size phase ≡ one
@@ -70,7 +73,33 @@ module _ (field : MotionConfig) (spacing : Float) (start count : ℕ) where
       ap (mapRange (λ k db. gainOf db) 0 count) (stages (λ k opened. lowered (field .«depth_db») opened) opening 0 count xs)
       ∙ stages (λ k db. gainOf db) (λ k held. lowered (field .«depth_db») (opening k held)) 0 count xs
 
+-- ---- the gains of a settled field at given places
+pub places-staged : (field : MotionConfig) (count : ℕ) (xs : List Float)
+    → mapRange (λ k db. gainOf db) 0 count (mapRange (λ k opened. lowered (field .«depth_db») opened) 0 count (mapRange (λ k x. shaped field x) 0 count xs))
+    ≡ mapRange (λ k x. gainThere field x) 0 count xs
+places-staged field count xs =
+    ap (mapRange (λ k db. gainOf db) 0 count) (stages (λ k opened. lowered (field .«depth_db») opened) (λ k x. shaped field x) 0 count xs)
+    ∙ stages (λ k db. gainOf db) (λ k x. lowered (field .«depth_db») (shaped field x)) 0 count xs
+
 -- ---- the gain of the definition
+-- a number above one that is finite and not negative is not at most that one
+above : (m : ℕ) (e : ℤ) (y : Float) → T (lt (fin false m e) y) → le y (fin false m e) ≡ false
+unfolding lt eq le
+above m e nan h = absurd h
+above m e (inf true) h = absurd h
+above m e (inf false) h = refl
+above m e (fin true n d) h = absurd h
+above m e (fin false n d) h =
+    let a = m * up e * down d in
+    let b = n * up d * down e in
+    let l : a < b = ltb→lt a b h in
+    simp (le-ltb b a (omega arith), ne-eqb b a (λ z. omega arith))
+
+-- a field of a greater depth does not rest
+pub moving : (depth : Float) → lt RESTING-DEPTH-DB depth ≡ true → le depth RESTING-DEPTH-DB ≡ false
+unfolding ofBits
+moving depth e = above _ _ depth (rw e tt)
+
 pub settled-gain : (config : MotionConfig) (frequency : Float) → le (config .«depth_db») RESTING-DEPTH-DB ≡ false → gainLeft (settled config) frequency ≡ motionGain frequency config
 unfolding gainLeft settled motionGain attenuation openness
 settled-gain config frequency r = rw r refl

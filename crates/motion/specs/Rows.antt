@@ -39,5 +39,10 @@ openAt field frequency = cond (lt frequency MIN-DISPLAY-FREQUENCY-HZ) one (shape
 abbrev pub lowered : Float → Float → Float
 lowered depth opened = neg (mul binary32 depth (sub binary32 one opened))
 
+-- what the field leaves, x octaves above the lowest frequency shown
+abbrev pub gainThere : MotionConfig → Float → Float
+gainThere field x = gainOf (lowered (field .«depth_db») (shaped field x))
+
+-- what it leaves of a frequency
 unfoldable pub gainLeft : MotionConfig → Float → Float
 gainLeft field frequency = gainOf (lowered (field .«depth_db») (openAt field frequency))
