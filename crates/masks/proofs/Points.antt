@@ -87,7 +87,7 @@ point-by-step bin size step e =
     let product : b * LAST-POINT ≡ b * step * half = ap (λ (z : ℕ). b * z) (sym e) ∙ sym (mul-assoc b step half) in
     let none : (size / 4) / half ≡ 0 = div-eq-of-lt (omega arith) in
     let quotient : (b * LAST-POINT + size / 4) / half ≡ b * step =
-        ap (λ (z : ℕ). (z + size / 4) / half) product ∙ mul-add-div-right p (b * step) (size / 4) ∙ ap (λ (z : ℕ). b * step + z) none ∙ add-zero (b * step) in
+    ap (λ (z : ℕ). (z + size / 4) / half) product ∙ mul-add-div-right p (b * step) (size / 4) ∙ ap (λ (z : ℕ). b * step + z) none ∙ add-zero (b * step) in
     ap (λ (z : ℕ). min z LAST-POINT) quotient ∙ limited bin step (step-pos step half e)
 
 pub point-8192-1 : curvePoint 1 8192 ≡ 2
