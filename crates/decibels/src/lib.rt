@@ -1,4 +1,6 @@
 // Decibels as gains.
+pub mod rows;
+
 ghost use mathlib.Core.Path.{_≡_};
 ghost use Rattle.power.specs.Table.{powerTable};
 ghost use Rattle.decibels.specs.Gain.{gainOf};

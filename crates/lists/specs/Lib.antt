@@ -7,3 +7,4 @@ pub mod Totals
 pub mod Tested
 pub mod Pairs
 pub mod Interpolation
+pub mod Stages

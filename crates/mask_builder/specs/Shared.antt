@@ -2,6 +2,7 @@
 use Rattle.scene.specs.declared.MaskConfig.{MaskConfig}
 use Rattle.frequencies.specs.Frequency.{binHz}
 use Rattle.masks.specs.Gates.{emphasisGain, floorGain}
+use Rattle.motion.specs.Octaves.{settled}
 use Rattle.motion.specs.Compensation.{compensation}
 use Rattle.mask_builder.specs.declared.gains.Shared.{Shared}
 
@@ -9,6 +10,7 @@ abbrev pub sharedOf : MaskConfig → Shared
 sharedOf config =
     record {
       «bin_hz» = binHz (config .«sample_rate») (config .«fft_size»);
+      field = settled (config .motion);
       compensation = compensation (config .motion);
       floor = floorGain (config .«note_depth_db»);
       emphasis = emphasisGain (config .«width_cents»);

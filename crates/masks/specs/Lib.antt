@@ -1,2 +1,3 @@
 pub mod Gates
 pub mod Manual
+pub mod Counted

@@ -5,3 +5,4 @@ pub mod Samples
 pub mod Compensated
 pub mod Accepted
 pub mod ZeroSigns
+pub mod StagedField

@@ -1,5 +1,5 @@
 -- Each entry of the table is the logarithm that `openness` takes at its sample, and no sample is below the lowest frequency shown: by one test that goes through the samples.
--- So a sample's power comes from the table and the settled settings. Assumes nothing.
+-- So a sample's power comes from what the settled field leaves at the table's places. Assumes nothing.
 use mathlib.Core.Path.{_≡_, refl, sym, ap, _∙_}
 use mathlib.Core.Bool.{Bool, false, not, _&&_}
 use mathlib.Core.List.{List, [], _∷_, map}
@@ -13,9 +13,11 @@ use lib.Ieee.{Float, nan, inf, fin, binary32, fits, lt, le, add, mul, div, sum, 
 use lib.Ieee.Bits.{ofBits-toBits, is-false}
 use lib.Ieee.Fits.{and-l, and-r}
 use Rattle.float_laws.specs.Units.{number}
+use Rattle.lists.specs.Maps.{mapRange, getD-mapRange, between-in}
 use Rattle.lists.specs.Folds.{fold, range}
 use Rattle.lists.specs.Tested.{every, every-at}
 use Rattle.lists.specs.Interpolation.{interp}
+use Rattle.float32.specs.Powers.{square}
 use Rattle.float32.specs.Value.{moved}
 use Rattle.power.specs.Table.{powerTable}
 use Rattle.power.specs.Power.{powerAt, powerOf, E2}
@@ -25,7 +27,8 @@ use Rattle.power.proofs.LogComputed.{logOfUnits, L2-computed}
 use Rattle.scene.specs.declared.MotionConfig.{MotionConfig}
 use Rattle.motion.specs.Field.{MIN-DISPLAY-FREQUENCY-HZ, RESTING-DEPTH-DB, openness, attenuation, motionGain}
 use Rattle.motion.specs.Compensation.{sampleFrequency, samplePower}
-use Rattle.motion.specs.Octaves.{octaveBits, octaveTable, settled, powerLeft}
+use Rattle.motion.specs.Octaves.{octaveBits, octaveTable, settled}
+use Rattle.motion.specs.Rows.{gainThere}
 
 -- at the frequency f, whose quotient by the lowest one shown is v
 abbrev shown : Float → Bool
@@ -45,6 +48,10 @@ all-agree = tt
 long : length octaveBits ≡ 256
 unfolding octaveBits
 long = refl
+
+pub table-long : length octaveTable ≡ 256
+unfolding octaveTable octaveBits
+table-long = refl
 
 agreed : (i : ℕ) → i < 256 → T (agrees i (getD octaveBits i 0))
 agreed i h = every-at 0 agrees octaveBits all-agree i (rw long h)
@@ -82,14 +89,22 @@ module _ (i : ℕ) (h : i < 256) where
   unfolding octaveTable
   octave-is = getD-map (ofBits binary32) octaveBits i (rw long h) ∙ ap (ofBits binary32) (sym same-bits) ∙ ofBits-toBits binary32 (L2 v) (fits-of (L2 v) (L2-number v))
 
--- ---- a sample's power, of a field that does not rest
-module _ (config : MotionConfig) (r : le (config .«depth_db») RESTING-DEPTH-DB ≡ false) where
+-- ---- the samples' powers, from a row of what a field that does not rest leaves at them
+module _ (config : MotionConfig) (r : le (config .«depth_db») RESTING-DEPTH-DB ≡ false) (row : List Float) (g : row ≡ mapRange (λ k x. gainThere (settled config) x) 0 256 octaveTable) where
   abbrev powerAtPlace : ℕ → Float
-  powerAtPlace k = powerLeft (settled config) (getD octaveTable k nan)
+  powerAtPlace k = square (getD row k nan)
+
+  held : (k : ℕ) → k < 256 → getD row k nan ≡ gainThere (settled config) (getD octaveTable k nan)
+  held k h =
+      ap (λ l. getD l k nan) g ∙ getD-mapRange (λ k x. gainThere (settled config) x) 0 256 octaveTable k nan (rw table-long h)
+      ∙ between-in (λ k x. gainThere (settled config) x) 0 256 k (getD octaveTable k nan) (omega arith) h
+
+  there-is : (k : ℕ) → k < 256 → square (gainThere (settled config) (getD octaveTable k nan)) ≡ samplePower config k
+  unfolding settled samplePower motionGain attenuation openness
+  there-is k h = rw (r, is-shown k h, octave-is k h)
 
   power-is : (k : ℕ) → k < 256 → powerAtPlace k ≡ samplePower config k
-  unfolding settled powerLeft samplePower motionGain attenuation openness
-  power-is k h = rw (r, is-shown k h, octave-is k h)
+  power-is k h = ap square (held k h) ∙ there-is k h
 
   -- the sum over n samples from i on
   pub sum-is : (i n : ℕ) (s : Float) → i + n ≤ 256

@@ -2,3 +2,4 @@ pub mod Shapes
 pub mod Field
 pub mod Compensation
 pub mod Octaves
+pub mod Rows

@@ -2,13 +2,11 @@
 -- proofs/Samples.antt. Assumes nothing.
 use mathlib.Core.List.{List, [], _∷_, map}
 use Prim.Native.Nat.{ℕ}
-use lib.Ieee.{Float, binary32, ofBits, neg, sub, mul}
+use lib.Ieee.{Float, binary32, ofBits}
 use Rattle.float32.specs.Order.{maximum}
-use Rattle.float32.specs.Powers.{square}
-use Rattle.float32.specs.Remainder.{zero, one, remEuclidOne}
-use Rattle.decibels.specs.Gain.{gainOf}
+use Rattle.float32.specs.Remainder.{zero, remEuclidOne}
 use Rattle.scene.specs.declared.MotionConfig.{MotionConfig}
-use Rattle.motion.specs.Field.{MIN-SIZE-OCTAVES, shapeAt}
+use Rattle.motion.specs.Field.{MIN-SIZE-OCTAVES}
 
 unfoldable pub octaveBits : List ℕ
 octaveBits =
@@ -48,7 +46,3 @@ settled config =
       phase = remEuclidOne (config .phase);
       «size_octaves» = maximum (config .«size_octaves») MIN-SIZE-OCTAVES;
     }
-
--- the power that such a field leaves, x octaves above the lowest frequency shown
-unfoldable pub powerLeft : MotionConfig → Float → Float
-powerLeft field x = square (gainOf (neg (mul binary32 (field .«depth_db») (sub binary32 one (shapeAt (field .shape) x (field .«size_octaves») (field .phase))))))

@@ -58,9 +58,13 @@ wrapped x phase =
     let distance = magnitude (sub binary32 x (mul binary32 phase DISPLAY-OCTAVES)) in
     minimum distance (sub binary32 DISPLAY-OCTAVES distance)
 
--- exp(-0.5 (wrapped / (0.42 size))²): Scan, and 1 less it: Notch
+-- -0.5 (wrapped / (0.42 size))²
+abbrev pub windowExponent : Float → Float → Float → Float
+windowExponent x size phase = mul binary32 (neg half) (square (div binary32 (wrapped x phase) (mul binary32 size (ofBits binary32 0x3ed7_0a3d))))
+
+-- exp of that: Scan, and 1 less it: Notch
 unfoldable pub window : Float → Float → Float → Float
-window x size phase = exp (mul binary32 (neg half) (square (div binary32 (wrapped x phase) (mul binary32 size (ofBits binary32 0x3ed7_0a3d)))))
+window x size phase = exp (windowExponent x size phase)
 
 -- a straight rise up to RESET-START, and from there on a smooth fall; 1 - RESET-START is rounded, and is not the f32 nearest to 0.1
 unfoldable pub sawAt : Float → Float

@@ -5,19 +5,25 @@
 // deep Scan or Harmonic be raised past what is safe. Where the samples lie does not depend on the field, so that is a table of constants.
 ghost use mathlib.Core.Path.{_≡_};
 ghost use mathlib.Core.Bool.{false};
+ghost use lib.ListN.{length};
 ghost use lib.Ieee.{le};
+ghost use Rattle.lists.specs.Maps.{mapRange};
 ghost use Rattle.power.specs.Table.{powerTable};
 ghost use Rattle.sine.specs.Table.{sineTable};
 ghost use Rattle.motion.specs.Field.{RESTING-DEPTH-DB};
-ghost use Rattle.motion.specs.Octaves.{settled, powerLeft};
-ghost use Rattle.motion.specs.Compensation.{meanSquare, compensation};
+ghost use Rattle.motion.specs.Octaves.{settled};
+ghost use Rattle.motion.specs.Rows.{gainThere};
+ghost use Rattle.motion.specs.Compensation.{MOTION-COMPENSATION-SAMPLES, meanSquare, compensation};
 use crate::field::MIN_SIZE_OCTAVES;
 use crate::field::RESTING_DEPTH_DB;
-use crate::field::shape_at;
 use crate::octaves::octave_table;
+use crate::rows::lowerings;
+use crate::shape_rows::shape_row;
 use decibels::gain;
+use decibels::rows::gains;
 use float32::order::max;
 use float32::order::min;
+use float32::powers::powi2;
 use float32::remainder::rem_euclid_one;
 use float32::root::sqrt;
 use power::table::PowerTable;
@@ -28,8 +34,8 @@ const MOTION_COMPENSATION_SAMPLES: usize = 256;
 
 const MAX_MOTION_COMPENSATION_DB: f32 = 12.0;
 
-// The settings as the shapes take them, which is the same at every sample.
-fn settled(config: MotionConfig) -> MotionConfig
+// The settings as the shapes take them, which is the same at every sample and every bin.
+pub fn settled(config: MotionConfig) -> MotionConfig
     ensures { λ r. ⌜ r ≡ settled config ⌝ }
 {
     let depth_db = max(config.depth_db, 0.0);
@@ -44,33 +50,26 @@ fn settled(config: MotionConfig) -> MotionConfig
     }
 }
 
-fn sample_power(powers: &PowerTable, sines: &SineTable, octave: f32, field: MotionConfig) -> f32
-    requires { ⌜ (now powers ≡ powerTable) × (now sines ≡ sineTable) ⌝ }
-    ensures { λ r. ⌜ r ≡ powerLeft field octave ⌝ }
+// What the field leaves at each sample.
+fn sample_gains(row: &mut [f32], powers: &PowerTable, sines: &SineTable, field: MotionConfig)
+    requires { ⌜ (now powers ≡ powerTable) × (now sines ≡ sineTable) × (length (now row) ≡ MOTION-COMPENSATION-SAMPLES) ⌝ }
+    ensures { λ _. ⌜ now (row .exit) ≡ mapRange (λ k x. gainThere field x) 0 MOTION-COMPENSATION-SAMPLES (now (row .entry)) ⌝ }
 {
-    let shape = field.shape;
-    let opening = shape_at(
-        powers,
-        sines,
-        shape,
-        octave,
-        field.size_octaves,
-        field.phase,
-    );
-    let gain = gain(powers, -(field.depth_db * (1.0 - opening)));
-    gain * gain
+    shape_row(row, powers, sines, field, MOTION_COMPENSATION_SAMPLES);
+    lowerings(row, field.depth_db, MOTION_COMPENSATION_SAMPLES);
+    gains(row, powers, MOTION_COMPENSATION_SAMPLES);
 }
 
 fn mean_square(powers: &PowerTable, sines: &SineTable, config: MotionConfig) -> f32
     requires { ⌜ (now powers ≡ powerTable) × (now sines ≡ sineTable) × (le (config .«depth_db») RESTING-DEPTH-DB ≡ false) ⌝ }
     ensures { λ r. ⌜ r ≡ meanSquare config ⌝ }
 {
-    let octaves = octave_table();
-    let field = settled(config);
+    let mut row = octave_table();
+    sample_gains(&mut row, powers, sines, settled(config));
     let mut sum = 0.0;
     let mut index: usize = 0;
     while index < MOTION_COMPENSATION_SAMPLES {
-        sum = sum + sample_power(powers, sines, octaves[index], field);
+        sum = sum + powi2(row[index]);
         index += 1;
     }
     sum / (MOTION_COMPENSATION_SAMPLES as f32)

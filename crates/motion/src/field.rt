@@ -1,14 +1,13 @@
-// The moving field at a frequency: its openness, the attenuation in decibels, and that attenuation as a gain.
+// The moving field at a frequency: its openness, and the attenuation in decibels.
 ghost use mathlib.Core.Path.{_≡_};
 ghost use Rattle.power.specs.Table.{powerTable};
 ghost use Rattle.sine.specs.Table.{sineTable};
-ghost use Rattle.motion.specs.Field.{shapeAt, openness, attenuation, motionGain};
+ghost use Rattle.motion.specs.Field.{shapeAt, openness, attenuation};
 use crate::shapes::drift;
 use crate::shapes::harmonic;
 use crate::shapes::ripple;
 use crate::shapes::saw;
 use crate::shapes::window;
-use decibels::gain;
 use float32::order::max;
 use float32::remainder::rem_euclid_one;
 use power::log2::log2;
@@ -78,17 +77,4 @@ pub fn attenuation_db(
 {
     let depth = max(config.depth_db, 0.0);
     depth * (1.0 - openness(powers, sines, frequency, config))
-}
-
-// What the field leaves of a frequency.
-pub fn motion_gain(
-    powers: &PowerTable,
-    sines: &SineTable,
-    frequency: f32,
-    config: MotionConfig,
-) -> f32
-    requires { ⌜ (now powers ≡ powerTable) × (now sines ≡ sineTable) ⌝ }
-    ensures { λ r. ⌜ r ≡ motionGain frequency config ⌝ }
-{
-    gain(powers, -attenuation_db(powers, sines, frequency, config))
 }

@@ -2,4 +2,6 @@
 pub mod compensation;
 pub mod field;
 mod octaves;
+pub mod rows;
+mod shape_rows;
 pub mod shapes;

@@ -3,7 +3,7 @@
 ghost use mathlib.Core.Path.{_≡_};
 ghost use Rattle.power.specs.Table.{powerTable};
 ghost use Rattle.sine.specs.Table.{sineTable};
-ghost use Rattle.motion.specs.Shapes.{ripple, harmonic, drift, window, saw};
+ghost use Rattle.motion.specs.Shapes.{ripple, harmonic, drift, window, windowExponent, saw};
 use float32::constants::TAU;
 use float32::order::abs;
 use float32::order::clamp;
@@ -58,10 +58,16 @@ pub(crate) fn window(powers: &PowerTable, x: f32, size: f32, phase: f32) -> f32
     requires { ⌜ now powers ≡ powerTable ⌝ }
     ensures { λ r. ⌜ r ≡ window x size phase ⌝ }
 {
+    exp(powers, window_exponent(x, size, phase))
+}
+
+pub(crate) fn window_exponent(x: f32, size: f32, phase: f32) -> f32
+    ensures { λ r. ⌜ r ≡ windowExponent x size phase ⌝ }
+{
     let center = phase * DISPLAY_OCTAVES;
     let distance = abs(x - center);
     let wrapped = min(distance, DISPLAY_OCTAVES - distance);
-    exp(powers, -0.5 * powi2(wrapped / (size * 0.42)))
+    -0.5 * powi2(wrapped / (size * 0.42))
 }
 
 // A straight rise, and a smooth fall in the last tenth of the cycle.

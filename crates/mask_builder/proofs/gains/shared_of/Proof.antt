@@ -7,6 +7,9 @@ use Rattle.mask_builder.proofs.gains.shared_of.Tie as tie
 bin-hz-requires : tie.Need-bin-hz-requires
 bin-hz-requires c κs = search needs
 
+settled-requires : tie.Need-settled-requires
+settled-requires c κs = search needs
+
 compensation-gain-requires : tie.Need-compensation-gain-requires
 compensation-gain-requires c κs = search needs
 
@@ -17,13 +20,16 @@ emphasis-requires : tie.Need-emphasis-requires
 emphasis-requires c κs = search needs
 
 returns : tie.Need-returns
-returns c = rw (← c .before .before .before .bin-hz .ensures, ← c .before .before .compensation-gain .ensures, ← c .before .floor-gain .ensures, ← c .emphasis .ensures) refl
+returns c =
+    let s = c .before .before .before in
+    rw (← s .before .bin-hz .ensures, ← s .settled .ensures, ← c .before .before .compensation-gain .ensures, ← c .before .floor-gain .ensures, ← c .emphasis .ensures) refl
 
 pub shared-of-spec : {M : Type 1} → statement M
 shared-of-spec =
     tie.close
     (tie.spec
     bin-hz-requires
+    settled-requires
     compensation-gain-requires
     floor-gain-requires
     emphasis-requires
