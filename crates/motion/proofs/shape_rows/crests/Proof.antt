@@ -6,8 +6,7 @@ use lib.Ieee.{nan, binary32, add, mul}
 use Rattle.lists.specs.Turned.{Turned, turned-none, turned-to}
 use Rattle.lists.specs.Stages.{turned-held}
 use Rattle.float32.specs.Order.{clamp}
-use Rattle.float32.specs.Remainder.{zero, one}
-use Rattle.motion.specs.Shapes.{half}
+use Rattle.float32.specs.Remainder.{zero, one, half}
 use borrow.Author.Needs.{needs}
 use Rattle.motion.proofs.shape_rows.crests.Statement.{statement}
 use Rattle.motion.proofs.shape_rows.crests.Tie as tie
