@@ -1,0 +1,53 @@
+-- The compact way of raising a tone: its lobes together, block by block. What it writes is what the plain way writes, so nothing here says what a mask is; these are the steps between. Assumes nothing.
+use mathlib.Core.Path.{_≡_}
+use mathlib.Core.List.{List}
+use Prim.Native.Nat.{ℕ, _≤_, _<_}
+use lib.Dec.{T}
+use lib.ListN.{length, getD, map}
+use lib.Ieee.{Float, nan, binary32, le}
+use Rattle.lists.specs.Folds.{fold}
+use Rattle.float_laws.specs.Units.{number, real}
+use Rattle.float_laws.specs.Round.{plus-zero}
+use Rattle.float_laws.specs.Rise.{Upto}
+use Rattle.float32.specs.Remainder.{zero, one}
+use Rattle.power.specs.Log.{L2}
+use Rattle.lobes.specs.declared.Grid.{Grid}
+use Rattle.lobes.specs.declared.Tone.{Tone}
+use Rattle.lobes.specs.declared.Lobe.{Lobe}
+use Rattle.lobes.specs.Distance.{Logs, lent}
+use Rattle.lobes.specs.Lobe.{lobeOf, opening}
+use Rattle.openness.specs.Openness.{lobeJoined, partialsOf}
+
+-- what stands past the end of a list of lobes
+abbrev pub noLobe : Lobe
+noLobe = record { center = nan; «center_log2» = nan; strength = nan; «first_bin» = 0; «last_bin» = 0; «peak_squared» = nan }
+
+-- the lobes of a tone's partials
+abbrev pub lobesOf : Grid → Logs → Tone → List Lobe
+lobesOf grid logs tone = map (lobeOf grid logs tone) (partialsOf grid tone)
+
+-- lobes joined one after the other to what a bin holds
+unfoldable pub lobesJoined : Grid → Logs → Float → List Lobe → ℕ → Float → Float
+lobesJoined grid logs gain lobes bin held = fold (λ held lobe. lobeJoined grid logs gain bin held lobe) held lobes
+
+-- the most that one of them opens at a bin
+abbrev pub mostOpen : Grid → Logs → List Lobe → ℕ → Float
+mostOpen grid logs lobes bin = lobesJoined grid logs one lobes bin zero
+
+-- a lobe as an accepted voice has it
+pub record SoundLobe (grid : Grid) (lobe : Lobe) : Type 0 where
+  pub log-of-center : lobe .«center_log2» ≡ L2 (lobe .center)
+  pub last : lobe .«last_bin» ≤ grid .«last_bin»
+  pub strength-real : T (real binary32 (lobe .strength))
+  pub strength-low : T (le plus-zero (lobe .strength))
+
+abbrev pub SoundLobes : Grid → List Lobe → ℕ → Type 0
+SoundLobes grid lobes count = (p : ℕ) → p < count → SoundLobe grid (getD lobes p noLobe)
+
+-- over the bins from start on and below end the lobe opens at most a bound
+abbrev pub Bounded : Grid → List Float → Lobe → Float → ℕ → ℕ → Type 0
+Bounded grid table lobe bound start end = (bin : ℕ) → start ≤ bin → bin < end → T (le (opening grid (lent table) lobe bin) bound)
+
+-- what a row of bins holds are opennesses: not negative, and at most 8
+abbrev pub Opennesses : List Float → Type 0
+Opennesses xs = (k : ℕ) → k < length xs → Upto binary32 3 (getD xs k nan)
