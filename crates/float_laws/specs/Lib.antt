@@ -13,6 +13,7 @@ pub mod Range
 pub mod Rise
 pub mod Same
 pub mod Bits
+pub mod Steps
 pub mod Near
 pub mod Dual
 pub mod Window

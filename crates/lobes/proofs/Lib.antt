@@ -1,3 +1,4 @@
+pub mod Logged
 pub mod Closest
 pub mod Balances
 pub mod Gains

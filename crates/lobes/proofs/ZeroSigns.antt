@@ -17,6 +17,7 @@ use Rattle.float32.specs.Remainder.{zero, one}
 use Rattle.float32.specs.Value.{moved}
 use Rattle.power.specs.Table.{powerTable}
 use Rattle.power.specs.Power.{powerAt, powerOf, E2}
+use Rattle.power.specs.Log.{L2}
 use Rattle.decibels.specs.Gain.{gainOf}
 use Rattle.pitch.specs.Pitch.{A4-HERTZ}
 use Rattle.scene.specs.declared.MaskVoice.{MaskVoice}
@@ -99,7 +100,7 @@ module _ (g h : Grid) (w : SameGrid g h) (s t : List Float) (some : 1 ≤ g .«l
     center = centerOf (toneOf h voice) partial
 
     abbrev made : Float → ℕ → ℕ → Float → Lobe
-    made strength first last peak = record { center = center; strength = strength; «first_bin» = first; «last_bin» = last; «peak_squared» = peak }
+    made strength first last peak = record { center = center; «center_log2» = L2 center; strength = strength; «first_bin» = first; «last_bin» = last; «peak_squared» = peak }
 
     alike : {x x' y y' : Float} {m m' n n' : ℕ} → x ≡ x' → m ≡ m' → n ≡ n' → y ≡ y' → made x m n y ≡ made x' m' n' y'
     alike {x} {x'} {y} {y'} {m} {m'} {n} {n'} a b c d = ap (λ z. made z m n y) a ∙ ap (λ z. made x' z n y) b ∙ ap (λ z. made x' m' z y) c ∙ ap (λ z. made x' m' n' z) d

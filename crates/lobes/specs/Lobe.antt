@@ -6,6 +6,7 @@ use Rattle.float32.specs.Counts.{floorCount, ceilCount}
 use Rattle.float32.specs.Order.{maximum, clamp}
 use Rattle.float32.specs.Powers.{square}
 use Rattle.float32.specs.Remainder.{zero, one}
+use Rattle.power.specs.Log.{L2}
 use Rattle.lobes.specs.declared.Grid.{Grid}
 use Rattle.lobes.specs.declared.Tone.{Tone}
 use Rattle.lobes.specs.declared.Lobe.{Lobe}
@@ -25,6 +26,7 @@ lobeOf grid logs tone partial =
     let center = centerOf tone partial in
     record {
       center = center;
+      «center_log2» = L2 center;
       strength = mul binary32 (tone .level) (harmonicGain (tone .rolloff) partial);
       «first_bin» = firstBin grid center;
       «last_bin» = lastBin grid center;

@@ -1,7 +1,9 @@
 -- What all partials of a voice share: the fundamental, the level, and how the partials fall off. Assumes nothing.
-use Prim.Native.Nat.{ℕ}
+use mathlib.Core.List.{List}
+use Prim.Native.Nat.{ℕ, _+_}
 use lib.IntN.{pos}
 use lib.Ieee.{Float, binary32, ofBits, ofInt, neg, add, sub, mul}
+use Rattle.lists.specs.Maps.{tabulate}
 use Rattle.float32.specs.Order.{maximum, clamp}
 use Rattle.float32.specs.Remainder.{zero, one}
 use Rattle.power.specs.Log.{L2}
@@ -10,7 +12,7 @@ use Rattle.pitch.specs.Pitch.{noteHertz}
 use Rattle.scene.specs.declared.MaskVoice.{MaskVoice}
 use Rattle.lobes.specs.declared.Grid.{Grid}
 use Rattle.lobes.specs.declared.Tone.{Tone}
-use Rattle.lobes.specs.Grid.{half}
+use Rattle.lobes.specs.Grid.{half, MAX-PARTIALS}
 
 -- 0.35 of the level is there without pressure, and 0.65 comes with it
 abbrev pub LEAST-PRESSURE-GAIN : Float
@@ -48,5 +50,13 @@ toneOf grid voice = record { fundamental = fundamentalOf voice; level = noteLeve
 abbrev pub centerOf : Tone → ℕ → Float
 centerOf tone partial = mul binary32 (tone .fundamental) (ofInt binary32 (pos partial))
 
+-- the octaves of a partial above the fundamental
+abbrev pub octavesOf : ℕ → Float
+octavesOf partial = L2 (ofInt binary32 (pos partial))
+
 unfoldable pub harmonicGain : Float → ℕ → Float
-harmonicGain rolloff partial = gainOf (mul binary32 (neg rolloff) (L2 (ofInt binary32 (pos partial))))
+harmonicGain rolloff partial = gainOf (mul binary32 (neg rolloff) (octavesOf partial))
+
+-- those of the partials up to the last that a mask may have; there is no partial 0
+unfoldable pub partialOctaves : List Float
+partialOctaves = tabulate (MAX-PARTIALS + 1) octavesOf

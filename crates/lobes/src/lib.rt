@@ -1,6 +1,7 @@
 // One lobe of a mask: what a partial of a voice opens, bin by bin.
 pub mod distances;
 pub mod grids;
+pub mod octaves;
 pub mod pan;
 pub mod peaks;
 pub mod reach;
@@ -30,6 +31,8 @@ pub struct Tone {
 // A partial's lobe.
 pub struct Lobe {
     pub center: f32,
+    // The centre's logarithm, taken once for all bins.
+    pub center_log2: f32,
     // The level of the voice times the partial's own gain.
     pub strength: f32,
     pub first_bin: usize,

@@ -4,6 +4,8 @@ ghost use mathlib.Core.Bool.{true};
 ghost use Prim.Native.Nat.{_^_, _≤_, _<_};
 ghost use lib.ListN.{length};
 ghost use Rattle.power.specs.Table.{powerTable};
+ghost use Rattle.power.specs.Log.{L2};
+ghost use Rattle.lobes.specs.Tone.{partialOctaves};
 ghost use Rattle.lobes.specs.Distance.{logsOf, distance};
 ghost use Rattle.lobes.specs.Lobe.{firstBin, lastBin, lobeOf};
 use crate::Grid;
@@ -11,6 +13,7 @@ use crate::Lobe;
 use crate::Tone;
 use crate::distances::distance_by_hertz;
 use crate::distances::distance_by_table;
+use crate::octaves::PartialOctaves;
 use crate::peaks::closest_bin_in_cents;
 use crate::tones::center_of;
 use crate::tones::harmonic_gain;
@@ -40,34 +43,38 @@ fn distance(
     table: &[f32],
     grid: Grid,
     center: f32,
+    center_log2: f32,
     bin: usize,
 ) -> f32
-    requires { ⌜ (now powers ≡ powerTable) × (bin ≤ 2 ^ 24) × (tabled ≡ true → bin < length (now table)) ⌝ }
+    requires { ⌜ (now powers ≡ powerTable) × («center_log2» ≡ L2 center) × (bin ≤ 2 ^ 24) × (tabled ≡ true → bin < length (now table)) ⌝ }
     ensures { λ r. ⌜ r ≡ distance grid (logsOf tabled (now (table .entry))) center bin ⌝ }
 {
     if tabled {
-        return distance_by_table(table, grid.width, power::log2::log2(powers, center), bin);
+        return distance_by_table(table, grid.width, center_log2, bin);
     }
     distance_by_hertz(powers, grid, center, bin)
 }
 
 pub fn lobe_of(
     powers: &PowerTable,
+    octaves: &PartialOctaves,
     tabled: bool,
     table: &[f32],
     grid: Grid,
     tone: Tone,
     partial: usize,
 ) -> Lobe
-    requires { ⌜ (now powers ≡ powerTable) × (grid .«last_bin» ≤ 2 ^ 24) × (partial ≤ 2 ^ 24) × (tabled ≡ true → grid .«last_bin» < length (now table)) ⌝ }
+    requires { ⌜ (now powers ≡ powerTable) × (now octaves ≡ partialOctaves) × (grid .«last_bin» ≤ 2 ^ 24) × (partial ≤ 24) × (tabled ≡ true → grid .«last_bin» < length (now table)) ⌝ }
     ensures { λ r. ⌜ r ≡ lobeOf grid (logsOf tabled (now (table .entry))) tone partial ⌝ }
 {
     let center = center_of(tone, partial);
-    let strength = tone.level * harmonic_gain(powers, tone.rolloff, partial);
+    let center_log2 = power::log2::log2(powers, center);
+    let strength = tone.level * harmonic_gain(powers, octaves, tone.rolloff, partial);
     let peak_bin = closest_bin_in_cents(powers, center, grid.bin_hz, grid.last_bin);
-    let peak = distance(powers, tabled, table, grid, center, peak_bin);
+    let peak = distance(powers, tabled, table, grid, center, center_log2, peak_bin);
     Lobe {
         center,
+        center_log2,
         strength,
         first_bin: first_bin(grid, center),
         last_bin: last_bin(grid, center),

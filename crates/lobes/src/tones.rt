@@ -2,10 +2,11 @@
 ghost use mathlib.Core.Path.{_≡_};
 ghost use Prim.Native.Nat.{_^_, _≤_};
 ghost use Rattle.power.specs.Table.{powerTable};
-ghost use Rattle.lobes.specs.Tone.{pressureGain, noteLevel, timbreRolloff, fundamentalOf, toneOf, centerOf, harmonicGain};
+ghost use Rattle.lobes.specs.Tone.{pressureGain, noteLevel, timbreRolloff, fundamentalOf, toneOf, centerOf, partialOctaves, harmonicGain};
 use crate::Grid;
 use crate::Tone;
 use crate::grids::HALF;
+use crate::octaves::PartialOctaves;
 use float32::order::clamp;
 use float32::order::max;
 use power::table::PowerTable;
@@ -69,9 +70,14 @@ pub fn center_of(tone: Tone, partial: usize) -> f32
     tone.fundamental * partial as f32
 }
 
-pub fn harmonic_gain(powers: &PowerTable, rolloff: f32, partial: usize) -> f32
-    requires { ⌜ (now powers ≡ powerTable) × (partial ≤ 2 ^ 24) ⌝ }
+pub fn harmonic_gain(
+    powers: &PowerTable,
+    octaves: &PartialOctaves,
+    rolloff: f32,
+    partial: usize,
+) -> f32
+    requires { ⌜ (now powers ≡ powerTable) × (now octaves ≡ partialOctaves) × (partial ≤ 24) ⌝ }
     ensures { λ r. ⌜ r ≡ harmonicGain rolloff partial ⌝ }
 {
-    decibels::gain(powers, -rolloff * power::log2::log2(powers, partial as f32))
+    decibels::gain(powers, -rolloff * octaves[partial])
 }

@@ -1,5 +1,5 @@
 -- The partials of a tone, joined one after the other: what is left to join from a partial on. Assumes nothing.
-use mathlib.Core.Path.{_≡_, sym, ap, _∙_}
+use mathlib.Core.Path.{_≡_, refl, sym, ap, _∙_}
 use mathlib.Core.Bool.{Bool, true, false}
 use mathlib.Core.List.{List}
 use Prim.Native.Nat.{ℕ, _+_, _-_, _≤_, _<_}
@@ -7,6 +7,7 @@ use native.Mathlib.Omega.{arith}
 use lib.Ieee.{Float, lt}
 use Rattle.lists.specs.Maps.{mapAt}
 use Rattle.lists.specs.Folds.{range, takeUntil, range-next, range-none, until-step, until-stop, until-end}
+use Rattle.power.specs.Log.{L2}
 use Rattle.lobes.specs.declared.Grid.{Grid}
 use Rattle.lobes.specs.declared.Tone.{Tone}
 use Rattle.lobes.specs.declared.Lobe.{Lobe}
@@ -20,6 +21,11 @@ use Rattle.openness.proofs.Runs.{runs, runs-step, runs-end}
 pub last-bin : (grid : Grid) (logs : Logs) (tone : Tone) (partial : ℕ) → lobeOf grid logs tone partial .«last_bin» ≤ grid .«last_bin»
 unfolding lobeOf
 last-bin grid logs tone partial = omega arith
+
+-- and its field has its centre's logarithm
+pub center-log2 : (grid : Grid) (logs : Logs) (tone : Tone) (partial : ℕ) → lobeOf grid logs tone partial .«center_log2» ≡ L2 (lobeOf grid logs tone partial .center)
+unfolding lobeOf
+center-log2 grid logs tone partial = refl
 
 module _ (grid : Grid) (logs : Logs) (gain : Float) (tone : Tone) where
   abbrev step : ℕ → Float → ℕ → Float

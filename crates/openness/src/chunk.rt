@@ -118,11 +118,10 @@ pub fn openings(
     table: &[f32],
     grid: Grid,
     lobe: Lobe,
-    center_log2: f32,
     start: usize,
     count: usize,
 )
-    requires { ⌜ (now powers ≡ powerTable) × (now gaussians ≡ gaussianTable) × («center_log2» ≡ L2 (lobe .center)) × (count ≤ length (now chunk)) × (start + count ≤ 2 ^ 24 + 1) × (tabled ≡ true → start + count ≤ length (now table)) ⌝ }
+    requires { ⌜ (now powers ≡ powerTable) × (now gaussians ≡ gaussianTable) × (lobe .«center_log2» ≡ L2 (lobe .center)) × (count ≤ length (now chunk)) × (start + count ≤ 2 ^ 24 + 1) × (tabled ≡ true → start + count ≤ length (now table)) ⌝ }
     ensures { λ _. ⌜ now (chunk .exit) ≡ mapRange (λ k held. opening grid (logsOf tabled (now (table .entry))) lobe (start + k)) 0 count (now (chunk .entry)) ⌝ }
 {
     if tabled {
@@ -131,7 +130,7 @@ pub fn openings(
             table,
             start,
             count,
-            center_log2,
+            lobe.center_log2,
             grid.width,
             lobe.peak_squared,
         );

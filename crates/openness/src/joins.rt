@@ -1,22 +1,11 @@
-// Openness joined by maximum, onto an openness of 0.
+// Openness joined by maximum.
 ghost use mathlib.Core.Path.{_≡_};
 ghost use Prim.Native.Nat.{_+_, _-_, _≤_};
 ghost use lib.ListN.{length, getD};
 ghost use lib.Ieee.{nan};
-ghost use Rattle.float32.specs.Remainder.{zero};
-ghost use Rattle.lists.specs.Maps.{tabulate, mapRange};
+ghost use Rattle.lists.specs.Maps.{mapRange};
 ghost use Rattle.openness.specs.Openness.{joined};
 use float32::counts::lesser;
-
-pub fn shut(out: &mut [f32])
-    ensures { λ _. ⌜ now (out .exit) ≡ tabulate (length (now (out .entry))) (λ bin. zero) ⌝ }
-{
-    let mut bin: usize = 0;
-    while bin < out.len() {
-        out[bin] = 0.0;
-        bin += 1;
-    }
-}
 
 // What a bin holds, and what a lobe opens there under a voice's expression.
 fn joined(held: f32, opening: f32, gain: f32) -> f32

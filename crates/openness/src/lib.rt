@@ -11,11 +11,12 @@ ghost use Rattle.lobes.specs.Pan as side;
 ghost use Rattle.lobes.specs.Distance.{lent, logsOf};
 ghost use Rattle.openness.specs.Openness.{openness};
 use gaussian::GaussianTable;
-use joins::shut;
 use lobes::Grid;
+use lobes::octaves::partial_octaves;
 use power::table::PowerTable;
 use scene::MaskVoice;
 use sine::table::SineTable;
+use slices::fill;
 use voices::raise_voices;
 
 pub mod chunk;
@@ -44,12 +45,14 @@ pub fn open_one(
     // There is no second side: no lobe reaches bin 0.
     let mut nothing = [0.0f32; 1];
     let mut chunk = [0.0f32; CHUNK];
-    shut(out);
+    let octaves = partial_octaves();
+    fill(out, 0.0);
     raise_voices(
         out,
         &mut nothing,
         &mut chunk,
         powers,
+        &octaves,
         sines,
         gaussians,
         tabled,
@@ -77,13 +80,15 @@ pub fn open_two(
     ensures { λ _. ⌜ (now (left .exit) ≡ tabulate (length (now (left .entry))) (openness grid (lent (now (table .entry))) side.left (take count voices))) × (now (right .exit) ≡ tabulate (length (now (right .entry))) (openness grid (lent (now (table .entry))) side.right (take count voices))) ⌝ }
 {
     let mut chunk = [0.0f32; CHUNK];
-    shut(left);
-    shut(right);
+    let octaves = partial_octaves();
+    fill(left, 0.0);
+    fill(right, 0.0);
     raise_voices(
         left,
         right,
         &mut chunk,
         powers,
+        &octaves,
         sines,
         gaussians,
         true,

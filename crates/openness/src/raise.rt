@@ -6,7 +6,9 @@ ghost use Prim.Native.Nat.{_^_, _≤_, _<_};
 ghost use lib.ListN.{length};
 ghost use Rattle.lists.specs.Maps.{mapAt};
 ghost use Rattle.power.specs.Table.{powerTable};
+ghost use Rattle.power.specs.Log.{L2};
 ghost use Rattle.gaussian.specs.Table.{gaussianTable};
+ghost use Rattle.lobes.specs.Tone.{partialOctaves};
 ghost use Rattle.lobes.specs.Distance.{logsOf};
 ghost use Rattle.openness.specs.Openness.{lobeJoined, toneJoined};
 use crate::chunk::openings;
@@ -16,6 +18,7 @@ use gaussian::GaussianTable;
 use lobes::Grid;
 use lobes::Lobe;
 use lobes::Tone;
+use lobes::octaves::PartialOctaves;
 use lobes::reach::lobe_of;
 use lobes::tones::center_of;
 use power::table::PowerTable;
@@ -39,10 +42,9 @@ fn raise_lobe(
     lobe: Lobe,
     gains: Gains,
 )
-    requires { ⌜ (now powers ≡ powerTable) × (now gaussians ≡ gaussianTable) × (0 < length (now chunk)) × (lobe .«last_bin» ≤ 2 ^ 24) × (tabled ≡ true → lobe .«last_bin» < length (now table)) ⌝ }
+    requires { ⌜ (now powers ≡ powerTable) × (now gaussians ≡ gaussianTable) × (0 < length (now chunk)) × (lobe .«center_log2» ≡ L2 (lobe .center)) × (lobe .«last_bin» ≤ 2 ^ 24) × (tabled ≡ true → lobe .«last_bin» < length (now table)) ⌝ }
     ensures { λ _. ⌜ (now (first .exit) ≡ mapAt (λ bin held. lobeJoined grid (logsOf tabled (now (table .entry))) (gains .first) bin held lobe) (now (first .entry))) × (now (second .exit) ≡ mapAt (λ bin held. lobeJoined grid (logsOf tabled (now (table .entry))) (gains .second) bin held lobe) (now (second .entry))) ⌝ }
 {
-    let center_log2 = power::log2::log2(powers, lobe.center);
     let end = lobe.last_bin + 1;
     let mut start = lobe.first_bin;
     while start < end {
@@ -56,7 +58,6 @@ fn raise_lobe(
             table,
             grid,
             lobe,
-            center_log2,
             start,
             count,
         );
@@ -72,6 +73,7 @@ pub fn raise_tone(
     second: &mut [f32],
     chunk: &mut [f32],
     powers: &PowerTable,
+    octaves: &PartialOctaves,
     gaussians: &GaussianTable,
     tabled: bool,
     table: &[f32],
@@ -79,7 +81,7 @@ pub fn raise_tone(
     tone: Tone,
     gains: Gains,
 )
-    requires { ⌜ (now powers ≡ powerTable) × (now gaussians ≡ gaussianTable) × (0 < length (now chunk)) × (grid .partials ≤ 24) × (grid .«last_bin» ≤ 2 ^ 24) × (tabled ≡ true → grid .«last_bin» < length (now table)) ⌝ }
+    requires { ⌜ (now powers ≡ powerTable) × (now octaves ≡ partialOctaves) × (now gaussians ≡ gaussianTable) × (0 < length (now chunk)) × (grid .partials ≤ 24) × (grid .«last_bin» ≤ 2 ^ 24) × (tabled ≡ true → grid .«last_bin» < length (now table)) ⌝ }
     ensures { λ _. ⌜ (now (first .exit) ≡ mapAt (toneJoined grid (logsOf tabled (now (table .entry))) (gains .first) tone) (now (first .entry))) × (now (second .exit) ≡ mapAt (toneJoined grid (logsOf tabled (now (table .entry))) (gains .second) tone) (now (second .entry))) ⌝ }
 {
     let mut partial: usize = 1;
@@ -87,7 +89,7 @@ pub fn raise_tone(
         if grid.nyquist < center_of(tone, partial) {
             return;
         }
-        let lobe = lobe_of(powers, tabled, table, grid, tone, partial);
+        let lobe = lobe_of(powers, octaves, tabled, table, grid, tone, partial);
         raise_lobe(
             first,
             second,

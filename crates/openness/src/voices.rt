@@ -9,6 +9,7 @@ ghost use Rattle.power.specs.Table.{powerTable};
 ghost use Rattle.sine.specs.Table.{sineTable};
 ghost use Rattle.gaussian.specs.Table.{gaussianTable};
 ghost use Rattle.lobes.specs.Pan.{channelGain};
+ghost use Rattle.lobes.specs.Tone.{partialOctaves};
 ghost use Rattle.lobes.specs.Distance.{logsOf};
 ghost use Rattle.openness.specs.Sides.{firstSide, secondSide};
 ghost use Rattle.openness.specs.Openness.{voiceJoined};
@@ -16,6 +17,7 @@ use crate::raise::Gains;
 use crate::raise::raise_tone;
 use gaussian::GaussianTable;
 use lobes::Grid;
+use lobes::octaves::PartialOctaves;
 use lobes::pan::left_gain;
 use lobes::pan::mono_gain;
 use lobes::pan::right_gain;
@@ -49,6 +51,7 @@ fn raise_voice(
     second: &mut [f32],
     chunk: &mut [f32],
     powers: &PowerTable,
+    octaves: &PartialOctaves,
     sines: &SineTable,
     gaussians: &GaussianTable,
     tabled: bool,
@@ -57,7 +60,7 @@ fn raise_voice(
     grid: Grid,
     voice: MaskVoice,
 )
-    requires { ⌜ (now powers ≡ powerTable) × (now sines ≡ sineTable) × (now gaussians ≡ gaussianTable) × (0 < length (now chunk)) × (grid .partials ≤ 24) × (grid .«last_bin» ≤ 2 ^ 24) × (tabled ≡ true → grid .«last_bin» < length (now table)) ⌝ }
+    requires { ⌜ (now powers ≡ powerTable) × (now octaves ≡ partialOctaves) × (now sines ≡ sineTable) × (now gaussians ≡ gaussianTable) × (0 < length (now chunk)) × (grid .partials ≤ 24) × (grid .«last_bin» ≤ 2 ^ 24) × (tabled ≡ true → grid .«last_bin» < length (now table)) ⌝ }
     ensures { λ _. ⌜ (now (first .exit) ≡ mapAt (λ bin held. voiceJoined grid (logsOf tabled (now (table .entry))) (channelGain (firstSide stereo)) bin held voice) (now (first .entry))) × (now (second .exit) ≡ mapAt (λ bin held. voiceJoined grid (logsOf tabled (now (table .entry))) (channelGain (secondSide stereo)) bin held voice) (now (second .entry))) ⌝ }
 {
     if voice.level <= SKIPPED_LEVEL {
@@ -70,6 +73,7 @@ fn raise_voice(
         second,
         chunk,
         powers,
+        octaves,
         gaussians,
         tabled,
         table,
@@ -84,6 +88,7 @@ pub fn raise_voices(
     second: &mut [f32],
     chunk: &mut [f32],
     powers: &PowerTable,
+    octaves: &PartialOctaves,
     sines: &SineTable,
     gaussians: &GaussianTable,
     tabled: bool,
@@ -93,7 +98,7 @@ pub fn raise_voices(
     voices: [MaskVoice; 128],
     count: usize,
 )
-    requires { ⌜ (now powers ≡ powerTable) × (now sines ≡ sineTable) × (now gaussians ≡ gaussianTable) × (0 < length (now chunk)) × (grid .partials ≤ 24) × (grid .«last_bin» ≤ 2 ^ 24) × (tabled ≡ true → grid .«last_bin» < length (now table)) × (count ≤ 128) ⌝ }
+    requires { ⌜ (now powers ≡ powerTable) × (now octaves ≡ partialOctaves) × (now sines ≡ sineTable) × (now gaussians ≡ gaussianTable) × (0 < length (now chunk)) × (grid .partials ≤ 24) × (grid .«last_bin» ≤ 2 ^ 24) × (tabled ≡ true → grid .«last_bin» < length (now table)) × (count ≤ 128) ⌝ }
     ensures { λ _. ⌜ (now (first .exit) ≡ mapAt (λ bin held. fold (voiceJoined grid (logsOf tabled (now (table .entry))) (channelGain (firstSide stereo)) bin) held (take count voices)) (now (first .entry))) × (now (second .exit) ≡ mapAt (λ bin held. fold (voiceJoined grid (logsOf tabled (now (table .entry))) (channelGain (secondSide stereo)) bin) held (take count voices)) (now (second .entry))) ⌝ }
 {
     let mut index: usize = 0;
@@ -104,6 +109,7 @@ pub fn raise_voices(
             second,
             chunk,
             powers,
+            octaves,
             sines,
             gaussians,
             tabled,

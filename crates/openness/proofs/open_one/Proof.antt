@@ -4,8 +4,11 @@ use borrow.Author.Needs.{needs}
 use Rattle.openness.proofs.open_one.Statement.{statement}
 use Rattle.openness.proofs.open_one.Tie as tie
 
-shut-requires : tie.Need-shut-requires
-shut-requires c κs = search needs
+partial-octaves-requires : tie.Need-partial-octaves-requires
+partial-octaves-requires c κs = search needs
+
+fill-requires : tie.Need-fill-requires
+fill-requires c κs = search needs
 
 slice-aggregate-raise-voices : tie.Need-slice-aggregate-raise-voices
 slice-aggregate-raise-voices c = search needs
@@ -22,13 +25,14 @@ same-length c = search needs
 returns : tie.Need-returns
 returns c =
     let r = c .before .before .before .before in
-    opened _ _ _ _ _ (r .before .before .before .before .before .before .shut .ensures) (r .raise-voices .ensures .0)
+    opened _ _ _ _ _ (r .before .before .before .before .before .before .before .fill .ensures) (r .raise-voices .ensures .0)
 
 pub open-one-spec : {M : Type 1} → statement M
 open-one-spec =
     tie.close
     (tie.spec
-    shut-requires
+    partial-octaves-requires
+    fill-requires
     slice-aggregate-raise-voices
     slice-aggregate-raise-voices-2
     raise-voices-requires

@@ -4,11 +4,14 @@ use borrow.Author.Needs.{needs}
 use Rattle.openness.proofs.open_two.Statement.{statement}
 use Rattle.openness.proofs.open_two.Tie as tie
 
-shut-requires : tie.Need-shut-requires
-shut-requires c κs = search needs
+partial-octaves-requires : tie.Need-partial-octaves-requires
+partial-octaves-requires c κs = search needs
 
-shut-requires-2 : tie.Need-shut-requires-2
-shut-requires-2 c κs = search needs
+fill-requires : tie.Need-fill-requires
+fill-requires c κs = search needs
+
+fill-requires-2 : tie.Need-fill-requires-2
+fill-requires-2 c κs = search needs
 
 slice-aggregate-raise-voices : tie.Need-slice-aggregate-raise-voices
 slice-aggregate-raise-voices c = search needs
@@ -25,16 +28,17 @@ same-length-2 c = search needs
 returns : tie.Need-returns
 returns c =
     let r = c .before .before .before .before .before in
-    let second = r .before .before .before .before .before .before in
+    let second = r .before .before .before .before .before .before .before in
     let first = second .before .before .before .before in
-    (opened _ _ _ _ _ (first .shut .ensures) (r .raise-voices .ensures .0), opened _ _ _ _ _ (second .shut2 .ensures) (r .raise-voices .ensures .1))
+    (opened _ _ _ _ _ (first .fill .ensures) (r .raise-voices .ensures .0), opened _ _ _ _ _ (second .fill2 .ensures) (r .raise-voices .ensures .1))
 
 pub open-two-spec : {M : Type 1} → statement M
 open-two-spec =
     tie.close
     (tie.spec
-    shut-requires
-    shut-requires-2
+    partial-octaves-requires
+    fill-requires
+    fill-requires-2
     slice-aggregate-raise-voices
     raise-voices-requires
     same-length

@@ -5,15 +5,12 @@ use Rattle.lobes.specs.Distance.{distance}
 use Rattle.lobes.proofs.reach.distance.Statement.{statement}
 use Rattle.lobes.proofs.reach.distance.Tie as tie
 
-log2-requires : tie.Need-log2-requires
-log2-requires c κs = search needs
-
 distance-by-table-requires : tie.Need-distance-by-table-requires
-distance-by-table-requires c κs = c .before .before .before .pre .2 (c .before .if1 .taken)
+distance-by-table-requires c κs = c .before .before .pre .3 (c .if1 .taken)
 
 returns : tie.Need-returns
 unfolding distance
-returns c = simp (c .before .before .if1 .taken) (c .distance-by-table .ensures ∙ simp (c .before .log2 .ensures))
+returns c = simp (c .before .if1 .taken) (c .distance-by-table .ensures ∙ simp (c .before .before .before .pre .1))
 
 distance-by-hertz-requires : tie.Need-distance-by-hertz-requires
 distance-by-hertz-requires c κs = search needs
@@ -25,7 +22,6 @@ pub distance-spec : {M : Type 1} → statement M
 distance-spec =
     tie.close
     (tie.spec
-    log2-requires
     distance-by-table-requires
     returns
     distance-by-hertz-requires

@@ -21,7 +21,7 @@ returns c =
     let p = c .before .before .before .before .before .before in
     let s = p .before .before .before .before .before in
     let e = rw (p .places .ensures) at (c .before .before .openings-at-places .ensures) in
-    rw (p .before .before .if1 .taken) (e ∙ staged (s .args .grid) (s .args .lobe) (s .args .table .now) (s .args .center-log2) (s .args .start) (s .args .count) (s .pre .2) (s .args .chunk .now))
+    rw (p .before .before .if1 .taken) (e ∙ staged (s .args .grid) (s .args .lobe) (s .args .table .now) (s .args .lobe .«center_log2») (s .args .start) (s .args .count) (s .pre .2) (s .args .chunk .now))
 
 openings-by-frequency-requires : tie.Need-openings-by-frequency-requires
 openings-by-frequency-requires c κs = search needs

@@ -5,7 +5,6 @@ use Prim.Native.Nat.{_+_, _-_, _≤_}
 use native.Mathlib.Omega.{arith}
 use lib.ListN.{length}
 use Rattle.lists.specs.Turned.{Turned, turned-none}
-use Rattle.power.specs.Log.{L2}
 use Rattle.lobes.specs.Distance.{logsOf}
 use Rattle.openness.proofs.Walk.{reached, chunk-joined, lobe-walked}
 use borrow.Author.Needs.{needs}
@@ -13,25 +12,21 @@ use Rattle.openness.proofs.raise.raise_lobe.Statement.{statement}
 use Rattle.openness.proofs.raise.raise_lobe.Tie as tie
 
 abbrev Inv-loop : tie.InvT-loop
-Inv-loop first₀ second₀ chunk₀ powers gaussians tabled table grid lobe gains center-log2 end start₀ first second chunk start =
-    (center-log2 ≡ L2 (lobe .center))
-    × (length chunk ≡ length chunk₀)
+Inv-loop first₀ second₀ chunk₀ powers gaussians tabled table grid lobe gains end start₀ first second chunk start =
+    (length chunk ≡ length chunk₀)
     × ((start ≤ lobe .«last_bin» + 1) ⊎ (start ≡ lobe .«first_bin»))
     × Turned (reached grid (logsOf tabled table) lobe (gains .first)) (lobe .«first_bin») first₀ first start
     × Turned (reached grid (logsOf tabled table) lobe (gains .second)) (lobe .«first_bin») second₀ second start
 
 abbrev μ-loop : tie.MeasureT-loop
-μ-loop first₀ second₀ chunk₀ powers gaussians tabled table grid lobe gains center-log2 end start₀ first second chunk start =
+μ-loop first₀ second₀ chunk₀ powers gaussians tabled table grid lobe gains end start₀ first second chunk start =
     lobe .«last_bin» + 1 - start
-
-log2-requires : tie.Need-log2-requires Inv-loop μ-loop
-log2-requires c κs = search needs
 
 add-end : tie.Need-add-end Inv-loop μ-loop
 add-end c = search needs
 
 loop-holds : tie.Need-loop-holds Inv-loop μ-loop
-loop-holds c = (c .before .log2 .ensures, refl, inr refl, turned-none _ _ _, turned-none _ _ _)
+loop-holds c = (refl, inr refl, turned-none _ _ _, turned-none _ _ _)
 
 sub-lesser : tie.Need-sub-lesser Inv-loop μ-loop
 sub-lesser c = search needs
@@ -45,8 +40,8 @@ add-next c = search needs
 openings-requires : tie.Need-openings-requires Inv-loop μ-loop
 openings-requires c κs =
     let l = c .before .before .before in
-    let s = l .before .before .before .before .before .before .before in
-    (s .pre .0, s .pre .1, l .loop .inv .0, omega (arith, c .before .lesser .ensures), omega (arith, c .before .lesser .ensures, s .pre .3), λ e. omega (arith, c .before .lesser .ensures, s .pre .4 e))
+    let s = l .before .before .before .before .before .before in
+    (s .pre .0, s .pre .1, s .pre .3, omega (arith, c .before .lesser .ensures), omega (arith, c .before .lesser .ensures, s .pre .4), λ e. omega (arith, c .before .lesser .ensures, s .pre .5 e))
 
 join-requires : tie.Need-join-requires Inv-loop μ-loop
 join-requires c κs = search needs
@@ -64,29 +59,28 @@ loop-again c =
     let o = j1 .before .before .before .before .before in
     let n = o .before .before in
     let l = n .before .before in
-    let s = l .before .before .before .before .before .before .before in
+    let s = l .before .before .before .before .before .before in
     let logs = logsOf (s .args .tabled) (s .args .table .now) in
     let room : n .lesser .result ≤ length (l .loop .chunk) = omega (arith, n .lesser .ensures) in (
-      l .loop .inv .0,
-      o .openings .kept .0 ∙ l .loop .inv .1,
+      o .openings .kept .0 ∙ l .loop .inv .0,
       inl (omega (arith, n .lesser .ensures)),
-      chunk-joined _ logs _ _ (l .loop .start) (n .lesser .result) (l .loop .chunk) _ room (o .openings .ensures) (l .loop .inv .3) (j1 .join .ensures),
-      chunk-joined _ logs _ _ (l .loop .start) (n .lesser .result) (l .loop .chunk) _ room (o .openings .ensures) (l .loop .inv .4) (j2 .join2 .ensures),
+      chunk-joined _ logs _ _ (l .loop .start) (n .lesser .result) (l .loop .chunk) _ room (o .openings .ensures) (l .loop .inv .2) (j1 .join .ensures),
+      chunk-joined _ logs _ _ (l .loop .start) (n .lesser .result) (l .loop .chunk) _ room (o .openings .ensures) (l .loop .inv .3) (j2 .join2 .ensures),
     )
 
 same-length : tie.Need-same-length Inv-loop μ-loop
-same-length c = c .before .loop .inv .3 .len
+same-length c = c .before .loop .inv .2 .len
 
 same-length-2 : tie.Need-same-length-2 Inv-loop μ-loop
-same-length-2 c = c .before .loop .inv .4 .len
+same-length-2 c = c .before .loop .inv .3 .len
 
 same-length-3 : tie.Need-same-length-3 Inv-loop μ-loop
-same-length-3 c = c .before .loop .inv .1
+same-length-3 c = c .before .loop .inv .0
 
 returns : tie.Need-returns Inv-loop μ-loop
 returns c =
     let l = c .before .loop in
-    (lobe-walked _ _ _ _ (l .inv .3) (l .inv .2) (c .loop-test .left), lobe-walked _ _ _ _ (l .inv .4) (l .inv .2) (c .loop-test .left))
+    (lobe-walked _ _ _ _ (l .inv .2) (l .inv .1) (c .loop-test .left), lobe-walked _ _ _ _ (l .inv .3) (l .inv .1) (c .loop-test .left))
 
 pub raise-lobe-spec : {M : Type 1} → statement M
 raise-lobe-spec =
@@ -94,7 +88,6 @@ raise-lobe-spec =
     (tie.spec
     Inv-loop
     μ-loop
-    log2-requires
     add-end
     loop-holds
     sub-lesser

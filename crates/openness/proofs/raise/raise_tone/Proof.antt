@@ -4,15 +4,16 @@ use Prim.Native.Nat.{_+_, _-_, _≤_}
 use native.Mathlib.Omega.{arith}
 use lib.ListN.{length}
 use Rattle.lists.specs.Maps.{mapAt}
+use Rattle.power.specs.Log.{L2}
 use Rattle.lobes.specs.Distance.{logsOf}
 use Rattle.openness.specs.Openness.{toneJoined}
-use Rattle.openness.proofs.Partials.{last-bin, rest, rest-all, rest-next, rest-stop, rest-end}
+use Rattle.openness.proofs.Partials.{last-bin, center-log2, rest, rest-all, rest-next, rest-stop, rest-end}
 use borrow.Author.Needs.{needs}
 use Rattle.openness.proofs.raise.raise_tone.Statement.{statement}
 use Rattle.openness.proofs.raise.raise_tone.Tie as tie
 
 abbrev Inv-loop : tie.InvT-loop
-Inv-loop first₀ second₀ chunk₀ powers gaussians tabled table grid tone gains partial₀ first second chunk partial =
+Inv-loop first₀ second₀ chunk₀ powers octaves gaussians tabled table grid tone gains partial₀ first second chunk partial =
     (1 ≤ partial)
     × (length first ≡ length first₀)
     × (length second ≡ length second₀)
@@ -21,7 +22,7 @@ Inv-loop first₀ second₀ chunk₀ powers gaussians tabled table grid tone gai
     × (rest grid (logsOf tabled table) (gains .second) tone partial second ≡ mapAt (toneJoined grid (logsOf tabled table) (gains .second) tone) second₀)
 
 abbrev μ-loop : tie.MeasureT-loop
-μ-loop first₀ second₀ chunk₀ powers gaussians tabled table grid tone gains partial₀ first second chunk partial =
+μ-loop first₀ second₀ chunk₀ powers octaves gaussians tabled table grid tone gains partial₀ first second chunk partial =
     grid .partials + 1 - partial
 
 loop-holds : tie.Need-loop-holds Inv-loop μ-loop
@@ -30,7 +31,7 @@ loop-holds c = (omega arith, refl, refl, refl, rest-all _ _ _ _ _, rest-all _ _ 
 center-of-requires : tie.Need-center-of-requires Inv-loop μ-loop
 center-of-requires c κs =
     let s = c .before .before .before .before .before .before .before in
-    omega (arith, s .pre .3)
+    omega (arith, s .pre .4)
 
 same-length : tie.Need-same-length Inv-loop μ-loop
 same-length c = c .before .before .before .before .before .loop .inv .1
@@ -54,18 +55,22 @@ lobe-of-requires : tie.Need-lobe-of-requires Inv-loop μ-loop
 lobe-of-requires c κs =
     let l = c .before .before .before .before .before in
     let s = l .before .before .before .before .before in
-    (s .pre .0, s .pre .4, omega (arith, s .pre .3), s .pre .5)
+    (s .pre .0, s .pre .1, s .pre .5, omega (arith, s .pre .4), s .pre .6)
 
 raise-lobe-requires : tie.Need-raise-lobe-requires Inv-loop μ-loop
 raise-lobe-requires c κs =
     let f = c .before .before .before in
     let l = f .before .before .before .before .before .before in
     let s = l .before .before .before .before .before in
+    let log2 : f .lobe-of .result .«center_log2» ≡ L2 (f .lobe-of .result .center) = rw (f .lobe-of .ensures) (center-log2 _ _ _ _) in
     let ends : f .lobe-of .result .«last_bin» ≤ s .args .grid .«last_bin» = rw (f .lobe-of .ensures) (last-bin _ _ _ _) in
-    (s .pre .0, s .pre .1, omega (arith, s .pre .2, l .loop .inv .3), omega (arith, s .pre .4), λ e. omega (arith, s .pre .5 e))
+    (s .pre .0, s .pre .2, omega (arith, s .pre .3, l .loop .inv .3), log2, omega (arith, s .pre .5), λ e. omega (arith, s .pre .6 e))
 
 add-partial : tie.Need-add-partial Inv-loop μ-loop
-add-partial c = search needs
+add-partial c =
+    let o = c .before .before .before .before .before .before .before .before .before .before .before .before .before in
+    let s = o .before .before .before .before .before .before .before .before in
+    omega (arith, o .before .if1 .taken, s .pre .4)
 
 loop-less : tie.Need-loop-less Inv-loop μ-loop
 loop-less c = omega arith

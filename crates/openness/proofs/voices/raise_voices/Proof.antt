@@ -12,7 +12,7 @@ use Rattle.openness.proofs.voices.raise_voices.Statement.{statement}
 use Rattle.openness.proofs.voices.raise_voices.Tie as tie
 
 abbrev Inv-loop : tie.InvT-loop
-Inv-loop first₀ second₀ chunk₀ powers sines gaussians tabled table stereo grid count voices index₀ first second chunk index =
+Inv-loop first₀ second₀ chunk₀ powers octaves sines gaussians tabled table stereo grid count voices index₀ first second chunk index =
     (length voices ≡ 128)
     × (length first ≡ length first₀)
     × (length second ≡ length second₀)
@@ -21,7 +21,7 @@ Inv-loop first₀ second₀ chunk₀ powers sines gaussians tabled table stereo 
     × (voices-from grid (logsOf tabled table) (channelGain (secondSide stereo)) voices count index second ≡ voices-from grid (logsOf tabled table) (channelGain (secondSide stereo)) voices count 0 second₀)
 
 abbrev μ-loop : tie.MeasureT-loop
-μ-loop first₀ second₀ chunk₀ powers sines gaussians tabled table stereo grid count voices index₀ first second chunk index =
+μ-loop first₀ second₀ chunk₀ powers octaves sines gaussians tabled table stereo grid count voices index₀ first second chunk index =
     count - index
 
 loop-holds : tie.Need-loop-holds Inv-loop μ-loop
@@ -37,7 +37,7 @@ raise-voice-requires : tie.Need-raise-voice-requires Inv-loop μ-loop
 raise-voice-requires c κs =
     let l = c .before .before .before .before .before in
     let s = l .before .before .before .before .before in
-    (s .pre .0, s .pre .1, s .pre .2, omega (arith, s .pre .3, l .loop .inv .3), s .pre .4, s .pre .5, s .pre .6)
+    (s .pre .0, s .pre .1, s .pre .2, s .pre .3, omega (arith, s .pre .4, l .loop .inv .3), s .pre .5, s .pre .6, s .pre .7)
 
 add-index : tie.Need-add-index Inv-loop μ-loop
 add-index c = search needs
@@ -51,7 +51,7 @@ loop-again c =
     let n = r .before .before .before .before .before in
     let l = n .before in
     let s = l .before .before .before .before .before in
-    let some : s .args .count ≤ length (s .args .t11) = omega (arith, s .pre .7, l .loop .inv .0) in (
+    let some : s .args .count ≤ length (s .args .t12) = omega (arith, s .pre .8, l .loop .inv .0) in (
       l .loop .inv .0,
       omega (arith, r .raise-voice .kept .0, l .loop .inv .1),
       omega (arith, r .raise-voice .kept .1 .0, l .loop .inv .2),
