@@ -20,7 +20,7 @@ use Rattle.openness.specs.Openness.{lobeJoined, partialsOf}
 
 -- what stands past the end of a list of lobes
 abbrev pub noLobe : Lobe
-noLobe = record { center = nan; strength = nan; «first_bin» = 0; «last_bin» = 0; «peak_squared» = nan }
+noLobe = record { center = nan; «center_log2» = nan; strength = nan; «first_bin» = 0; «last_bin» = 0; «peak_squared» = nan }
 
 -- the lobes of a tone's partials
 abbrev pub lobesOf : Grid → Logs → Tone → List Lobe
@@ -36,6 +36,7 @@ mostOpen grid logs lobes bin = lobesJoined grid logs one lobes bin zero
 
 -- a lobe as an accepted voice has it
 pub record SoundLobe (grid : Grid) (lobe : Lobe) : Type 0 where
+  pub log-of-center : lobe .«center_log2» ≡ L2 (lobe .center)
   pub last : lobe .«last_bin» ≤ grid .«last_bin»
   pub strength-real : T (real binary32 (lobe .strength))
   pub strength-low : T (le plus-zero (lobe .strength))

@@ -21,6 +21,7 @@ use voices::raise_voices;
 
 pub mod chunk;
 pub mod joins;
+pub mod most;
 pub mod raise;
 pub mod voices;
 

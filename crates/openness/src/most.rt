@@ -7,11 +7,9 @@ ghost use lib.Ieee.{nan};
 ghost use Rattle.lists.specs.Maps.{mapRange};
 ghost use Rattle.float32.specs.Remainder.{one};
 ghost use Rattle.gaussian.specs.Table.{gaussianTable};
-ghost use Rattle.blocks.specs.Least.{Least};
 ghost use Rattle.lobes.specs.Distance.{lent};
 ghost use Rattle.openness.specs.Openness.{lobeJoined};
 ghost use Rattle.openness.specs.Compact.{noLobe, mostOpen, SoundLobe, SoundLobes, Bounded, Opennesses};
-use blocks::least_from;
 use crate::chunk::openings_by_table;
 use crate::joins::join;
 use float32::counts::greater;
@@ -42,76 +40,5 @@ fn raise_in_row(
     if from < to {
         openings_by_table(chunk, gaussians, table, grid, lobe, from, to - from);
         join(row, chunk, UNITY, from - start, to - start);
-    }
-}
-
-// A lobe joined to a row, unless it is there already or its bound is not above the least of the row. Answers the least of the row, or less.
-fn raise_above(
-    row: &mut [f32],
-    chunk: &mut [f32],
-    scratch: &mut [f32],
-    gaussians: &GaussianTable,
-    table: &[f32],
-    grid: Grid,
-    lobe: Lobe,
-    there: bool,
-    bound: f32,
-    least: f32,
-    start: usize,
-    end: usize,
-) -> f32
-    requires { ⌜ (now gaussians ≡ gaussianTable) × (SoundLobe grid lobe) × (start ≤ end) × (length (now row) ≡ 64) × (length (now chunk) ≡ 64) × (length (now scratch) ≡ 64) × (end ≤ start + 64) × (end ≤ length (now table)) × (grid .«last_bin» ≤ 2 ^ 24) × (Opennesses (now row)) × (Least least 0 64 (now row)) × (Bounded grid (now table) lobe bound start end) × (there ≡ true → now row ≡ mapRange (λ k held. lobeJoined grid (lent (now table)) one (start + k) held lobe) 0 (end - start) (now row)) ⌝ }
-    ensures { λ r. ⌜ (now (row .exit) ≡ mapRange (λ k held. lobeJoined grid (lent (now (table .entry))) one (start + k) held lobe) 0 (end - start) (now (row .entry))) × (Least r 0 64 (now (row .exit))) ⌝ }
-{
-    if there {
-        return least;
-    }
-    if bound <= least {
-        return least;
-    }
-    raise_in_row(row, chunk, gaussians, table, grid, lobe, start, end);
-    least_from(scratch, row, 0)
-}
-
-// The most that one of the lobes opens at each bin from `start` on and below `end`. The lobe at `top` comes first.
-pub fn raise_partials(
-    row: &mut [f32],
-    chunk: &mut [f32],
-    scratch: &mut [f32],
-    gaussians: &GaussianTable,
-    table: &[f32],
-    bounds: &[f32],
-    grid: Grid,
-    lobes: [Lobe; 24],
-    count: usize,
-    top: usize,
-    start: usize,
-    end: usize,
-)
-    requires { ⌜ (now gaussians ≡ gaussianTable) × (SoundLobes grid lobes count) × (count ≤ 24) × (top < count) × (count ≤ length (now bounds)) × (start ≤ end) × (length (now row) ≡ 64) × (length (now chunk) ≡ 64) × (length (now scratch) ≡ 64) × (end ≤ start + 64) × (end ≤ length (now table)) × (grid .«last_bin» ≤ 2 ^ 24) × ((p : ℕ) → p < count → Bounded grid (now table) (getD lobes p noLobe) (getD (now bounds) p nan) start end) ⌝ }
-    ensures { λ _. ⌜ (k : ℕ) → start + k < end → getD (now (row .exit)) k nan ≡ mostOpen grid (lent (now (table .entry))) (take count lobes) (start + k) ⌝ }
-{
-    slices::fill(row, 0.0);
-    let first = lobes[top];
-    raise_in_row(row, chunk, gaussians, table, grid, first, start, end);
-    let mut least = least_from(scratch, row, 0);
-    let mut p: usize = 0;
-    while p < count {
-        let lobe = lobes[p];
-        least = raise_above(
-            row,
-            chunk,
-            scratch,
-            gaussians,
-            table,
-            grid,
-            lobe,
-            p == top,
-            bounds[p],
-            least,
-            start,
-            end,
-        );
-        p += 1;
     }
 }
