@@ -42,7 +42,7 @@ returns c =
     let c8 = covers-half 8 c16 (h3 .halve3 .ensures) in
     let c4 = covers-half 4 c8 (h4 .halve4 .ensures) in
     let c2 = covers-half 2 c4 (h5 .halve5 .ensures) in
-    covers-one 64 (covers-half 1 c2 (h6 .halve6 .ensures))
+    covers-one 64 (p .0) (covers-half 1 c2 (h6 .halve6 .ensures))
 
 pub least-of-spec : {M : Type 1} → statement M
 least-of-spec =
