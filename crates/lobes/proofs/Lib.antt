@@ -6,3 +6,5 @@ pub mod Channels
 pub mod Harmonics
 pub mod Raised
 pub mod ZeroSigns
+pub mod Columns
+pub mod Bounded

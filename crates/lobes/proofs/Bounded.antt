@@ -1,0 +1,391 @@
+-- What a lobe opens at a bin is never above its bound over a block that has the bin. Rounding keeps the order and passes the sign through, so the bin's distance is no less than the least of the
+-- block; squares, the difference from the peak's square, the maximum with 0 and the place in the table keep the order; the bell is never above the entry on its left, and the table never
+-- rises; the product with a strength that is not negative and the clamp keep the order. Assumes nothing.
+use mathlib.Core.Path.{_≡_, refl, sym, ap, _∙_, subst}
+use mathlib.Core.Bool.{Bool, true, false}
+use mathlib.Core.List.{List}
+use Prim.Native.Nat.{ℕ, _+_, _≤_, _<_, min}
+use native.Mathlib.Nat.{le-trans, le-of-eq}
+use native.Mathlib.Omega.{arith}
+use lib.Dec.{T}
+use lib.IntN.{ℤ}
+use lib.ListN.{getD}
+use lib.Ieee.{Float, nan, inf, fin, Format, binary32, fits, le, lt, neg, add, sub, mul, div, round, unlike, ofBits, isNan}
+use lib.Ieee.Fits.{sub-fits, mul-fits}
+use lib.Ieee.Positive.{positive}
+use lib.Ieee.Scale.{overflow}
+use Rattle.float_laws.specs.Units.{mag, number, real, sign, keyed, keyed-le, key, real-number, key→le}
+use Rattle.float_laws.specs.Order as order
+use Rattle.float_laws.specs.Order.{le-refl-f, le-trans-f, eq→le-f, larger-number, larger-right, larger-least, larger-mono}
+use Rattle.float_laws.specs.Round.{plus-zero, real-zero}
+use Rattle.float_laws.specs.Ops.{mul-comm-f, mul-neg, neg-div, neg-neg, div-round}
+use Rattle.float_laws.specs.Mono.{sub-mono, sub-number, sub-swap, number-neg, mul-number, mul-nonneg, above-zero}
+use Rattle.float_laws.specs.Bounds.{round-nonneg}
+use Rattle.float_laws.specs.Inf.{mul-by, mul-by-number, div-by, div-by-number, positive-above, sub-mono-inf, mul-mono-inf}
+use Rattle.float_laws.specs.Rise.{Upto, Rise, Up, rise-refl, up-scale, up-clamp}
+use Rattle.float32.specs.Counts.{floorCount}
+use Rattle.float32.specs.Order.{maximum, clamp, magnitude}
+use Rattle.float32.specs.Powers.{square}
+use Rattle.float32.specs.Remainder.{zero, one}
+use Rattle.float32.proofs.CountBounds.{count-never-falls}
+use Rattle.float32.proofs.Magnitude.{magnitude-clear, magnitude-size, magnitude-neg, magnitude-is-number, magnitude-nonneg}
+use Rattle.float32.proofs.OrderAgrees.{clamp-agrees, maximum-nan-first, maximum-larger}
+use Rattle.power.specs.Log.{L2}
+use Rattle.power.proofs.LogRange.{L2-real}
+use Rattle.gaussian.specs.Table.{GAUSSIAN-LUT-STEPS, G}
+use Rattle.gaussian.specs.Bell.{GAUSSIAN-MAX-RELATIVE-SQUARED, STEPS-PER-SQUARE, position, gaussian}
+use Rattle.gaussian.proofs.Entries.{no-nan, G-falls, G-upto}
+use Rattle.gaussian.proofs.InUnit.{place-of, left-most, between-at-most, gaussian-in-unit}
+use Rattle.scene.specs.declared.MaskVoice.{MaskVoice}
+use Rattle.scene.proofs.Voices.{RealVoice}
+use Rattle.lobes.specs.declared.Grid.{Grid}
+use Rattle.lobes.specs.declared.Lobe.{Lobe}
+use Rattle.lobes.specs.Grid.{CENTS-PER-OCTAVE}
+use Rattle.lobes.specs.Tone.{timbreRolloff, toneOf}
+use Rattle.lobes.specs.Distance.{Logs, lent, inWidths, distance, bell}
+use Rattle.lobes.specs.Lobe.{lobeOf, relativeSquare, opening}
+use Rattle.lobes.specs.Bound.{leastDistance, nearestPlace, boundOf}
+use Rattle.lobes.proofs.NoteLevels.{zero-is, one-is, note-level-rises}
+use Rattle.lobes.proofs.Harmonics.{rolloff-low, rolloff-real, harmonic-gain-unit}
+
+-- ---- magnitudes
+module _ (f : Format) where
+  key-magnitude : (x : Float) → key f (magnitude x) ≡ overflow f + mag f x
+  key-magnitude x = ap (λ (s : Bool). keyed (overflow f) s (mag f (magnitude x))) (magnitude-clear x) ∙ ap (λ (m : ℕ). overflow f + m) (magnitude-size f x)
+
+  le-magnitude : (x : Float) → T (number f x) → T (le x (magnitude x))
+  le-magnitude x p = key→le f x (magnitude x) p (magnitude-is-number f x p) (le-trans (keyed-le (overflow f) (sign x) (mag f x)) (le-of-eq (sym (key-magnitude x))))
+
+  neg-le-magnitude : (x : Float) → T (number f x) → T (le (neg x) (magnitude x))
+  neg-le-magnitude x p = subst (λ (y : Float). T (le (neg x) y)) (magnitude-neg x) (le-magnitude (neg x) (number-neg f x p))
+
+zero-number : T (number binary32 plus-zero)
+zero-number = real-number binary32 plus-zero (real-zero binary32 false)
+
+max-zero : (x : Float) → T (number binary32 x) → maximum x zero ≡ order.larger x plus-zero
+max-zero x p = rw zero-is (maximum-larger binary32 x plus-zero p)
+
+-- ---- the octaves from a centre to a bin of the block are no fewer than the least
+pub record InBlock (low high t : Float) : Type 0 where
+  pub low-real : T (real binary32 low)
+  pub high-real : T (real binary32 high)
+  pub is-real : T (real binary32 t)
+  pub from : T (le low t)
+  pub to : T (le t high)
+
+module _ (low high t c : Float) (h : InBlock low high t) (p : T (real binary32 c)) where
+  abbrev up : Float
+  up = sub binary32 low c
+
+  abbrev down : Float
+  down = sub binary32 c high
+
+  abbrev octaves : Float
+  octaves = sub binary32 t c
+
+  abbrev least : Float
+  least = maximum (maximum up down) zero
+
+  up-number : T (number binary32 up)
+  up-number = sub-number binary32 low c (h .low-real) p
+
+  down-number : T (number binary32 down)
+  down-number = sub-number binary32 c high p (h .high-real)
+
+  octaves-number : T (number binary32 octaves)
+  octaves-number = sub-number binary32 t c (h .is-real) p
+
+  c-self : T (le c c)
+  c-self = le-refl-f binary32 c (real-number binary32 c p)
+
+  up-le : T (le up (magnitude octaves))
+  up-le =
+      le-trans-f binary32 up octaves (magnitude octaves) up-number octaves-number (magnitude-is-number binary32 octaves octaves-number)
+      (sub-mono binary32 low t c c (h .low-real) (h .is-real) p p (h .from) c-self) (le-magnitude binary32 octaves octaves-number)
+
+  down-le : T (le down (magnitude octaves))
+  down-le =
+      let back = sub binary32 c t in
+      let n = sub-number binary32 c t p (h .is-real) in
+      let m = number-neg binary32 octaves octaves-number in
+      let a = sub-mono binary32 c c high t p p (h .high-real) (h .is-real) c-self (h .to) in
+      let b = eq→le-f binary32 back (neg octaves) n m (sub-swap binary32 c t p (h .is-real)) in
+      le-trans-f binary32 down back (magnitude octaves) down-number n (magnitude-is-number binary32 octaves octaves-number) a
+      (le-trans-f binary32 back (neg octaves) (magnitude octaves) n m (magnitude-is-number binary32 octaves octaves-number) b (neg-le-magnitude binary32 octaves octaves-number))
+
+  least-is : least ≡ order.larger (order.larger up down) plus-zero
+  least-is = ap (λ (x : Float). maximum x zero) (maximum-larger binary32 up down up-number) ∙ max-zero (order.larger up down) (larger-number binary32 up down up-number down-number)
+
+  least-number : T (number binary32 least)
+  least-number = rw least-is (larger-number binary32 (order.larger up down) plus-zero (larger-number binary32 up down up-number down-number) zero-number)
+
+  least-low : T (le plus-zero least)
+  least-low = rw least-is (larger-right binary32 (order.larger up down) plus-zero (larger-number binary32 up down up-number down-number) zero-number)
+
+  least-le : T (le least (magnitude octaves))
+  least-le =
+      let m = magnitude-is-number binary32 octaves octaves-number in
+      rw least-is
+      (larger-least binary32 (order.larger up down) plus-zero (larger-number binary32 up down up-number down-number) zero-number (magnitude octaves) m
+      (larger-least binary32 up down up-number down-number (magnitude octaves) m up-le down-le) (magnitude-nonneg binary32 octaves octaves-number))
+
+-- ---- in widths
+cents-positive : T (positive CENTS-PER-OCTAVE) × T (real binary32 CENTS-PER-OCTAVE) × T (le plus-zero CENTS-PER-OCTAVE)
+unfolding ofBits fits le lt
+cents-positive = (tt, tt, tt)
+
+-- a quotient of the negative is the negative one, of infinities too
+infinite-over : (s : Bool) (w : Float) → T (real binary32 w) → div binary32 (neg (inf s)) w ≡ neg (div binary32 (inf s) w)
+unfolding div neg
+infinite-over s nan r = absurd r
+infinite-over s (inf t) r = absurd r
+infinite-over true (fin true n d) r = refl
+infinite-over true (fin false n d) r = refl
+infinite-over false (fin true n d) r = refl
+infinite-over false (fin false n d) r = refl
+
+square-neg : (x : Float) → square (neg x) ≡ square x
+square-neg x = mul-neg binary32 (neg x) x ∙ ap neg (mul-comm-f binary32 (neg x) x ∙ mul-neg binary32 x x) ∙ neg-neg (square x)
+
+module _ (width : Float) (p : T (real binary32 width)) (above : T (lt plus-zero width)) where
+  abbrev cents : Float → Float
+  cents x = mul binary32 CENTS-PER-OCTAVE x
+
+  cents-up : (x y : Float) → T (le x y) → T (le (cents x) (cents y))
+  cents-up x y h = rw (mul-comm-f binary32 CENTS-PER-OCTAVE x, mul-comm-f binary32 CENTS-PER-OCTAVE y) (mul-by binary32 CENTS-PER-OCTAVE (cents-positive .0) x y h)
+
+  cents-number : (x : Float) → T (number binary32 x) → T (number binary32 (cents x))
+  cents-number x n = rw (mul-comm-f binary32 CENTS-PER-OCTAVE x) (mul-by-number binary32 CENTS-PER-OCTAVE (cents-positive .0) x (no-nan binary32 x n))
+
+  widths-up : (x y : Float) → T (le x y) → T (le (inWidths width x) (inWidths width y))
+  widths-up x y h = div-by binary32 width (positive-above binary32 width p above) (cents x) (cents y) (cents-up x y h)
+
+  widths-number : (x : Float) → T (number binary32 x) → T (number binary32 (inWidths width x))
+  widths-number x n = div-by-number binary32 width (positive-above binary32 width p above) (cents x) (no-nan binary32 (cents x) (cents-number x n))
+
+  wide : 0 < mag binary32 width
+  wide = above-zero binary32 width (real-number binary32 width p) above .1
+
+  widths-low : (x : Float) → T (number binary32 x) → T (le plus-zero x) → T (le plus-zero (inWidths width x))
+  widths-low x n h =
+      let z = inWidths width plus-zero in
+      le-trans-f binary32 plus-zero z (inWidths width x) zero-number (widths-number plus-zero zero-number) (widths-number x n) from-zero (widths-up plus-zero x h)
+    where
+      none : T (le plus-zero (div binary32 plus-zero width))
+      none =
+          subst (λ (x : Float). T (le plus-zero x))
+          (sym (div-round binary32 plus-zero width (real-zero binary32 false) p wide ∙ ap (λ (s : Bool). round binary32 (unlike false s) (mag binary32 plus-zero) (mag binary32 width)) (above-zero binary32 width (real-number binary32 width p) above .0)))
+          (round-nonneg binary32 (mag binary32 plus-zero) (mag binary32 width))
+
+      no-cents : T (le plus-zero (cents plus-zero))
+      no-cents = mul-nonneg binary32 CENTS-PER-OCTAVE plus-zero (cents-positive .1) (real-zero binary32 false) (cents-positive .2) (le-refl-f binary32 plus-zero zero-number)
+
+      from-zero : T (le plus-zero (inWidths width plus-zero))
+      from-zero =
+          le-trans-f binary32 plus-zero (div binary32 plus-zero width) (inWidths width plus-zero) zero-number
+          (div-by-number binary32 width (positive-above binary32 width p above) plus-zero (no-nan binary32 plus-zero zero-number)) (widths-number plus-zero zero-number) none
+          (div-by binary32 width (positive-above binary32 width p above) plus-zero (cents plus-zero) no-cents)
+
+  over-neg : (x : Float) → T (number binary32 x) → div binary32 (neg x) width ≡ neg (div binary32 x width)
+  over-neg nan n = absurd n
+  over-neg (inf s) n = infinite-over s width p
+  over-neg (fin s m e) n = neg-div binary32 (fin s m e) width n p wide
+
+  -- the square of a distance does not see its sign
+  square-of-neg : (x : Float) → T (number binary32 x) → square (inWidths width (neg x)) ≡ square (inWidths width x)
+  square-of-neg x n =
+      ap square (ap (λ (y : Float). div binary32 y width) (mul-neg binary32 CENTS-PER-OCTAVE x) ∙ over-neg (cents x) (cents-number x n))
+      ∙ square-neg (inWidths width x)
+
+  square-of-magnitude : (x : Float) → T (number binary32 x) → square (inWidths width (magnitude x)) ≡ square (inWidths width x)
+  unfolding magnitude neg
+  square-of-magnitude nan n = absurd n
+  square-of-magnitude (inf false) n = refl
+  square-of-magnitude (inf true) n = square-of-neg (inf true) n
+  square-of-magnitude (fin false m e) n = refl
+  square-of-magnitude (fin true m e) n = square-of-neg (fin true m e) n
+
+-- ---- squares
+square-number : (x : Float) → T (number binary32 x) → T (number binary32 (square x))
+unfolding mul
+square-number nan n = absurd n
+square-number (inf true) n = tt
+square-number (inf false) n = tt
+square-number (fin s m e) n = mul-number binary32 (fin s m e) (fin s m e) n n
+
+square-up : (x y : Float) → T (number binary32 x) → T (number binary32 y) → T (le plus-zero x) → T (le x y) → T (le (square x) (square y))
+square-up x y p q l h = mul-mono-inf binary32 x y x y p q p q l l (square-number x p) (square-number y q) h h
+
+square-low : (x : Float) → T (number binary32 x) → T (le plus-zero x) → T (le plus-zero (square x))
+square-low x p l =
+    le-trans-f binary32 plus-zero (square plus-zero) (square x) zero-number (square-number plus-zero zero-number) (square-number x p)
+    (mul-nonneg binary32 plus-zero plus-zero (real-zero binary32 false) (real-zero binary32 false) none none) (square-up plus-zero x zero-number p none l)
+  where
+    none : T (le plus-zero plus-zero)
+    none = le-refl-f binary32 plus-zero zero-number
+
+-- ---- less the peak's square, whatever that is: where the difference is NaN or below 0, it counts as 0
+abbrev less : Float → Float → Float
+less peak x = maximum (sub binary32 x peak) zero
+
+zero-self : T (le zero zero)
+zero-self = rw zero-is (le-refl-f binary32 plus-zero zero-number)
+
+from-zero-number : (d : Float) → T (fits binary32 d) → T (number binary32 (maximum d zero))
+unfolding fits
+from-zero-number nan f = rw (maximum-nan-first, zero-is) zero-number
+from-zero-number (inf s) f = rw (max-zero (inf s) tt) (larger-number binary32 (inf s) plus-zero tt zero-number)
+from-zero-number (fin s m e) f = rw (max-zero (fin s m e) f) (larger-number binary32 (fin s m e) plus-zero f zero-number)
+
+less-number : (peak x : Float) → T (number binary32 (less peak x))
+less-number peak x = from-zero-number (sub binary32 x peak) (sub-fits binary32 x peak)
+
+less-nan : (x : Float) → less nan x ≡ zero
+unfolding sub add neg maximum lt isNan ofBits
+less-nan nan = refl
+less-nan (inf s) = refl
+less-nan (fin s m e) = refl
+
+less-top : (x : Float) → less (inf false) x ≡ zero
+unfolding sub add neg maximum lt isNan ofBits
+less-top nan = refl
+less-top (inf true) = refl
+less-top (inf false) = refl
+less-top (fin s m e) = refl
+
+less-bottom : (x : Float) → T (number binary32 x) → T (le plus-zero x) → less (inf true) x ≡ inf false
+unfolding sub add neg maximum lt isNan ofBits le
+less-bottom nan n h = absurd n
+less-bottom (inf true) n h = absurd h
+less-bottom (inf false) n h = refl
+less-bottom (fin s m e) n h = refl
+
+finite-less : (x : Float) (s : Bool) (m : ℕ) (e : ℤ) → T (number binary32 x) → T (real binary32 (fin s m e)) → T (number binary32 (sub binary32 x (fin s m e)))
+unfolding sub add neg
+finite-less nan s m e n f = absurd n
+finite-less (inf t) s m e n f = tt
+finite-less (fin t k d) s m e n f = sub-number binary32 (fin t k d) (fin s m e) n f
+
+less-up : (peak : Float) → T (fits binary32 peak) → (x y : Float) → T (number binary32 x) → T (number binary32 y) → T (le plus-zero x) → T (le plus-zero y) → T (le x y) → T (le (less peak x) (less peak y))
+unfolding fits
+less-up nan f x y p q a b h = rw (less-nan x, less-nan y) zero-self
+less-up (inf false) f x y p q a b h = rw (less-top x, less-top y) zero-self
+less-up (inf true) f x y p q a b h = rw (less-bottom x p a, less-bottom y q b) (le-refl-f binary32 (inf false) tt)
+less-up (fin s m e) f x y p q a b h =
+    let peak = fin s m e in
+    let u = finite-less x s m e p f in
+    let v = finite-less y s m e q f in
+    rw (max-zero (sub binary32 x peak) u, max-zero (sub binary32 y peak) v)
+    (larger-mono binary32 (sub binary32 x peak) (sub binary32 y peak) plus-zero plus-zero u v zero-number zero-number
+    (sub-mono-inf binary32 x y peak peak p q f f u v h (le-refl-f binary32 peak f)) (le-refl-f binary32 plus-zero zero-number))
+
+-- ---- the place in the table
+place-up : (x y : Float) → T (number binary32 x) → T (number binary32 y) → T (le x y) → T (le (position x) (position y))
+unfolding position clamp ofBits fits le lt
+place-up x y p q h =
+    let a = order.clamp zero GAUSSIAN-MAX-RELATIVE-SQUARED x in
+    let b = order.clamp zero GAUSSIAN-MAX-RELATIVE-SQUARED y in
+    mul-by binary32 STEPS-PER-SQUARE tt a b (order.clamp-mono binary32 zero GAUSSIAN-MAX-RELATIVE-SQUARED tt tt tt x y p q h)
+
+-- the bell at a place is never above the entry on the left of a place before it
+bell-under : (x y : Float) → T (number binary32 x) → T (number binary32 y) → T (le x y) → Rise binary32 0 (gaussian y) (G (min (floorCount (position x)) GAUSSIAN-LUT-STEPS))
+bell-under x y p q h =
+    let place = place-of y q in
+    let before = min (floorCount (position x)) GAUSSIAN-LUT-STEPS in
+    let left = floorCount (position y) in
+    let few = left-most (position y) place in
+    let order-kept = count-never-falls false (position x) (position y) (place-up x y p q h) in
+    let from = gaussian-in-unit y q in
+    let to = G-upto before (omega arith) in
+    let between = G-upto left few in
+    record {
+      from = from;
+      to = to;
+      up =
+          le-trans-f binary32 (gaussian y) (G left) (G before) (real-number binary32 (gaussian y) (from .is-real)) (real-number binary32 (G left) (between .is-real)) (real-number binary32 (G before) (to .is-real))
+          (between-at-most (position y) place) (G-falls before left (omega (arith, order-kept)) few);
+    }
+
+-- ---- the lobe
+clamp-rises : {x y : Float} → Up binary32 x y → Rise binary32 0 (clamp zero one x) (clamp zero one y)
+clamp-rises {x} {y} u = rw (zero-is, one-is, clamp-agrees plus-zero _ x, clamp-agrees plus-zero _ y) (up-clamp binary32 u)
+
+held : (s : Float) → T (real binary32 s) → T (le plus-zero s) → Up binary32 s s
+held s r l = record { from-real = r; to-real = r; from-low = l; to-low = l; up = le-refl-f binary32 s (real-number binary32 s r) }
+
+-- a bound is in 0..1, whatever it is taken of, where the strength is finite and not negative
+pub bound-in-unit : (width strength center peak low high : Float) → T (real binary32 strength) → T (le plus-zero strength) → Upto binary32 0 (boundOf width strength center peak low high)
+unfolding boundOf
+bound-in-unit width strength center peak low high r l =
+    clamp-rises (up-scale binary32 (held strength r l) (rise-refl binary32 (G-upto (min (floorCount (nearestPlace width center peak low high)) GAUSSIAN-LUT-STEPS) (omega arith)))) .to
+
+-- what the bound asks of the width that all lobes share, and of the lobe
+pub record Measured (grid : Grid) (lobe : Lobe) : Type 0 where
+  pub width-real : T (real binary32 (grid .width))
+  pub width-above : T (lt plus-zero (grid .width))
+  pub strength-real : T (real binary32 (lobe .strength))
+  pub strength-low : T (le plus-zero (lobe .strength))
+  pub peak-fits : T (fits binary32 (lobe .«peak_squared»))
+
+module _ (grid : Grid) (lobe : Lobe) (m : Measured grid lobe) (table : List Float) (bin : ℕ) (low high : Float) (h : InBlock low high (getD table bin nan)) where
+  abbrev center : Float
+  center = L2 (lobe .center)
+
+  abbrev width : Float
+  width = grid .width
+
+  abbrev nearest : Float
+  nearest = leastDistance width center low high
+
+  abbrev there : Float
+  there = inWidths width (sub binary32 (getD table bin nan) center)
+
+  nearest-number : T (number binary32 nearest)
+  nearest-number = widths-number width (m .width-real) (m .width-above) (least low high (getD table bin nan) center h (L2-real (lobe .center))) (least-number low high (getD table bin nan) center h (L2-real (lobe .center)))
+
+  nearest-low : T (le plus-zero nearest)
+  nearest-low = widths-low width (m .width-real) (m .width-above) _ (least-number low high (getD table bin nan) center h (L2-real (lobe .center))) (least-low low high (getD table bin nan) center h (L2-real (lobe .center)))
+
+  there-number : T (number binary32 there)
+  there-number = widths-number width (m .width-real) (m .width-above) _ (octaves-number low high (getD table bin nan) center h (L2-real (lobe .center)))
+
+  -- no bin of the block is nearer, by the squares
+  nearest-is-least : T (le (square nearest) (square there))
+  nearest-is-least =
+      let steps = sub binary32 (getD table bin nan) center in
+      let n = octaves-number low high (getD table bin nan) center h (L2-real (lobe .center)) in
+      subst (λ (x : Float). T (le (square nearest) x)) (square-of-magnitude width (m .width-real) (m .width-above) steps n)
+      (square-up nearest (inWidths width (magnitude steps)) nearest-number (widths-number width (m .width-real) (m .width-above) (magnitude steps) (magnitude-is-number binary32 steps n)) nearest-low
+      (widths-up width (m .width-real) (m .width-above) _ (magnitude steps) (least-le low high (getD table bin nan) center h (L2-real (lobe .center)))))
+
+  relative-up : T (le (less (lobe .«peak_squared») (square nearest)) (less (lobe .«peak_squared») (square there)))
+  relative-up =
+      let p = square-number nearest nearest-number in
+      let q = square-number there there-number in
+      let l = square-low nearest nearest-number nearest-low in
+      less-up (lobe .«peak_squared») (m .peak-fits) (square nearest) (square there) p q l (le-trans-f binary32 plus-zero (square nearest) (square there) zero-number p q l nearest-is-least) nearest-is-least
+
+  under-bound : Rise binary32 0 (opening grid (lent table) lobe bin) (boundOf width (lobe .strength) center (lobe .«peak_squared») low high)
+  unfolding opening bell relativeSquare distance boundOf
+  under-bound =
+      clamp-rises
+      (up-scale binary32 (held (lobe .strength) (m .strength-real) (m .strength-low))
+      (bell-under (less (lobe .«peak_squared») (square nearest)) (less (lobe .«peak_squared») (square there)) (less-number (lobe .«peak_squared») (square nearest)) (less-number (lobe .«peak_squared») (square there)) relative-up))
+
+  pub opening-bounded : T (le (opening grid (lent table) lobe bin) (boundOf width (lobe .strength) center (lobe .«peak_squared») low high))
+  opening-bounded = under-bound .up
+
+-- ---- the lobes of accepted voices meet what the bound asks
+pub lobe-measured : (grid : Grid) (logs : Logs) (voice : MaskVoice) (partial : ℕ) → T (real binary32 (grid .width)) → T (lt plus-zero (grid .width)) → T (real binary32 (grid .rolloff)) → RealVoice voice → 1 ≤ partial → partial ≤ 24
+    → Measured grid (lobeOf grid logs (toneOf grid voice) partial)
+unfolding lobeOf toneOf
+lobe-measured grid logs voice partial w a r u first last =
+    let n = real-number binary32 in
+    let level =
+    note-level-rises voice voice u u (rise-refl binary32 (u .level-unit)) (le-refl-f binary32 (voice .«volume_gain») (n (voice .«volume_gain») (u .volume-real)))
+    (le-refl-f binary32 (voice .pressure) (n (voice .pressure) (u .pressure-real))) in
+    let gain =
+    harmonic-gain-unit partial first last (timbreRolloff (grid .rolloff) (voice .timbre)) (rolloff-real (grid .rolloff) (voice .timbre) r (u .timbre-real))
+    (rolloff-low (grid .rolloff) (voice .timbre) r (u .timbre-real)) in
+    let strength = up-scale binary32 level (rise-refl binary32 gain) in
+    record { width-real = w; width-above = a; strength-real = strength .to-real; strength-low = strength .to-low; peak-fits = mul-fits binary32 _ _ }
