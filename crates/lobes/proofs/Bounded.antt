@@ -1,211 +1,63 @@
--- What a lobe opens at a bin is never above its bound over a block that has the bin. Rounding keeps the order and passes the sign through, so the bin's distance is no less than the least of the
--- block; squares, the difference from the peak's square, the maximum with 0 and the place in the table keep the order; the bell is never above the entry on its left, and the table never
--- rises; the product with a strength that is not negative and the clamp keep the order. Assumes nothing.
-use mathlib.Core.Path.{_≡_, refl, sym, ap, _∙_, subst}
-use mathlib.Core.Bool.{Bool, true, false}
+-- What a lobe opens at a bin is never above its bound over a block that has the bin. No bin of the block is nearer than the least distance; squares, the difference from the peak's square, the
+-- maximum with 0 and the place in the table keep the order; the bell is never above the entry on its left, and the table never rises; the product with a strength that is not negative and the
+-- clamp keep the order. Assumes nothing.
+use mathlib.Core.Path.{_≡_, refl, ap, _∙_, subst}
+use mathlib.Core.Bool.{Bool, true, false, cond}
 use mathlib.Core.List.{List}
-use Prim.Native.Nat.{ℕ, _+_, _≤_, _<_, min}
-use native.Mathlib.Nat.{le-trans, le-of-eq}
+use Prim.Native.Nat.{ℕ, _≤_, min}
 use native.Mathlib.Omega.{arith}
 use lib.Dec.{T}
 use lib.IntN.{ℤ}
 use lib.ListN.{getD}
-use lib.Ieee.{Float, nan, inf, fin, Format, binary32, fits, le, lt, neg, add, sub, mul, div, round, unlike, ofBits, isNan}
+use lib.Ieee.{Float, nan, inf, fin, binary32, fits, le, lt, neg, add, sub, mul, ofBits, isNan}
 use lib.Ieee.Fits.{sub-fits, mul-fits}
-use lib.Ieee.Positive.{positive}
-use lib.Ieee.Scale.{overflow}
-use Rattle.float_laws.specs.Units.{mag, number, real, sign, keyed, keyed-le, key, real-number, key→le}
+use Rattle.float_laws.specs.Units.{number, real, real-number}
 use Rattle.float_laws.specs.Order as order
-use Rattle.float_laws.specs.Order.{le-refl-f, le-trans-f, eq→le-f, larger-number, larger-right, larger-least, larger-mono}
+use Rattle.float_laws.specs.Order.{le-refl-f, le-trans-f, lt-of-lt-of-le-f, larger-number, larger-right, larger-mono}
 use Rattle.float_laws.specs.Round.{plus-zero, real-zero}
-use Rattle.float_laws.specs.Ops.{mul-comm-f, mul-neg, neg-div, neg-neg, div-round}
-use Rattle.float_laws.specs.Mono.{sub-mono, sub-number, sub-swap, number-neg, mul-number, mul-nonneg, above-zero}
-use Rattle.float_laws.specs.Bounds.{round-nonneg}
-use Rattle.float_laws.specs.Inf.{mul-by, mul-by-number, div-by, div-by-number, positive-above, sub-mono-inf, mul-mono-inf}
+use Rattle.float_laws.specs.Ops.{mul-comm-f, mul-neg, neg-neg}
+use Rattle.float_laws.specs.Mono.{sub-number, mul-number, mul-nonneg}
+use Rattle.float_laws.specs.Inf.{mul-by, sub-mono-inf, mul-mono-inf}
 use Rattle.float_laws.specs.Rise.{Upto, Rise, Up, rise-refl, up-scale, up-clamp}
 use Rattle.float32.specs.Counts.{floorCount}
 use Rattle.float32.specs.Order.{maximum, clamp, magnitude}
 use Rattle.float32.specs.Powers.{square}
 use Rattle.float32.specs.Remainder.{zero, one}
 use Rattle.float32.proofs.CountBounds.{count-never-falls}
-use Rattle.float32.proofs.Magnitude.{magnitude-clear, magnitude-size, magnitude-neg, magnitude-is-number, magnitude-nonneg}
+use Rattle.float32.proofs.Magnitude.{magnitude-is-number}
 use Rattle.float32.proofs.OrderAgrees.{clamp-agrees, maximum-nan-first, maximum-larger}
 use Rattle.power.specs.Log.{L2}
 use Rattle.power.proofs.LogRange.{L2-real}
 use Rattle.gaussian.specs.Table.{GAUSSIAN-LUT-STEPS, G}
 use Rattle.gaussian.specs.Bell.{GAUSSIAN-MAX-RELATIVE-SQUARED, STEPS-PER-SQUARE, position, gaussian}
-use Rattle.gaussian.proofs.Entries.{no-nan, G-falls, G-upto}
+use Rattle.gaussian.proofs.Entries.{G-falls, G-upto}
 use Rattle.gaussian.proofs.InUnit.{place-of, left-most, between-at-most, gaussian-in-unit}
+use Rattle.scene.specs.declared.MaskConfig.{MaskConfig}
 use Rattle.scene.specs.declared.MaskVoice.{MaskVoice}
 use Rattle.scene.proofs.Voices.{RealVoice}
 use Rattle.lobes.specs.declared.Grid.{Grid}
 use Rattle.lobes.specs.declared.Lobe.{Lobe}
-use Rattle.lobes.specs.Grid.{CENTS-PER-OCTAVE}
+use Rattle.lobes.specs.Grid.{gridOf}
 use Rattle.lobes.specs.Tone.{timbreRolloff, toneOf}
 use Rattle.lobes.specs.Distance.{Logs, lent, inWidths, distance, bell}
 use Rattle.lobes.specs.Lobe.{lobeOf, relativeSquare, opening}
 use Rattle.lobes.specs.Bound.{leastDistance, nearestPlace, boundOf}
 use Rattle.lobes.proofs.NoteLevels.{zero-is, one-is, note-level-rises}
 use Rattle.lobes.proofs.Harmonics.{rolloff-low, rolloff-real, harmonic-gain-unit}
+use Rattle.lobes.proofs.Nearest.{InBlock, zero-number, max-zero, least-distance-number, least-distance-low, distance-number, none-nearer}
 
--- ---- magnitudes
-module _ (f : Format) where
-  key-magnitude : (x : Float) → key f (magnitude x) ≡ overflow f + mag f x
-  key-magnitude x = ap (λ (s : Bool). keyed (overflow f) s (mag f (magnitude x))) (magnitude-clear x) ∙ ap (λ (m : ℕ). overflow f + m) (magnitude-size f x)
-
-  le-magnitude : (x : Float) → T (number f x) → T (le x (magnitude x))
-  le-magnitude x p = key→le f x (magnitude x) p (magnitude-is-number f x p) (le-trans (keyed-le (overflow f) (sign x) (mag f x)) (le-of-eq (sym (key-magnitude x))))
-
-  neg-le-magnitude : (x : Float) → T (number f x) → T (le (neg x) (magnitude x))
-  neg-le-magnitude x p = subst (λ (y : Float). T (le (neg x) y)) (magnitude-neg x) (le-magnitude (neg x) (number-neg f x p))
-
-zero-number : T (number binary32 plus-zero)
-zero-number = real-number binary32 plus-zero (real-zero binary32 false)
-
-max-zero : (x : Float) → T (number binary32 x) → maximum x zero ≡ order.larger x plus-zero
-max-zero x p = rw zero-is (maximum-larger binary32 x plus-zero p)
-
--- ---- the octaves from a centre to a bin of the block are no fewer than the least
-pub record InBlock (low high t : Float) : Type 0 where
-  pub low-real : T (real binary32 low)
-  pub high-real : T (real binary32 high)
-  pub is-real : T (real binary32 t)
-  pub from : T (le low t)
-  pub to : T (le t high)
-
-module _ (low high t c : Float) (h : InBlock low high t) (p : T (real binary32 c)) where
-  abbrev up : Float
-  up = sub binary32 low c
-
-  abbrev down : Float
-  down = sub binary32 c high
-
-  abbrev octaves : Float
-  octaves = sub binary32 t c
-
-  abbrev least : Float
-  least = maximum (maximum up down) zero
-
-  up-number : T (number binary32 up)
-  up-number = sub-number binary32 low c (h .low-real) p
-
-  down-number : T (number binary32 down)
-  down-number = sub-number binary32 c high p (h .high-real)
-
-  octaves-number : T (number binary32 octaves)
-  octaves-number = sub-number binary32 t c (h .is-real) p
-
-  c-self : T (le c c)
-  c-self = le-refl-f binary32 c (real-number binary32 c p)
-
-  up-le : T (le up (magnitude octaves))
-  up-le =
-      le-trans-f binary32 up octaves (magnitude octaves) up-number octaves-number (magnitude-is-number binary32 octaves octaves-number)
-      (sub-mono binary32 low t c c (h .low-real) (h .is-real) p p (h .from) c-self) (le-magnitude binary32 octaves octaves-number)
-
-  down-le : T (le down (magnitude octaves))
-  down-le =
-      let back = sub binary32 c t in
-      let n = sub-number binary32 c t p (h .is-real) in
-      let m = number-neg binary32 octaves octaves-number in
-      let a = sub-mono binary32 c c high t p p (h .high-real) (h .is-real) c-self (h .to) in
-      let b = eq→le-f binary32 back (neg octaves) n m (sub-swap binary32 c t p (h .is-real)) in
-      le-trans-f binary32 down back (magnitude octaves) down-number n (magnitude-is-number binary32 octaves octaves-number) a
-      (le-trans-f binary32 back (neg octaves) (magnitude octaves) n m (magnitude-is-number binary32 octaves octaves-number) b (neg-le-magnitude binary32 octaves octaves-number))
-
-  least-is : least ≡ order.larger (order.larger up down) plus-zero
-  least-is = ap (λ (x : Float). maximum x zero) (maximum-larger binary32 up down up-number) ∙ max-zero (order.larger up down) (larger-number binary32 up down up-number down-number)
-
-  least-number : T (number binary32 least)
-  least-number = rw least-is (larger-number binary32 (order.larger up down) plus-zero (larger-number binary32 up down up-number down-number) zero-number)
-
-  least-low : T (le plus-zero least)
-  least-low = rw least-is (larger-right binary32 (order.larger up down) plus-zero (larger-number binary32 up down up-number down-number) zero-number)
-
-  least-le : T (le least (magnitude octaves))
-  least-le =
-      let m = magnitude-is-number binary32 octaves octaves-number in
-      rw least-is
-      (larger-least binary32 (order.larger up down) plus-zero (larger-number binary32 up down up-number down-number) zero-number (magnitude octaves) m
-      (larger-least binary32 up down up-number down-number (magnitude octaves) m up-le down-le) (magnitude-nonneg binary32 octaves octaves-number))
-
--- ---- in widths
-cents-positive : T (positive CENTS-PER-OCTAVE) × T (real binary32 CENTS-PER-OCTAVE) × T (le plus-zero CENTS-PER-OCTAVE)
-unfolding ofBits fits le lt
-cents-positive = (tt, tt, tt)
-
--- a quotient of the negative is the negative one, of infinities too
-infinite-over : (s : Bool) (w : Float) → T (real binary32 w) → div binary32 (neg (inf s)) w ≡ neg (div binary32 (inf s) w)
-unfolding div neg
-infinite-over s nan r = absurd r
-infinite-over s (inf t) r = absurd r
-infinite-over true (fin true n d) r = refl
-infinite-over true (fin false n d) r = refl
-infinite-over false (fin true n d) r = refl
-infinite-over false (fin false n d) r = refl
-
+-- ---- squares
 square-neg : (x : Float) → square (neg x) ≡ square x
 square-neg x = mul-neg binary32 (neg x) x ∙ ap neg (mul-comm-f binary32 (neg x) x ∙ mul-neg binary32 x x) ∙ neg-neg (square x)
 
-module _ (width : Float) (p : T (real binary32 width)) (above : T (lt plus-zero width)) where
-  abbrev cents : Float → Float
-  cents x = mul binary32 CENTS-PER-OCTAVE x
+square-size : (x : Float) → square (magnitude x) ≡ square x
+unfolding magnitude neg
+square-size nan = refl
+square-size (inf false) = refl
+square-size (inf true) = square-neg (inf true)
+square-size (fin false m e) = refl
+square-size (fin true m e) = square-neg (fin true m e)
 
-  cents-up : (x y : Float) → T (le x y) → T (le (cents x) (cents y))
-  cents-up x y h = rw (mul-comm-f binary32 CENTS-PER-OCTAVE x, mul-comm-f binary32 CENTS-PER-OCTAVE y) (mul-by binary32 CENTS-PER-OCTAVE (cents-positive .0) x y h)
-
-  cents-number : (x : Float) → T (number binary32 x) → T (number binary32 (cents x))
-  cents-number x n = rw (mul-comm-f binary32 CENTS-PER-OCTAVE x) (mul-by-number binary32 CENTS-PER-OCTAVE (cents-positive .0) x (no-nan binary32 x n))
-
-  widths-up : (x y : Float) → T (le x y) → T (le (inWidths width x) (inWidths width y))
-  widths-up x y h = div-by binary32 width (positive-above binary32 width p above) (cents x) (cents y) (cents-up x y h)
-
-  widths-number : (x : Float) → T (number binary32 x) → T (number binary32 (inWidths width x))
-  widths-number x n = div-by-number binary32 width (positive-above binary32 width p above) (cents x) (no-nan binary32 (cents x) (cents-number x n))
-
-  wide : 0 < mag binary32 width
-  wide = above-zero binary32 width (real-number binary32 width p) above .1
-
-  widths-low : (x : Float) → T (number binary32 x) → T (le plus-zero x) → T (le plus-zero (inWidths width x))
-  widths-low x n h =
-      let z = inWidths width plus-zero in
-      le-trans-f binary32 plus-zero z (inWidths width x) zero-number (widths-number plus-zero zero-number) (widths-number x n) from-zero (widths-up plus-zero x h)
-    where
-      none : T (le plus-zero (div binary32 plus-zero width))
-      none =
-          subst (λ (x : Float). T (le plus-zero x))
-          (sym (div-round binary32 plus-zero width (real-zero binary32 false) p wide ∙ ap (λ (s : Bool). round binary32 (unlike false s) (mag binary32 plus-zero) (mag binary32 width)) (above-zero binary32 width (real-number binary32 width p) above .0)))
-          (round-nonneg binary32 (mag binary32 plus-zero) (mag binary32 width))
-
-      no-cents : T (le plus-zero (cents plus-zero))
-      no-cents = mul-nonneg binary32 CENTS-PER-OCTAVE plus-zero (cents-positive .1) (real-zero binary32 false) (cents-positive .2) (le-refl-f binary32 plus-zero zero-number)
-
-      from-zero : T (le plus-zero (inWidths width plus-zero))
-      from-zero =
-          le-trans-f binary32 plus-zero (div binary32 plus-zero width) (inWidths width plus-zero) zero-number
-          (div-by-number binary32 width (positive-above binary32 width p above) plus-zero (no-nan binary32 plus-zero zero-number)) (widths-number plus-zero zero-number) none
-          (div-by binary32 width (positive-above binary32 width p above) plus-zero (cents plus-zero) no-cents)
-
-  over-neg : (x : Float) → T (number binary32 x) → div binary32 (neg x) width ≡ neg (div binary32 x width)
-  over-neg nan n = absurd n
-  over-neg (inf s) n = infinite-over s width p
-  over-neg (fin s m e) n = neg-div binary32 (fin s m e) width n p wide
-
-  -- the square of a distance does not see its sign
-  square-of-neg : (x : Float) → T (number binary32 x) → square (inWidths width (neg x)) ≡ square (inWidths width x)
-  square-of-neg x n =
-      ap square (ap (λ (y : Float). div binary32 y width) (mul-neg binary32 CENTS-PER-OCTAVE x) ∙ over-neg (cents x) (cents-number x n))
-      ∙ square-neg (inWidths width x)
-
-  square-of-magnitude : (x : Float) → T (number binary32 x) → square (inWidths width (magnitude x)) ≡ square (inWidths width x)
-  unfolding magnitude neg
-  square-of-magnitude nan n = absurd n
-  square-of-magnitude (inf false) n = refl
-  square-of-magnitude (inf true) n = square-of-neg (inf true) n
-  square-of-magnitude (fin false m e) n = refl
-  square-of-magnitude (fin true m e) n = square-of-neg (fin true m e) n
-
--- ---- squares
 square-number : (x : Float) → T (number binary32 x) → T (number binary32 (square x))
 unfolding mul
 square-number nan n = absurd n
@@ -331,51 +183,62 @@ module _ (grid : Grid) (lobe : Lobe) (m : Measured grid lobe) (table : List Floa
   abbrev center : Float
   center = L2 (lobe .center)
 
-  abbrev width : Float
-  width = grid .width
-
   abbrev nearest : Float
-  nearest = leastDistance width center low high
+  nearest = leastDistance (grid .width) center low high
 
   abbrev there : Float
-  there = inWidths width (sub binary32 (getD table bin nan) center)
+  there = inWidths (grid .width) (sub binary32 (getD table bin nan) center)
 
   nearest-number : T (number binary32 nearest)
-  nearest-number = widths-number width (m .width-real) (m .width-above) (least low high (getD table bin nan) center h (L2-real (lobe .center))) (least-number low high (getD table bin nan) center h (L2-real (lobe .center)))
+  nearest-number = least-distance-number (grid .width) (m .width-real) (m .width-above) low high (getD table bin nan) center h (L2-real (lobe .center))
 
   nearest-low : T (le plus-zero nearest)
-  nearest-low = widths-low width (m .width-real) (m .width-above) _ (least-number low high (getD table bin nan) center h (L2-real (lobe .center))) (least-low low high (getD table bin nan) center h (L2-real (lobe .center)))
+  nearest-low = least-distance-low (grid .width) (m .width-real) (m .width-above) low high (getD table bin nan) center h (L2-real (lobe .center))
 
   there-number : T (number binary32 there)
-  there-number = widths-number width (m .width-real) (m .width-above) _ (octaves-number low high (getD table bin nan) center h (L2-real (lobe .center)))
+  there-number = distance-number (grid .width) (m .width-real) (m .width-above) low high (getD table bin nan) center h (L2-real (lobe .center))
 
-  -- no bin of the block is nearer, by the squares
-  nearest-is-least : T (le (square nearest) (square there))
-  nearest-is-least =
-      let steps = sub binary32 (getD table bin nan) center in
-      let n = octaves-number low high (getD table bin nan) center h (L2-real (lobe .center)) in
-      subst (λ (x : Float). T (le (square nearest) x)) (square-of-magnitude width (m .width-real) (m .width-above) steps n)
-      (square-up nearest (inWidths width (magnitude steps)) nearest-number (widths-number width (m .width-real) (m .width-above) (magnitude steps) (magnitude-is-number binary32 steps n)) nearest-low
-      (widths-up width (m .width-real) (m .width-above) _ (magnitude steps) (least-le low high (getD table bin nan) center h (L2-real (lobe .center)))))
+  squares-up : T (le (square nearest) (square there))
+  squares-up =
+      subst (λ (x : Float). T (le (square nearest) x)) (square-size there)
+      (square-up nearest (magnitude there) nearest-number (magnitude-is-number binary32 there there-number) nearest-low
+      (none-nearer (grid .width) (m .width-real) (m .width-above) low high (getD table bin nan) center h (L2-real (lobe .center))))
 
   relative-up : T (le (less (lobe .«peak_squared») (square nearest)) (less (lobe .«peak_squared») (square there)))
   relative-up =
       let p = square-number nearest nearest-number in
       let q = square-number there there-number in
       let l = square-low nearest nearest-number nearest-low in
-      less-up (lobe .«peak_squared») (m .peak-fits) (square nearest) (square there) p q l (le-trans-f binary32 plus-zero (square nearest) (square there) zero-number p q l nearest-is-least) nearest-is-least
+      less-up (lobe .«peak_squared») (m .peak-fits) (square nearest) (square there) p q l (le-trans-f binary32 plus-zero (square nearest) (square there) zero-number p q l squares-up) squares-up
 
-  under-bound : Rise binary32 0 (opening grid (lent table) lobe bin) (boundOf width (lobe .strength) center (lobe .«peak_squared») low high)
+  under-bound : Rise binary32 0 (opening grid (lent table) lobe bin) (boundOf (grid .width) (lobe .strength) center (lobe .«peak_squared») low high)
   unfolding opening bell relativeSquare distance boundOf
   under-bound =
       clamp-rises
       (up-scale binary32 (held (lobe .strength) (m .strength-real) (m .strength-low))
       (bell-under (less (lobe .«peak_squared») (square nearest)) (less (lobe .«peak_squared») (square there)) (less-number (lobe .«peak_squared») (square nearest)) (less-number (lobe .«peak_squared») (square there)) relative-up))
 
-  pub opening-bounded : T (le (opening grid (lent table) lobe bin) (boundOf width (lobe .strength) center (lobe .«peak_squared») low high))
+  pub opening-bounded : T (le (opening grid (lent table) lobe bin) (boundOf (grid .width) (lobe .strength) center (lobe .«peak_squared») low high))
   opening-bounded = under-bound .up
 
--- ---- the lobes of accepted voices meet what the bound asks
+-- ---- a finite setting of the width and accepted voices meet what the bound asks
+one-real : T (real binary32 one) × T (lt plus-zero one)
+unfolding ofBits fits lt
+one-real = (tt, tt)
+
+pub grid-width : (config : MaskConfig) → T (real binary32 (config .«width_cents»)) → T (real binary32 (gridOf config .width)) × T (lt plus-zero (gridOf config .width))
+unfolding gridOf
+grid-width config p =
+    let x = config .«width_cents» in
+    let n = real-number binary32 x p in
+    let o = real-number binary32 one (one-real .0) in
+    rw (maximum-larger binary32 x one n)
+    (of-both (lt x one) x p, lt-of-lt-of-le-f binary32 plus-zero one (order.larger x one) zero-number o (larger-number binary32 x one n o) (one-real .1) (larger-right binary32 x one n o))
+  where
+    of-both : (b : Bool) (x : Float) → T (real binary32 x) → T (real binary32 (cond b one x))
+    of-both true x r = one-real .0
+    of-both false x r = r
+
 pub lobe-measured : (grid : Grid) (logs : Logs) (voice : MaskVoice) (partial : ℕ) → T (real binary32 (grid .width)) → T (lt plus-zero (grid .width)) → T (real binary32 (grid .rolloff)) → RealVoice voice → 1 ≤ partial → partial ≤ 24
     → Measured grid (lobeOf grid logs (toneOf grid voice) partial)
 unfolding lobeOf toneOf

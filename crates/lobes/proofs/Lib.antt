@@ -7,4 +7,5 @@ pub mod Harmonics
 pub mod Raised
 pub mod ZeroSigns
 pub mod Columns
+pub mod Nearest
 pub mod Bounded
