@@ -41,7 +41,7 @@ use Rattle.lobes.specs.Grid.{gridOf}
 use Rattle.lobes.specs.Tone.{timbreRolloff, toneOf}
 use Rattle.lobes.specs.Distance.{Logs, lent, inWidths, distance, bell}
 use Rattle.lobes.specs.Lobe.{lobeOf, relativeSquare, opening}
-use Rattle.lobes.specs.Bound.{leastDistance, nearestPlace, boundOf}
+use Rattle.lobes.specs.Bound.{leastDistance, boundOf}
 use Rattle.lobes.proofs.NoteLevels.{zero-is, one-is, note-level-rises}
 use Rattle.lobes.proofs.Harmonics.{rolloff-low, rolloff-real, harmonic-gain-unit}
 use Rattle.lobes.proofs.Nearest.{InBlock, zero-number, max-zero, least-distance-number, least-distance-low, distance-number, none-nearer}
@@ -165,11 +165,13 @@ clamp-rises {x} {y} u = rw (zero-is, one-is, clamp-agrees plus-zero _ x, clamp-a
 held : (s : Float) → T (real binary32 s) → T (le plus-zero s) → Up binary32 s s
 held s r l = record { from-real = r; to-real = r; from-low = l; to-low = l; up = le-refl-f binary32 s (real-number binary32 s r) }
 
+entry-in-unit : (strength : Float) (i : ℕ) → T (real binary32 strength) → T (le plus-zero strength) → Upto binary32 0 (clamp zero one (mul binary32 strength (G (min i GAUSSIAN-LUT-STEPS))))
+entry-in-unit strength i r l = clamp-rises (up-scale binary32 (held strength r l) (rise-refl binary32 (G-upto (min i GAUSSIAN-LUT-STEPS) (omega arith)))) .to
+
 -- a bound is in 0..1, whatever it is taken of, where the strength is finite and not negative
 pub bound-in-unit : (width strength center peak low high : Float) → T (real binary32 strength) → T (le plus-zero strength) → Upto binary32 0 (boundOf width strength center peak low high)
 unfolding boundOf
-bound-in-unit width strength center peak low high r l =
-    clamp-rises (up-scale binary32 (held strength r l) (rise-refl binary32 (G-upto (min (floorCount (nearestPlace width center peak low high)) GAUSSIAN-LUT-STEPS) (omega arith)))) .to
+bound-in-unit width strength center peak low high r l = entry-in-unit strength _ r l
 
 -- what the bound asks of the width that all lobes share, and of the lobe
 pub record Measured (grid : Grid) (lobe : Lobe) : Type 0 where
