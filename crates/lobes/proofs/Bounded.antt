@@ -181,6 +181,15 @@ pub record Measured (grid : Grid) (lobe : Lobe) : Type 0 where
   pub strength-low : T (le plus-zero (lobe .strength))
   pub peak-fits : T (fits binary32 (lobe .«peak_squared»))
 
+-- what such a lobe opens is in 0..1
+pub opening-in-unit : (grid : Grid) (lobe : Lobe) → Measured grid lobe → (table : List Float) (bin : ℕ) → Upto binary32 0 (opening grid (lent table) lobe bin)
+unfolding opening bell relativeSquare
+opening-in-unit grid lobe m table bin =
+    clamp-rises
+    (up-scale binary32 (held (lobe .strength) (m .strength-real) (m .strength-low))
+    (rise-refl binary32 (gaussian-in-unit _ (less-number (lobe .«peak_squared») (square (distance grid (lent table) (lobe .center) bin))))))
+    .to
+
 module _ (grid : Grid) (lobe : Lobe) (m : Measured grid lobe) (table : List Float) (bin : ℕ) (low high : Float) (h : InBlock low high (getD table bin nan)) where
   abbrev center : Float
   center = L2 (lobe .center)

@@ -6,8 +6,6 @@ use lib.Dec.{T}
 use lib.ListN.{length, getD}
 use lib.Ieee.{Float, nan, binary32, le}
 use Rattle.lists.specs.Folds.{fold}
-use Rattle.float_laws.specs.Units.{number, real}
-use Rattle.float_laws.specs.Round.{plus-zero}
 use Rattle.float_laws.specs.Rise.{Upto}
 use Rattle.float32.specs.Remainder.{zero, one}
 use Rattle.power.specs.Log.{L2}
@@ -16,6 +14,7 @@ use Rattle.lobes.specs.declared.Tone.{Tone}
 use Rattle.lobes.specs.declared.Lobe.{Lobe}
 use Rattle.lobes.specs.Distance.{Logs, lent}
 use Rattle.lobes.specs.Lobe.{lobeOf, opening}
+use Rattle.lobes.proofs.Bounded.{Measured}
 use Rattle.openness.specs.Openness.{lobeJoined, partialsOf}
 
 -- what stands past the end of a list of lobes
@@ -38,8 +37,7 @@ mostOpen grid logs lobes bin = lobesJoined grid logs one lobes bin zero
 pub record SoundLobe (grid : Grid) (lobe : Lobe) : Type 0 where
   pub log-of-center : lobe .«center_log2» ≡ L2 (lobe .center)
   pub last : lobe .«last_bin» ≤ grid .«last_bin»
-  pub strength-real : T (real binary32 (lobe .strength))
-  pub strength-low : T (le plus-zero (lobe .strength))
+  pub measured : Measured grid lobe
 
 abbrev pub SoundLobes : Grid → List Lobe → ℕ → Type 0
 SoundLobes grid lobes count = (p : ℕ) → p < count → SoundLobe grid (getD lobes p noLobe)
