@@ -46,7 +46,7 @@ one-datum {h} {y} {z} u v w l a b =
     let q : T (lt plus-zero z) = lt-of-lt-of-le-f binary32 plus-zero y z zeros m n p a in
     eq→same binary32 y z m n (above-zero binary32 y m p .0 ∙ sym (above-zero binary32 z n q .0)) (le-antisymm-f binary32 y z m n a b)
 
-keeps : {s t : Float} → Openness s → Openness t → Openness (maximum s t)
+pub keeps : {s t : Float} → Openness s → Openness t → Openness (maximum s t)
 keeps {s} {t} u v = rw maximum-agrees (upto-maximum binary32 3 s t (lit≤ tt) u v)
 
 reaches : {s t : Float} → Openness s → Openness t → T (le t (maximum s t))

@@ -1,21 +1,31 @@
 -- A lobe joined to a row of bins: where it reaches bins of the row its openings are joined to them, and the others are as they were. Assumes nothing.
-use mathlib.Core.Path.{_≡_, refl, sym, ap, _∙_}
+use mathlib.Core.Path.{_≡_, refl, sym, ap, _∙_, subst}
 use mathlib.Core.Bool.{Bool, true, false, cond, _&&_}
 use mathlib.Core.List.{List}
 use Prim.Native.Nat.{ℕ, _+_, _-_, _≤_, _<_, min, max}
 use native.Mathlib.Decide.{decLt}
 use native.Mathlib.Omega.{arith}
 use borrow.Author.Tests.{le-leb, lt-leb}
-use lib.Dec.{leb}
+use lib.Dec.{T, leb, lit≤}
 use lib.ListN.{length, getD}
-use lib.Ieee.{Float, nan}
-use Rattle.lists.specs.Maps.{mapRange, between, between-in, between-low, between-high, getD-mapRange}
+use lib.Seq.{ext-getD}
+use lib.Ieee.{Float, nan, binary32, le}
+use Rattle.lists.specs.Maps.{mapRange, between, between-in, between-low, between-high, getD-mapRange, length-mapRange}
+use Rattle.float_laws.specs.Units.{real-number}
+use Rattle.float_laws.specs.Rise.{Upto, upto-weaken}
+use Rattle.float32.specs.Order.{maximum}
 use Rattle.float32.specs.Remainder.{one}
+use Rattle.blocks.specs.Least.{Numbers}
 use Rattle.lobes.specs.declared.Grid.{Grid}
 use Rattle.lobes.specs.declared.Lobe.{Lobe}
 use Rattle.lobes.specs.Distance.{lent}
 use Rattle.lobes.specs.Lobe.{opening}
+use Rattle.lobes.proofs.Bounded.{Measured, opening-in-unit}
 use Rattle.openness.specs.Openness.{joined, lobeJoined}
+use Rattle.openness.specs.Compact.{Bounded, Opennesses}
+use Rattle.openness.proofs.Maxima.{le-join}
+use Rattle.openness.proofs.Highest.{keeps-higher, keeps}
+use Rattle.openness.proofs.CompactIsPlain.{reaches, row-step}
 use Rattle.openness.proofs.Runs.{map-none, map-same}
 
 -- ---- places of a row and of the chunk that is joined to it
@@ -30,6 +40,14 @@ bin-of a s k h p = omega arith
 
 in-chunk : (a b s k : ℕ) → s ≤ a → a ≤ s + k → s + k < b → k - (a - s) < b - a
 in-chunk a b s k h p q = omega arith
+
+-- opennesses are numbers
+pub open-numbers : (lo hi : ℕ) (xs : List Float) → Opennesses xs → Numbers lo hi xs
+open-numbers lo hi xs u k p q l = real-number binary32 (getD xs k nan) (u k l .is-real)
+
+joined-open : (b : Bool) {s t : Float} → Upto binary32 3 s → Upto binary32 3 t → Upto binary32 3 (cond b (maximum s t) s)
+joined-open true u v = keeps u v
+joined-open false u v = u
 
 module _ (grid : Grid) (table : List Float) (lobe : Lobe) (start end : ℕ) where
   -- at a place of the row
@@ -104,3 +122,47 @@ module _ (grid : Grid) (table : List Float) (lobe : Lobe) (start end : ℕ) wher
           ∙ ap (joined one x) (read (k - (from - start)) (in-chunk from to start k a b c) ∙ ap (opening grid (lent table) lobe) (bin-of from start k a b))
           ∙ sym (between-in in-row 0 (end - start) k x (omega arith) (omega arith) ∙ there k x (omega arith) (omega arith))
       at k x (no p) (no q) = between-high from-chunk (from - start) (to - start) k x (omega arith) ∙ sym (passed k x e (omega arith))
+
+  -- a lobe that is nowhere above the row changes nothing
+  pub row-above : (xs : List Float) → Opennesses xs → Measured grid lobe → (bound : Float) → Upto binary32 0 bound → Bounded grid table lobe bound start end
+      → ((k : ℕ) → k < length xs → T (le bound (getD xs k nan))) → xs ≡ mapRange in-row 0 (end - start) xs
+  row-above xs u m bound v b l =
+      ext-getD nan xs (mapRange in-row 0 (end - start) xs) (sym (length-mapRange in-row 0 (end - start) xs))
+      (λ k h. sym (getD-mapRange in-row 0 (end - start) xs k nan h ∙ at k h (decLt k (end - start))))
+    where
+      step : (k : ℕ) → k < length xs → k < end - start → in-row k (getD xs k nan) ≡ getD xs k nan
+      step k h q =
+          let held = getD xs k nan in
+          let o = opening-in-unit grid lobe m table (start + k) in
+          let w : Upto binary32 3 (opening grid (lent table) lobe (start + k)) = upto-weaken binary32 (lit≤ tt) o in
+          row-step grid table (start + k) held lobe o
+          ∙ kept (reaches grid table (start + k) lobe) held (opening grid (lent table) lobe (start + k)) (keeps-higher (u k h) w (le-join w (upto-weaken binary32 (lit≤ tt) v) (u k h) (b (start + k) (omega arith) (omega arith)) (l k h)))
+        where
+          kept : (c : Bool) (held x : Float) → maximum held x ≡ held → cond c (maximum held x) held ≡ held
+          kept true held x e = e
+          kept false held x e = refl
+
+      at : (k : ℕ) → k < length xs → Dec (k < end - start) → between 0 (end - start) in-row k (getD xs k nan) ≡ getD xs k nan
+      at k h (yes q) = between-in in-row 0 (end - start) k (getD xs k nan) (omega arith) q ∙ step k h q
+      at k h (no q) = between-high in-row 0 (end - start) k (getD xs k nan) (omega arith)
+
+  -- the row holds opennesses still
+  pub row-open : (xs : List Float) → Opennesses xs → Measured grid lobe → Opennesses (mapRange in-row 0 (end - start) xs)
+  row-open xs u m k h =
+      let l : k < length xs = omega (arith, length-mapRange in-row 0 (end - start) xs) in
+      rw (getD-mapRange in-row 0 (end - start) xs k nan l) (at l (decLt k (end - start)))
+    where
+      step : Upto binary32 3 (getD xs k nan) → Upto binary32 3 (in-row k (getD xs k nan))
+      step v =
+          let o = opening-in-unit grid lobe m table (start + k) in
+          rw (row-step grid table (start + k) (getD xs k nan) lobe o) (joined-open (reaches grid table (start + k) lobe) v (upto-weaken binary32 (lit≤ tt) o))
+
+      at : k < length xs → Dec (k < end - start) → Upto binary32 3 (between 0 (end - start) in-row k (getD xs k nan))
+      at l (yes q) = rw (between-in in-row 0 (end - start) k (getD xs k nan) (omega arith) q) (step (u k l))
+      at l (no q) = rw (between-high in-row 0 (end - start) k (getD xs k nan) (omega arith)) (u k l)
+
+  pub raised-open : (xs : List Float) {ys : List Float} → ys ≡ mapRange in-row 0 (end - start) xs → Opennesses xs → Measured grid lobe → Opennesses ys
+  raised-open xs e u m = subst Opennesses (sym e) (row-open xs u m)
+
+  pub raised-numbers : (lo hi : ℕ) (xs : List Float) {ys : List Float} → ys ≡ mapRange in-row 0 (end - start) xs → Opennesses xs → Measured grid lobe → Numbers lo hi ys
+  raised-numbers lo hi xs {ys} e u m = open-numbers lo hi ys (raised-open xs e u m)

@@ -3,15 +3,18 @@ ghost use mathlib.Core.Path.{_≡_};
 ghost use mathlib.Core.Bool.{true};
 ghost use Prim.Native.Nat.{ℕ, _+_, _-_, _^_, _≤_, _<_};
 ghost use lib.ListN.{length, getD, take};
-ghost use lib.Ieee.{nan};
+ghost use lib.Ieee.{binary32};
 ghost use Rattle.lists.specs.Maps.{mapRange};
+ghost use Rattle.float_laws.specs.Rise.{Upto};
 ghost use Rattle.float32.specs.Remainder.{one};
 ghost use Rattle.gaussian.specs.Table.{gaussianTable};
+ghost use Rattle.blocks.specs.Least.{Least};
 ghost use Rattle.lobes.specs.Distance.{lent};
 ghost use Rattle.openness.specs.Openness.{lobeJoined};
 ghost use Rattle.openness.specs.Compact.{noLobe, mostOpen, SoundLobe, SoundLobes, Bounded, Opennesses};
 use crate::chunk::openings_by_table;
 use crate::joins::join;
+use blocks::least_from;
 use float32::counts::greater;
 use float32::counts::lesser;
 use gaussian::GaussianTable;
@@ -41,4 +44,32 @@ fn raise_in_row(
         openings_by_table(chunk, gaussians, table, grid, lobe, from, to - from);
         join(row, chunk, UNITY, from - start, to - start);
     }
+}
+
+// A lobe joined to a row, unless it is there already or its bound is not above the least of the row. Answers the least of the row, or less.
+fn raise_above(
+    row: &mut [f32],
+    chunk: &mut [f32],
+    scratch: &mut [f32],
+    gaussians: &GaussianTable,
+    table: &[f32],
+    grid: Grid,
+    lobe: Lobe,
+    there: bool,
+    bound: f32,
+    least: f32,
+    start: usize,
+    end: usize,
+) -> f32
+    requires { ⌜ (now gaussians ≡ gaussianTable) × (SoundLobe grid lobe) × (start ≤ end) × (length (now row) ≡ 64) × (length (now chunk) ≡ 64) × (length (now scratch) ≡ 64) × (end ≤ start + 64) × (end ≤ length (now table)) × (grid .«last_bin» ≤ 2 ^ 24) × (Opennesses (now row)) × (Least least 0 64 (now row)) × (Upto binary32 0 bound) × (Bounded grid (now table) lobe bound start end) × (there ≡ true → now row ≡ mapRange (λ k held. lobeJoined grid (lent (now table)) one (start + k) held lobe) 0 (end - start) (now row)) ⌝ }
+    ensures { λ r. ⌜ (now (row .exit) ≡ mapRange (λ k held. lobeJoined grid (lent (now (table .entry))) one (start + k) held lobe) 0 (end - start) (now (row .entry))) × (Least r 0 64 (now (row .exit))) ⌝ }
+{
+    if there {
+        return least;
+    }
+    if bound <= least {
+        return least;
+    }
+    raise_in_row(row, chunk, gaussians, table, grid, lobe, start, end);
+    least_from(scratch, row, 0)
 }
