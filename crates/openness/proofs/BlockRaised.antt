@@ -1,7 +1,7 @@
 -- A block of bins under several lobes: the most that one of them opens, joined once, is what they hold joined one after the other; and a block where no bound under the gain is above what a bin
 -- holds stays as it is. Assumes nothing.
 use mathlib.Core.Path.{_≡_, refl, sym, ap, _∙_, subst}
-use mathlib.Core.Bool.{Bool}
+use mathlib.Core.Bool.{Bool, true}
 use mathlib.Core.List.{List}
 use Prim.Native.Nat.{ℕ, _+_, _-_, _≤_, _<_}
 use native.Mathlib.Decide.{decLt}
@@ -12,17 +12,20 @@ use lib.Seq.{ext-getD, getD-take, length-take-le}
 use lib.Ieee.{Float, nan, binary32, le, mul}
 use Rattle.lists.specs.Maps.{mapRange, between, between-in, between-low, between-high, getD-mapRange, length-mapRange}
 use Rattle.lists.specs.Folds.{fold}
+use Rattle.float_laws.specs.Units.{real-number}
+use Rattle.float_laws.specs.Order.{le-trans-f}
 use Rattle.float_laws.specs.Mono.{mul-mono-l}
 use Rattle.float_laws.specs.Rise.{Upto, upto-weaken, upto-mul}
 use Rattle.float32.specs.Order.{maximum}
 use Rattle.float32.specs.Remainder.{zero}
+use Rattle.blocks.specs.Least.{Least}
 use Rattle.lobes.specs.declared.Grid.{Grid}
 use Rattle.lobes.specs.declared.Lobe.{Lobe}
 use Rattle.lobes.specs.Distance.{lent}
 use Rattle.lobes.specs.Bound.{GreatestAt}
 use Rattle.lobes.proofs.NoteLevels.{zero-is}
 use Rattle.openness.specs.Openness.{joined}
-use Rattle.openness.specs.Compact.{noLobe, lobesJoined, mostOpen, SoundLobes, Bounded, Opennesses}
+use Rattle.openness.specs.Compact.{noLobe, lobesJoined, mostOpen, SoundLobes, Opennesses, BoundedLobes, HasMost, NotAbove}
 use Rattle.openness.proofs.Maxima.{le-join, joinWhere, BelowWhere}
 use Rattle.openness.proofs.Entries.{all-places}
 use Rattle.openness.proofs.RaisedVoices.{nothing-open}
@@ -54,6 +57,11 @@ range-kept g lo hi xs e =
     same k h (no p) (yes q) = between-in g lo hi k (getD xs k nan) (omega arith) q ∙ e k h (omega arith) q
     same k h (no p) (no q) = between-high g lo hi k (getD xs k nan) (omega arith)
 
+-- a number that is not above the least of a block
+pub under-least : (x least : Float) (start : ℕ) (xs : List Float) → Upto binary32 3 x → Opennesses xs → Least least start (start + 64) xs → le x least ≡ true → NotAbove x start (start + 64) xs
+under-least x least start xs u v w h bin p q l =
+    le-trans-f binary32 x least (getD xs bin nan) (real-number binary32 x (u .is-real)) (w .is-number) (real-number binary32 (getD xs bin nan) (v bin l .is-real)) (subst T (sym h) tt) (w .least bin p q l)
+
 module _ (grid : Grid) (table : List Float) (lobes : List Lobe) (count : ℕ) (sound : SoundLobes grid lobes count) (few : count ≤ length lobes) where
   abbrev most : ℕ → Float
   most bin = mostOpen grid (lent table) (take count lobes) bin
@@ -65,7 +73,7 @@ module _ (grid : Grid) (table : List Float) (lobes : List Lobe) (count : ℕ) (s
       subst (Upto binary32 0) (sym (row-run grid table bin zero (take count lobes) all)) (highest-in-unit (reaches grid table bin) (opens grid table bin) zero (take count lobes) zero-unit all)
 
   -- ---- the row joined to a side
-  pub block-joined : (row : List Float) (start end : ℕ) {gain : Float} → Upto binary32 3 gain → ((k : ℕ) → start + k < end → getD row k nan ≡ most (start + k)) → (xs : List Float) → Opennesses xs
+  pub block-joined : (row : List Float) (start end : ℕ) {gain : Float} → Upto binary32 3 gain → HasMost grid table (take count lobes) start end row → (xs : List Float) → Opennesses xs
       → {ys : List Float} → ys ≡ mapRange (λ bin held. joined gain held (getD row (bin - start) nan)) start end xs → ys ≡ mapRange (lobesJoined grid (lent table) gain (take count lobes)) start end xs
   block-joined row start end {gain} g e xs u {ys} w =
       w ∙ range-entries (λ bin held. joined gain held (getD row (bin - start) nan)) (lobesJoined grid (lent table) gain (take count lobes)) start end xs at
@@ -77,7 +85,7 @@ module _ (grid : Grid) (table : List Float) (lobes : List Lobe) (count : ℕ) (s
           ∙ sym (compact-is-plain grid table k (take count lobes) (all-in-unit grid table lobes count sound few k) (u k h) g)
 
   -- ---- no bound is above
-  module _ (bounds : List Float) (start end top : ℕ) (held : (p : ℕ) → p < count → Upto binary32 0 (getD bounds p nan) × Bounded grid table (getD lobes p noLobe) (getD bounds p nan) start end)
+  module _ (bounds : List Float) (start end top : ℕ) (held : BoundedLobes grid table lobes count bounds start end)
       (greatest : GreatestAt bounds count top) where
     abbrev bound : Float
     bound = getD bounds top nan
@@ -99,7 +107,7 @@ module _ (grid : Grid) (table : List Float) (lobes : List Lobe) (count : ℕ) (s
         (all-places (λ x. BelowWhere (reaches grid table bin) (opens grid table bin) x bound) noLobe (take count lobes)
         (λ i k t. let q = subst (λ n. i < n) (length-take-le count lobes few) k in subst (λ (x : Lobe). T (le (opens grid table bin x) bound)) (sym (getD-take count lobes i noLobe q)) (lobe-below bin l h i q))))
 
-    pub block-kept : {gain : Float} → Upto binary32 3 gain → (xs : List Float) → Opennesses xs → ((bin : ℕ) → start ≤ bin → bin < end → bin < length xs → T (le (mul binary32 bound gain) (getD xs bin nan)))
+    pub block-kept : {gain : Float} → Upto binary32 3 gain → (xs : List Float) → Opennesses xs → NotAbove (mul binary32 bound gain) start end xs
         → xs ≡ mapRange (lobesJoined grid (lent table) gain (take count lobes)) start end xs
     block-kept {gain} g xs u l = range-kept (lobesJoined grid (lent table) gain (take count lobes)) start end xs at
       where

@@ -20,6 +20,7 @@ use slices::fill;
 use voices::raise_voices;
 
 pub mod chunk;
+pub mod compact;
 pub mod joins;
 pub mod most;
 pub mod raise;

@@ -116,7 +116,17 @@ pub fn raise_partials(
 {
     slices::fill(row, 0.0);
     let first = lobes[top];
-    raise_in_row(row, chunk, indexes, gaussians, table, grid, first, start, end);
+    raise_in_row(
+        row,
+        chunk,
+        indexes,
+        gaussians,
+        table,
+        grid,
+        first,
+        start,
+        end,
+    );
     let mut least = least_from(scratch, row, 0);
     let mut p: usize = 0;
     while p < count {
