@@ -1,4 +1,5 @@
--- The ends of a bin's own block: its table entry lies between them. Assumes nothing.
+-- The ends of a bin's own block: its table entry lies between them, and what is known of every entry is known of them. Assumes nothing.
+use mathlib.Core.Path.{sym, subst}
 use mathlib.Core.List.{List}
 use Prim.Native.Nat.{ℕ, _≤_, _<_}
 use native.Mathlib.Omega.{arith}
@@ -20,3 +21,14 @@ module _ {table lows highs : List Float} (ends : Ends table lows highs) (bin : �
 
   pub high-number : T (number binary32 (getD highs (blockOf bin) nan))
   high-number = ends .high (blockOf bin) (omega arith) .is-number
+
+  module _ (P : Float → Type 0) (known : (k : ℕ) → 1 ≤ k → k < length table → P (getD table k nan)) where
+    pub low-known : P (getD lows (blockOf bin) nan)
+    low-known =
+        let h = ends .low (blockOf bin) (omega arith) .held (omega arith) (omega arith) in
+        subst P (sym (h .is)) (known (h .place) (omega (arith, h .from)) (h .within))
+
+    pub high-known : P (getD highs (blockOf bin) nan)
+    high-known =
+        let h = ends .high (blockOf bin) (omega arith) .held (omega arith) (omega arith) in
+        subst P (sym (h .is)) (known (h .place) (omega (arith, h .from)) (h .within))

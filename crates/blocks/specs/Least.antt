@@ -1,7 +1,7 @@
 -- The least and the greatest number of a run of a list: of the entries at the places from `lo` on and below `hi`, as far as the list goes. Assumes nothing.
 use mathlib.Core.Path.{_≡_}
 use mathlib.Core.List.{List}
-use Prim.Native.Nat.{ℕ, _+_, _≤_, _<_}
+use Prim.Native.Nat.{ℕ, _≤_, _<_}
 use lib.Dec.{T}
 use lib.ListN.{length, getD}
 use lib.Ieee.{Float, nan, binary32, ofBits, le}

@@ -1,9 +1,9 @@
--- What is left of a float from 0 up when its floor is taken away lies in 0..1: in units, n * 2 ^ low ≤ x ≤ (n + 1) * 2 ^ low for n its floor, and rounding keeps the order.
+-- What is left of a float from 0 up when its floor is taken away lies in 0..1: in units, n * 2 ^ low ≤ x < (n + 1) * 2 ^ low for n its floor, and rounding keeps the order.
 -- Assumes nothing.
 use mathlib.Core.Path.{_≡_, refl, sym, ap, _∙_, subst}
 use mathlib.Core.Bool.{Bool, true, false}
-use Prim.Native.Nat.{ℕ, suc, _+_, _-_, _*_, _^_, _≤_, _<_, zero-le}
-use native.Mathlib.Nat.{le-trans, le-of-eq, le-of-lt, le-refl, le-of-mul-le-mul-right, mul-le-mul-right, mul-right-comm, zero-mul}
+use Prim.Native.Nat.{ℕ, suc, _+_, _-_, _*_, _/_, _^_, _≤_, _<_, zero-le}
+use native.Mathlib.Nat.{le-trans, le-of-eq, lt-of-le-of-lt, lt-of-lt-of-le, le-refl, le-of-mul-le-mul-right, mul-le-mul-right, lt-of-mul-lt-mul-right, mul-lt-mul-of-pos-right, mul-right-comm, zero-mul, one-mul, le-div-iff-mul-le, div-lt-iff-lt-mul}
 use native.Mathlib.Omega.{arith}
 use lib.Dec.{T}
 use lib.Pow.{pow-pos}
@@ -37,8 +37,8 @@ module _ (f : Format) where
   in-units : (a d m L n : ℕ) → 0 < d → m * d ≡ a * L → n * d ≤ a → n * L ≤ m
   in-units a d m L n z e h = le-of-mul-le-mul-right {k = d} (le-trans (le-of-eq (mul-right-comm n L d)) (le-trans (mul-le-mul-right L h) (le-of-eq (sym e)))) z
 
-  in-units-above : (a d m L n : ℕ) → 0 < d → m * d ≡ a * L → a ≤ n * d → m ≤ n * L
-  in-units-above a d m L n z e h = le-of-mul-le-mul-right {k = d} (le-trans (le-of-eq e) (le-trans (mul-le-mul-right L h) (le-of-eq (mul-right-comm n d L)))) z
+  in-units-above : (a d m L n : ℕ) → 0 < L → m * d ≡ a * L → a < n * d → m < n * L
+  in-units-above a d m L n z e h = lt-of-mul-lt-mul-right d (lt-of-le-of-lt (le-of-eq e) (lt-of-lt-of-le (mul-lt-mul-of-pos-right h z) (le-of-eq (mul-right-comm n d L))))
 
   from-units : (a d m L n : ℕ) → 0 < L → m * d ≡ a * L → m ≤ n * L → a ≤ n * d
   from-units a d m L n z e h = le-of-mul-le-mul-right {k = L} (le-trans (le-of-eq (sym e)) (le-trans (mul-le-mul-right d h) (le-of-eq (mul-right-comm n L d)))) z
@@ -51,7 +51,7 @@ module _ (f : Format) where
   no-count m e = refl
 
   floor-in-units : (x : Float) → T (real f x) → T (le plus-zero x) → mag f x ≤ 18446744073709551615 * 2 ^ low f
-      → (floorCount x * 2 ^ low f ≤ mag f x) × (mag f x ≤ suc (floorCount x) * 2 ^ low f)
+      → (floorCount x * 2 ^ low f ≤ mag f x) × (mag f x < suc (floorCount x) * 2 ^ low f)
   floor-in-units nan p h r = absurd p
   floor-in-units (inf s) p h r = absurd p
   floor-in-units (fin false m e) p h r =
@@ -59,12 +59,19 @@ module _ (f : Format) where
       let v = mag-exact f false m e p in
       let L = 2 ^ low f in (
         in-units (m * up e) (down e) (mag f x) L (floorCount x) (down-pos e) v (floor-under-value x refl),
-        in-units-above (m * up e) (down e) (mag f x) L (suc (floorCount x)) (down-pos e) v
-            (le-of-lt (next-over-value x refl (from-units (m * up e) (down e) (mag f x) L 18446744073709551615 (pow-pos (low f)) v r))),
+        in-units-above (m * up e) (down e) (mag f x) L (suc (floorCount x)) (pow-pos (low f)) v
+            (next-over-value x refl (from-units (m * up e) (down e) (mag f x) L 18446744073709551615 (pow-pos (low f)) v r)),
       )
   floor-in-units (fin true m e) p h r =
       let z = none-below (overflow f) (mag f (fin true m e)) (overflow-pos f) (nonneg-key f (fin true m e) p h) in
-      (rw (no-count m e, zero-mul) zero-le, le-trans (le-of-eq z) zero-le)
+      (rw (no-count m e, zero-mul) zero-le, rw (no-count m e, z, one-mul) (pow-pos (low f)))
+
+  pub floor-by-size : (x : Float) → T (real f x) → T (le plus-zero x) → mag f x ≤ 18446744073709551615 * 2 ^ low f → floorCount x ≡ mag f x / 2 ^ low f
+  floor-by-size x p h r =
+      let u = floor-in-units x p h r in
+      let a = le-div-iff-mul-le (pow-pos (low f)) .1 (u .0) in
+      let b = div-lt-iff-lt-mul (pow-pos (low f)) .1 (u .1) in
+      omega (arith, a, b)
 
 -- ---- the fraction
 module _ (f : Format) (x : Float) (p : T (real f x)) (x0 : T (le plus-zero x)) (small : suc (floorCount x) ≤ 2 ^ prec f) (room : mag f x ≤ 18446744073709551615 * 2 ^ low f) where

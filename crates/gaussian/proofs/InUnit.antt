@@ -23,19 +23,11 @@ use Rattle.float32.specs.Order.{clamp}
 use Rattle.float32.specs.Remainder.{zero}
 use Rattle.float32.proofs.CountBounds.{count-to-1024}
 use Rattle.gaussian.specs.Table.{GAUSSIAN-LUT-STEPS, G}
-use Rattle.gaussian.specs.Bell.{GAUSSIAN-MAX-RELATIVE-SQUARED, STEPS-PER-SQUARE, position, between, gaussian}
+use Rattle.gaussian.specs.Bell.{GAUSSIAN-MAX-RELATIVE-SQUARED, STEPS-PER-SQUARE, LAST-ENTRY, Place, position, between, gaussian}
 use Rattle.gaussian.proofs.Fraction.{fraction-nonneg, fraction-at-most-one, fraction-real}
 use Rattle.gaussian.proofs.Entries.{no-nan, G-upto, right-falls}
 
 -- ---- the place
-abbrev last : Float
-last = ofBits binary32 0x4480_0000
-
-pub record Place (place : Float) : Type 0 where
-  pub is-real : T (real binary32 place)
-  pub low : T (le plus-zero place)
-  pub high : T (le place last)
-
 pub place-of : (square : Float) → T (number binary32 square) → Place (position square)
 unfolding position clamp ofBits mul round size span climb units odd trailingZeros fits le lt eq
 place-of square p =
@@ -45,15 +37,15 @@ place-of square p =
     let l = order.clamp-low binary32 zero GAUSSIAN-MAX-RELATIVE-SQUARED tt tt ends square p in
     let h = order.clamp-high binary32 zero GAUSSIAN-MAX-RELATIVE-SQUARED tt tt ends square p in
     let l' : T (le plus-zero (mul binary32 c STEPS-PER-SQUARE)) = mul-by binary32 STEPS-PER-SQUARE tt zero c l in
-    let h' : T (le (mul binary32 c STEPS-PER-SQUARE) last) = mul-by binary32 STEPS-PER-SQUARE tt c GAUSSIAN-MAX-RELATIVE-SQUARED h in
-    record { is-real = real-between binary32 plus-zero (mul binary32 c STEPS-PER-SQUARE) last (mul-by-number binary32 STEPS-PER-SQUARE tt c (no-nan binary32 c n)) tt tt l' h'; low = l'; high = h' }
+    let h' : T (le (mul binary32 c STEPS-PER-SQUARE) LAST-ENTRY) = mul-by binary32 STEPS-PER-SQUARE tt c GAUSSIAN-MAX-RELATIVE-SQUARED h in
+    record { is-real = real-between binary32 plus-zero (mul binary32 c STEPS-PER-SQUARE) LAST-ENTRY (mul-by-number binary32 STEPS-PER-SQUARE tt c (no-nan binary32 c n)) tt tt l' h'; low = l'; high = h' }
 
 -- ---- the line there
 module _ (place : Float) (w : Place place) where
   abbrev left : ℕ
   left = floorCount place
 
-  pub left-most : left ≤ GAUSSIAN-LUT-STEPS
+  pub left-most : floorCount place ≤ GAUSSIAN-LUT-STEPS
   left-most = count-to-1024 false place (w .high)
 
   abbrev right : ℕ
@@ -65,13 +57,13 @@ module _ (place : Float) (w : Place place) where
   small : suc left ≤ 2 ^ prec binary32
   small = omega (arith, left-most)
 
-  last-size : mag binary32 last ≤ 18446744073709551615 * 2 ^ low binary32
+  last-size : mag binary32 LAST-ENTRY ≤ 18446744073709551615 * 2 ^ low binary32
   unfolding ofBits mag
   last-size = lit≤ tt
 
-  room : mag binary32 place ≤ 18446744073709551615 * 2 ^ low binary32
+  pub room : mag binary32 place ≤ 18446744073709551615 * 2 ^ low binary32
   unfolding ofBits fits
-  room = le-trans (sizes binary32 place last (w .is-real) tt (w .low) (w .high) .0) last-size
+  room = le-trans (sizes binary32 place LAST-ENTRY (w .is-real) tt (w .low) (w .high) .0) last-size
 
   line : between place ≡ toward binary32 (G left) (G right) fraction
   unfolding between

@@ -2,8 +2,9 @@
 //
 // Method. The table holds exp(-i/128), which is exp(-square/2) at 64 places to a relative square of 1, up to 16. A straight line joins its entries.
 ghost use mathlib.Core.Path.{_≡_};
+ghost use Prim.Native.Nat.{_≤_};
 ghost use Rattle.gaussian.specs.Table.{gaussianTable};
-ghost use Rattle.gaussian.specs.Bell.{position, between, gaussian};
+ghost use Rattle.gaussian.specs.Bell.{Place, position, indexOf, partOf, line};
 use float32::counts::lesser;
 use float32::order::clamp;
 
@@ -16,6 +17,9 @@ pub const GAUSSIAN_MAX_RELATIVE_SQUARED: f32 = 16.0;
 
 // Entries to a relative square of 1: 1,024 over 16.
 pub const STEPS_PER_SQUARE: f32 = 64.0;
+
+// 2^23: from here on f32 has no digits below 1.
+const WHOLE_STEPS: f32 = 8388608.0;
 
 // The table, to be made once and lent to every function that looks something up in it.
 pub fn gaussian_table() -> GaussianTable
@@ -31,23 +35,33 @@ pub fn position(square: f32) -> f32
     clamp(square, 0.0, GAUSSIAN_MAX_RELATIVE_SQUARED) * STEPS_PER_SQUARE
 }
 
-// The line between the entries around a place. The last entry has itself on its right.
-pub fn between(gaussians: &GaussianTable, place: f32) -> f32
-    requires { ⌜ now gaussians ≡ gaussianTable ⌝ }
-    ensures { λ r. ⌜ r ≡ between place ⌝ }
-{
-    let left = lesser(float32::counts::floor_to_count(place), GAUSSIAN_LUT_STEPS);
-    let right = lesser(left + 1, GAUSSIAN_LUT_STEPS);
-    let near = gaussians[left];
-    near + (gaussians[right] - near) * (place - left as f32)
+// The entry on the left of a place, and the part of the step that lies between them.
+pub struct Step {
+    pub index: u32,
+    pub part: f32,
 }
 
-// exp(-square/2).
-pub fn gaussian(gaussians: &GaussianTable, square: f32) -> f32
-    requires { ⌜ now gaussians ≡ gaussianTable ⌝ }
-    ensures { λ r. ⌜ r ≡ gaussian square ⌝ }
+// The sum has no digits below 1, so its low bits count whole steps: one too many where it was rounded up, which is where the place is below it.
+pub fn step_of(place: f32) -> Step
+    requires { ⌜ Place place ⌝ }
+    ensures { λ r. ⌜ (r .index ≡ indexOf place) × (r .part ≡ partOf place) ⌝ }
 {
-    between(gaussians, position(square))
+    let sum = place + WHOLE_STEPS;
+    let up = (place < sum - WHOLE_STEPS) as u32;
+    let index = (f32::to_bits(sum) - up) & 0x7f_ffff;
+    let part = place - index as f32;
+    Step { index, part }
+}
+
+// A part of the way from an entry to the one on its right. The last entry has itself on its right.
+pub fn line(gaussians: &GaussianTable, index: u32, part: f32) -> f32
+    requires { ⌜ (now gaussians ≡ gaussianTable) × (index ≤ 1024) ⌝ }
+    ensures { λ r. ⌜ r ≡ line index part ⌝ }
+{
+    let left = index as usize;
+    let right = lesser(left + 1, GAUSSIAN_LUT_STEPS);
+    let near = gaussians[left];
+    near + (gaussians[right] - near) * part
 }
 
 const GAUSSIANS: GaussianTable = [

@@ -2,6 +2,7 @@ pub mod Maps
 pub mod Turned
 pub mod Parts
 pub mod Folds
+pub mod Runs
 pub mod Totals
 pub mod Tested
 pub mod Pairs

@@ -1,5 +1,5 @@
 -- Columns of numbers, worked over in place: two turns over the same entries are one, and the greatest is found going up. Assumes nothing.
-use mathlib.Core.Path.{_≡_, sym, ap, _∙_}
+use mathlib.Core.Path.{_≡_, refl, sym, ap, _∙_}
 use mathlib.Core.Bool.{Bool, true, false, not, cond}
 use mathlib.Core.List.{List}
 use Prim.Native.Nat.{ℕ, _+_, _≤_, _<_}
@@ -60,7 +60,7 @@ module _ (xs : List Float) where
       at : (p : ℕ) → p ≡ 0 → T (le (getD xs p nan) (getD xs 0 nan))
       at p e = rw e (le-refl-f binary32 (getD xs 0 nan) n)
 
-  pub greatest-next : (count p place : ℕ) → Numbers xs count → p < count → GreatestAt xs p place
+  greatest-next : (count p place : ℕ) → Numbers xs count → p < count → GreatestAt xs p place
       → GreatestAt xs (p + 1) (cond (lt (getD xs place nan) (getD xs p nan)) p place)
   greatest-next count p place n h g = go (lt (getD xs place nan) (getD xs p nan)) (λ t. t) (λ t. t)
     where
@@ -83,6 +83,19 @@ module _ (xs : List Float) where
           above : (q : ℕ) → Dec (q < p) → q < p + 1 → T (le (getD xs q nan) (getD xs place nan))
           above q (yes z) l = g .1 q z
           above q (no z) l = let e : q ≡ p = omega arith in rw e (not-lt-f binary32 (getD xs place nan) (getD xs p nan) here there (no-lt tt))
+
+  chosen-read : (b : Bool) (p place : ℕ) → cond b (getD xs p nan) (getD xs place nan) ≡ getD xs (cond b p place) nan
+  chosen-read true p place = refl
+  chosen-read false p place = refl
+
+  -- one number more, with the greatest kept beside its place
+  pub greatest-more : (count p place : ℕ) (greatest : Float) (q : ℕ) (next : Float) → Numbers xs count → p < count → GreatestAt xs p place → greatest ≡ getD xs place nan
+      → q ≡ cond (lt greatest (getD xs p nan)) p place → next ≡ cond (lt greatest (getD xs p nan)) (getD xs p nan) greatest → GreatestAt xs (p + 1) q × (next ≡ getD xs q nan)
+  greatest-more count p place greatest q next n h g e f k =
+      let b = lt (getD xs place nan) (getD xs p nan) in
+      let f' : q ≡ cond b p place = rw e at f in
+      let k' : next ≡ cond b (getD xs p nan) (getD xs place nan) = rw e at k in
+      (rw f' (greatest-next count p place n h g), k' ∙ chosen-read b p place ∙ ap (λ (i : ℕ). getD xs i nan) (sym f'))
 
   pub greatest-all : (count p place : ℕ) → p ≤ count → count ≤ p → GreatestAt xs p place → GreatestAt xs count place
   greatest-all count p place l m g = (omega (arith, g .0), λ q h. g .1 q (omega arith))

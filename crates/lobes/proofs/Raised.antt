@@ -37,7 +37,7 @@ pub record Raised (a b : MaskVoice) : Type 0 where
   pub expression : T (le (a .«expression_gain») (b .«expression_gain»))
 
 -- ---- the relative square is a number: where a distance overflows, maximum gives 0 for NaN
-from-zero : (x : Float) → T (fits binary32 x) → T (number binary32 (maximum x zero))
+pub from-zero : (x : Float) → T (fits binary32 x) → T (number binary32 (maximum x zero))
 unfolding fits
 from-zero nan f = rw (maximum-nan-first, zero-is) tt
 from-zero (inf s) f = rw (maximum-larger binary32 (inf s) zero tt, zero-is) (order.larger-number binary32 (inf s) plus-zero tt tt)

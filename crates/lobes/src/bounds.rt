@@ -92,27 +92,37 @@ pub fn bounds_of(
     bounds_at_places(bounds, gaussians, strengths, count);
 }
 
-// Of two places the one with the greater number, the first where they are equal.
-fn greater_at(bounds: &[f32], first: usize, second: usize) -> usize
-    requires { ⌜ (first < length (now bounds)) × (second < length (now bounds)) ⌝ }
-    ensures { λ r. ⌜ r ≡ cond (lt (getD (now (bounds .entry)) first nan) (getD (now (bounds .entry)) second nan)) second first ⌝ }
+// The greater of two numbers, the first where they are equal.
+fn greater(first: f32, second: f32) -> f32
+    ensures { λ r. ⌜ r ≡ cond (lt first second) second first ⌝ }
 {
-    if bounds[first] < bounds[second] {
-        return second;
-    }
-    first
+    if first < second { second } else { first }
 }
 
-// The place of the greatest of the first `count` numbers.
+// And its place.
+fn greater_at(first: f32, second: f32, first_place: usize, second_place: usize) -> usize
+    ensures { λ r. ⌜ r ≡ cond (lt first second) «second_place» «first_place» ⌝ }
+{
+    if first < second {
+        second_place
+    } else {
+        first_place
+    }
+}
+
+// The place of the greatest of the first `count` numbers. The greatest so far is kept beside its place, so that no turn waits for it to be read.
 pub fn greatest_at(bounds: &[f32], count: usize) -> usize
     requires { ⌜ (0 < count) × (count ≤ length (now bounds)) × (Numbers (now bounds) count) ⌝ }
     ensures { λ r. ⌜ GreatestAt (now (bounds .entry)) count r ⌝ }
 {
-    let mut greatest: usize = 0;
+    let mut greatest = bounds[0];
+    let mut place: usize = 0;
     let mut p: usize = 1;
     while p < count {
-        greatest = greater_at(bounds, greatest, p);
+        let next = bounds[p];
+        place = greater_at(greatest, next, place, p);
+        greatest = greater(greatest, next);
         p += 1;
     }
-    greatest
+    place
 }

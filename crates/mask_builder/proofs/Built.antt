@@ -7,6 +7,7 @@ use native.Mathlib.Omega.{arith}
 use lib.Dec.{T}
 use lib.Ieee.{Float}
 use Rattle.lists.specs.Maps.{tabFrom, tabulate, mapAt}
+use Rattle.lists.specs.Runs.{map-tab}
 use Rattle.float32.specs.Remainder as float
 use Rattle.scene.specs.declared.MaskVoice.{MaskVoice}
 use Rattle.scene.specs.declared.MaskConfig.{MaskConfig}
@@ -15,7 +16,6 @@ use Rattle.lobes.specs.Grid.{gridOf}
 use Rattle.lobes.specs.Pan.{Side, mono}
 use Rattle.lobes.specs.Distance.{Logs}
 use Rattle.openness.specs.Openness.{openness}
-use Rattle.openness.proofs.Runs.{map-tab}
 use Rattle.mask_builder.specs.Centered.{allCentered}
 use Rattle.mask_builder.specs.Mask.{opennessAt, gainAt, maskAt, maskOf}
 use Rattle.mask_builder.proofs.OneSide.{one-side}

@@ -14,7 +14,7 @@ use Rattle.lobes.specs.declared.Tone.{Tone}
 use Rattle.lobes.specs.Tone.{toneOf}
 use Rattle.lobes.specs.Distance.{Logs}
 use Rattle.openness.specs.Openness.{SKIPPED-LEVEL, toneJoined, voiceJoined}
-use Rattle.openness.proofs.Runs.{map-none, runs, runs-step, runs-end}
+use Rattle.lists.specs.Runs.{map-none, runs, runs-step, runs-end}
 
 module _ (grid : Grid) (logs : Logs) (gain : MaskVoice → Float) where
   abbrev pub with-voice : MaskVoice → List Float → List Float

@@ -160,6 +160,15 @@ module _ {A : Type 0} (there : A → Bool) (opens : A → Float) where
   pub highest-open : (s : Float) (xs : List A) → Openness s → All InUnit xs → Openness (fold highest s xs)
   highest-open s xs u all = fold-join (where-join there opens) .keeps s xs (fit xs all) u
 
+  pub highest-in-unit : (s : Float) (xs : List A) → Upto binary32 0 s → All InUnit xs → Upto binary32 0 (fold highest s xs)
+  unfolding fold
+  highest-in-unit s [] u all = u
+  highest-in-unit s (x ∷ xs) u all = highest-in-unit (highest s x) xs (go (there x)) (all .1)
+    where
+      go : (b : Bool) → Upto binary32 0 (cond b (maximum s (opens x)) s)
+      go true = unit-keeps u (all .0)
+      go false = u
+
   -- every opening that is there is at most the highest
   pub highest-reaches : (s : Float) (xs : List A) → Openness s → All InUnit xs → AllBelow (where-join there opens) xs (fold highest s xs)
   highest-reaches s xs u all = fold-join (where-join there opens) .reaches s xs (fit xs all) u

@@ -11,7 +11,7 @@ use Rattle.lobes.specs.declared.Grid.{Grid}
 use Rattle.lobes.specs.Pan.{Side, channelGain}
 use Rattle.lobes.specs.Distance.{Logs}
 use Rattle.openness.specs.Openness.{voiceJoined, openness}
-use Rattle.openness.proofs.Runs.{map-tab, runs}
+use Rattle.lists.specs.Runs.{map-tab, runs}
 
 pub opened : (grid : Grid) (logs : Logs) (side : Side) (voices : List MaskVoice) (n : ℕ) {xs ys : List Float} → xs ≡ tabulate n (λ bin. zero)
     → ys ≡ runs (voiceJoined grid logs (channelGain side)) voices xs → ys ≡ tabulate n (openness grid logs side voices)

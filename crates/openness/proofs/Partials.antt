@@ -15,7 +15,7 @@ use Rattle.lobes.specs.Tone.{centerOf}
 use Rattle.lobes.specs.Distance.{Logs}
 use Rattle.lobes.specs.Lobe.{lobeOf}
 use Rattle.openness.specs.Openness.{lobeJoined, toneJoined}
-use Rattle.openness.proofs.Runs.{runs, runs-step, runs-end}
+use Rattle.lists.specs.Runs.{runs, runs-step, runs-end}
 
 -- a lobe ends with the bins
 pub last-bin : (grid : Grid) (logs : Logs) (tone : Tone) (partial : ℕ) → lobeOf grid logs tone partial .«last_bin» ≤ grid .«last_bin»

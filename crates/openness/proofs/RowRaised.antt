@@ -10,6 +10,7 @@ use lib.Dec.{T, leb, lit≤}
 use lib.ListN.{length, getD}
 use lib.Seq.{ext-getD}
 use lib.Ieee.{Float, nan, binary32, le}
+use Rattle.lists.specs.Runs.{map-none, map-same}
 use Rattle.lists.specs.Maps.{mapRange, between, between-in, between-low, between-high, getD-mapRange, length-mapRange}
 use Rattle.float_laws.specs.Units.{real-number}
 use Rattle.float_laws.specs.Rise.{Upto, upto-weaken}
@@ -25,8 +26,7 @@ use Rattle.openness.specs.Openness.{joined, lobeJoined}
 use Rattle.openness.specs.Compact.{Bounded, Opennesses}
 use Rattle.openness.proofs.Maxima.{le-join}
 use Rattle.openness.proofs.Highest.{keeps-higher, keeps}
-use Rattle.openness.proofs.CompactIsPlain.{reaches, row-step}
-use Rattle.openness.proofs.Runs.{map-none, map-same}
+use Rattle.openness.proofs.CompactIsPlain.{reaches, opens, row-step}
 
 -- ---- places of a row and of the chunk that is joined to it
 from-there : (a s k : ℕ) → s ≤ a → a - s ≤ k → a ≤ s + k
@@ -123,28 +123,33 @@ module _ (grid : Grid) (table : List Float) (lobe : Lobe) (start end : ℕ) wher
           ∙ sym (between-in in-row 0 (end - start) k x (omega arith) (omega arith) ∙ there k x (omega arith) (omega arith))
       at k x (no p) (no q) = between-high from-chunk (from - start) (to - start) k x (omega arith) ∙ sym (passed k x e (omega arith))
 
-  -- a lobe that is nowhere above the row changes nothing
-  pub row-above : (xs : List Float) → Opennesses xs → Measured grid lobe → (bound : Float) → Upto binary32 0 bound → Bounded grid table lobe bound start end
-      → ((k : ℕ) → k < length xs → T (le bound (getD xs k nan))) → xs ≡ mapRange in-row 0 (end - start) xs
-  row-above xs u m bound v b l =
+  -- a lobe that changes nothing at any place of the row
+  pub row-same : (xs : List Float) → ((k : ℕ) → k < length xs → k < end - start → in-row k (getD xs k nan) ≡ getD xs k nan) → xs ≡ mapRange in-row 0 (end - start) xs
+  row-same xs e =
       ext-getD nan xs (mapRange in-row 0 (end - start) xs) (sym (length-mapRange in-row 0 (end - start) xs))
       (λ k h. sym (getD-mapRange in-row 0 (end - start) xs k nan h ∙ at k h (decLt k (end - start))))
     where
-      step : (k : ℕ) → k < length xs → k < end - start → in-row k (getD xs k nan) ≡ getD xs k nan
-      step k h q =
-          let held = getD xs k nan in
-          let o = opening-in-unit grid lobe m table (start + k) in
-          let w : Upto binary32 3 (opening grid (lent table) lobe (start + k)) = upto-weaken binary32 (lit≤ tt) o in
-          row-step grid table (start + k) held lobe o
-          ∙ kept (reaches grid table (start + k) lobe) held (opening grid (lent table) lobe (start + k)) (keeps-higher (u k h) w (le-join w (upto-weaken binary32 (lit≤ tt) v) (u k h) (b (start + k) (omega arith) (omega arith)) (l k h)))
-        where
-          kept : (c : Bool) (held x : Float) → maximum held x ≡ held → cond c (maximum held x) held ≡ held
-          kept true held x e = e
-          kept false held x e = refl
-
       at : (k : ℕ) → k < length xs → Dec (k < end - start) → between 0 (end - start) in-row k (getD xs k nan) ≡ getD xs k nan
-      at k h (yes q) = between-in in-row 0 (end - start) k (getD xs k nan) (omega arith) q ∙ step k h q
+      at k h (yes q) = between-in in-row 0 (end - start) k (getD xs k nan) (omega arith) q ∙ e k h q
       at k h (no q) = between-high in-row 0 (end - start) k (getD xs k nan) (omega arith)
+
+  -- a lobe that is not above what a place holds, where it reaches it
+  pub place-same : (k : ℕ) {held : Float} → Upto binary32 3 held → Measured grid lobe → (T (reaches grid table (start + k) lobe) → T (le (opens grid table (start + k) lobe) held)) → in-row k held ≡ held
+  place-same k {held} u m l =
+      let o = opening-in-unit grid lobe m table (start + k) in
+      row-step grid table (start + k) held lobe o ∙ kept (reaches grid table (start + k) lobe) (λ t. keeps-higher u (upto-weaken binary32 (lit≤ tt) o) (l t))
+    where
+      kept : (c : Bool) → (T c → maximum held (opens grid table (start + k) lobe) ≡ held) → cond c (maximum held (opens grid table (start + k) lobe)) held ≡ held
+      kept true e = e tt
+      kept false e = refl
+
+  -- a lobe whose bound is nowhere above the row
+  pub row-above : (xs : List Float) → Opennesses xs → Measured grid lobe → (bound : Float) → Upto binary32 0 bound → Bounded grid table lobe bound start end
+      → ((k : ℕ) → k < length xs → T (le bound (getD xs k nan))) → xs ≡ mapRange in-row 0 (end - start) xs
+  row-above xs u m bound v b l =
+      row-same xs
+      (λ k h q. place-same k (u k h) m
+      (λ t. le-join (upto-weaken binary32 (lit≤ tt) (opening-in-unit grid lobe m table (start + k))) (upto-weaken binary32 (lit≤ tt) v) (u k h) (b (start + k) (omega arith) (omega arith)) (l k h)))
 
   -- the row holds opennesses still
   pub row-open : (xs : List Float) → Opennesses xs → Measured grid lobe → Opennesses (mapRange in-row 0 (end - start) xs)

@@ -15,7 +15,7 @@ use Rattle.lobes.specs.declared.Lobe.{Lobe}
 use Rattle.lobes.specs.Distance.{Logs}
 use Rattle.lobes.specs.Lobe.{opening}
 use Rattle.openness.specs.Openness.{joined, lobeJoined}
-use Rattle.openness.proofs.Runs.{map-same, range-same, turned-part}
+use Rattle.lists.specs.Runs.{map-same, range-same, turned-part}
 
 module _ (grid : Grid) (logs : Logs) (lobe : Lobe) (gain : Float) where
   -- the lobe joined to a bin that it reaches

@@ -48,12 +48,14 @@ pub fn open_one(
     // There is no second side: no lobe reaches bin 0.
     let mut nothing = [0.0f32; 1];
     let mut chunk = [0.0f32; CHUNK];
+    let mut indexes = [0u32; CHUNK];
     let octaves = partial_octaves();
     fill(out, 0.0);
     raise_voices(
         out,
         &mut nothing,
         &mut chunk,
+        &mut indexes,
         powers,
         &octaves,
         sines,
@@ -83,6 +85,7 @@ pub fn open_two(
     ensures { λ _. ⌜ (now (left .exit) ≡ tabulate (length (now (left .entry))) (openness grid (lent (now (table .entry))) side.left (take count voices))) × (now (right .exit) ≡ tabulate (length (now (right .entry))) (openness grid (lent (now (table .entry))) side.right (take count voices))) ⌝ }
 {
     let mut chunk = [0.0f32; CHUNK];
+    let mut indexes = [0u32; CHUNK];
     let octaves = partial_octaves();
     fill(left, 0.0);
     fill(right, 0.0);
@@ -90,6 +93,7 @@ pub fn open_two(
         left,
         right,
         &mut chunk,
+        &mut indexes,
         powers,
         &octaves,
         sines,

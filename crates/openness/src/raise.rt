@@ -34,6 +34,7 @@ fn raise_lobe(
     first: &mut [f32],
     second: &mut [f32],
     chunk: &mut [f32],
+    indexes: &mut [u32],
     powers: &PowerTable,
     gaussians: &GaussianTable,
     tabled: bool,
@@ -42,7 +43,7 @@ fn raise_lobe(
     lobe: Lobe,
     gains: Gains,
 )
-    requires { ⌜ (now powers ≡ powerTable) × (now gaussians ≡ gaussianTable) × (0 < length (now chunk)) × (lobe .«center_log2» ≡ L2 (lobe .center)) × (lobe .«last_bin» ≤ 2 ^ 24) × (tabled ≡ true → lobe .«last_bin» < length (now table)) ⌝ }
+    requires { ⌜ (now powers ≡ powerTable) × (now gaussians ≡ gaussianTable) × (0 < length (now chunk)) × (length (now chunk) ≤ length (now indexes)) × (lobe .«center_log2» ≡ L2 (lobe .center)) × (lobe .«last_bin» ≤ 2 ^ 24) × (tabled ≡ true → lobe .«last_bin» < length (now table)) ⌝ }
     ensures { λ _. ⌜ (now (first .exit) ≡ mapAt (λ bin held. lobeJoined grid (logsOf tabled (now (table .entry))) (gains .first) bin held lobe) (now (first .entry))) × (now (second .exit) ≡ mapAt (λ bin held. lobeJoined grid (logsOf tabled (now (table .entry))) (gains .second) bin held lobe) (now (second .entry))) ⌝ }
 {
     let end = lobe.last_bin + 1;
@@ -52,6 +53,7 @@ fn raise_lobe(
         let next = start + count;
         openings(
             chunk,
+            indexes,
             powers,
             gaussians,
             tabled,
@@ -72,6 +74,7 @@ pub fn raise_tone(
     first: &mut [f32],
     second: &mut [f32],
     chunk: &mut [f32],
+    indexes: &mut [u32],
     powers: &PowerTable,
     octaves: &PartialOctaves,
     gaussians: &GaussianTable,
@@ -81,7 +84,7 @@ pub fn raise_tone(
     tone: Tone,
     gains: Gains,
 )
-    requires { ⌜ (now powers ≡ powerTable) × (now octaves ≡ partialOctaves) × (now gaussians ≡ gaussianTable) × (0 < length (now chunk)) × (grid .partials ≤ 24) × (grid .«last_bin» ≤ 2 ^ 24) × (tabled ≡ true → grid .«last_bin» < length (now table)) ⌝ }
+    requires { ⌜ (now powers ≡ powerTable) × (now octaves ≡ partialOctaves) × (now gaussians ≡ gaussianTable) × (0 < length (now chunk)) × (length (now chunk) ≤ length (now indexes)) × (grid .partials ≤ 24) × (grid .«last_bin» ≤ 2 ^ 24) × (tabled ≡ true → grid .«last_bin» < length (now table)) ⌝ }
     ensures { λ _. ⌜ (now (first .exit) ≡ mapAt (toneJoined grid (logsOf tabled (now (table .entry))) (gains .first) tone) (now (first .entry))) × (now (second .exit) ≡ mapAt (toneJoined grid (logsOf tabled (now (table .entry))) (gains .second) tone) (now (second .entry))) ⌝ }
 {
     let mut partial: usize = 1;
@@ -94,6 +97,7 @@ pub fn raise_tone(
             first,
             second,
             chunk,
+            indexes,
             powers,
             gaussians,
             tabled,

@@ -50,6 +50,7 @@ fn raise_voice(
     first: &mut [f32],
     second: &mut [f32],
     chunk: &mut [f32],
+    indexes: &mut [u32],
     powers: &PowerTable,
     octaves: &PartialOctaves,
     sines: &SineTable,
@@ -60,7 +61,7 @@ fn raise_voice(
     grid: Grid,
     voice: MaskVoice,
 )
-    requires { ⌜ (now powers ≡ powerTable) × (now octaves ≡ partialOctaves) × (now sines ≡ sineTable) × (now gaussians ≡ gaussianTable) × (0 < length (now chunk)) × (grid .partials ≤ 24) × (grid .«last_bin» ≤ 2 ^ 24) × (tabled ≡ true → grid .«last_bin» < length (now table)) ⌝ }
+    requires { ⌜ (now powers ≡ powerTable) × (now octaves ≡ partialOctaves) × (now sines ≡ sineTable) × (now gaussians ≡ gaussianTable) × (0 < length (now chunk)) × (length (now chunk) ≤ length (now indexes)) × (grid .partials ≤ 24) × (grid .«last_bin» ≤ 2 ^ 24) × (tabled ≡ true → grid .«last_bin» < length (now table)) ⌝ }
     ensures { λ _. ⌜ (now (first .exit) ≡ mapAt (λ bin held. voiceJoined grid (logsOf tabled (now (table .entry))) (channelGain (firstSide stereo)) bin held voice) (now (first .entry))) × (now (second .exit) ≡ mapAt (λ bin held. voiceJoined grid (logsOf tabled (now (table .entry))) (channelGain (secondSide stereo)) bin held voice) (now (second .entry))) ⌝ }
 {
     if voice.level <= SKIPPED_LEVEL {
@@ -72,6 +73,7 @@ fn raise_voice(
         first,
         second,
         chunk,
+        indexes,
         powers,
         octaves,
         gaussians,
@@ -87,6 +89,7 @@ pub fn raise_voices(
     first: &mut [f32],
     second: &mut [f32],
     chunk: &mut [f32],
+    indexes: &mut [u32],
     powers: &PowerTable,
     octaves: &PartialOctaves,
     sines: &SineTable,
@@ -98,7 +101,7 @@ pub fn raise_voices(
     voices: [MaskVoice; 128],
     count: usize,
 )
-    requires { ⌜ (now powers ≡ powerTable) × (now octaves ≡ partialOctaves) × (now sines ≡ sineTable) × (now gaussians ≡ gaussianTable) × (0 < length (now chunk)) × (grid .partials ≤ 24) × (grid .«last_bin» ≤ 2 ^ 24) × (tabled ≡ true → grid .«last_bin» < length (now table)) × (count ≤ 128) ⌝ }
+    requires { ⌜ (now powers ≡ powerTable) × (now octaves ≡ partialOctaves) × (now sines ≡ sineTable) × (now gaussians ≡ gaussianTable) × (0 < length (now chunk)) × (length (now chunk) ≤ length (now indexes)) × (grid .partials ≤ 24) × (grid .«last_bin» ≤ 2 ^ 24) × (tabled ≡ true → grid .«last_bin» < length (now table)) × (count ≤ 128) ⌝ }
     ensures { λ _. ⌜ (now (first .exit) ≡ mapAt (λ bin held. fold (voiceJoined grid (logsOf tabled (now (table .entry))) (channelGain (firstSide stereo)) bin) held (take count voices)) (now (first .entry))) × (now (second .exit) ≡ mapAt (λ bin held. fold (voiceJoined grid (logsOf tabled (now (table .entry))) (channelGain (secondSide stereo)) bin) held (take count voices)) (now (second .entry))) ⌝ }
 {
     let mut index: usize = 0;
@@ -108,6 +111,7 @@ pub fn raise_voices(
             first,
             second,
             chunk,
+            indexes,
             powers,
             octaves,
             sines,

@@ -10,7 +10,7 @@ returns : tie.Need-returns
 returns c = (greatest-of-none (c .if1 .taken), λ h. refl)
 
 take-row-requires : tie.Need-take-row-requires
-take-row-requires c κs = search needs
+take-row-requires c κs = (c .before .before .before .before .pre .0, c .before .if1 .left)
 
 negate-requires : tie.Need-negate-requires
 negate-requires c κs = search needs
@@ -24,7 +24,10 @@ least-of-requires c κs =
     (negated-length _ (n .negate .ensures) ∙ w .is-long, negated-numbers _ (n .negate .ensures) (row-numbers (s .args .start) w (s .pre .1)))
 
 same-length : tie.Need-same-length
-same-length c = search needs
+same-length c =
+    let m = c .before .before in
+    let n = m .before .before .before .before in
+    m .least-of .kept .0 ∙ n .negate .kept .0 ∙ n .before .before .before .before .take-row .kept .0
 
 returns-2 : tie.Need-returns-2
 returns-2 c =

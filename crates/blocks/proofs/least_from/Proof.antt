@@ -1,8 +1,7 @@
 -- `least_from` finds the least of the run: that of a row that has all of the run and nothing else. Assumes nothing.
-use mathlib.Core.Path.{refl}
+use mathlib.Core.Path.{refl, _∙_}
 use native.Mathlib.Omega.{arith}
 use Rattle.blocks.proofs.Runs.{least-of-none, row-numbers, least-of-run}
-use borrow.Author.Needs.{needs}
 use Rattle.blocks.proofs.least_from.Statement.{statement}
 use Rattle.blocks.proofs.least_from.Tie as tie
 
@@ -10,7 +9,7 @@ returns : tie.Need-returns
 returns c = (least-of-none (c .if1 .taken), λ h. refl)
 
 take-row-requires : tie.Need-take-row-requires
-take-row-requires c κs = search needs
+take-row-requires c κs = (c .before .before .before .before .pre .0, c .before .if1 .left)
 
 least-of-requires : tie.Need-least-of-requires
 least-of-requires c κs =
@@ -19,7 +18,9 @@ least-of-requires c κs =
     (t .take-row .ensures .is-long, row-numbers (s .args .start) (t .take-row .ensures) (s .pre .1))
 
 same-length : tie.Need-same-length
-same-length c = search needs
+same-length c =
+    let m = c .before .before in
+    m .least-of .kept .0 ∙ m .before .before .before .before .take-row .kept .0
 
 returns-2 : tie.Need-returns-2
 returns-2 c =

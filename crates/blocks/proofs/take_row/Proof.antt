@@ -1,4 +1,6 @@
 -- `take_row` leaves the run in the row: first its first entry everywhere, then as many of its entries as there are. Assumes nothing.
+use mathlib.Core.Path.{_∙_}
+use native.Mathlib.Omega.{arith}
 use Rattle.blocks.proofs.Runs.{row-of}
 use borrow.Author.Needs.{needs}
 use Rattle.blocks.proofs.take_row.Statement.{statement}
@@ -8,7 +10,7 @@ mul-fill : tie.Need-mul-fill
 mul-fill c = search needs
 
 shared-slice-read-fill : tie.Need-shared-slice-read-fill
-shared-slice-read-fill c = search needs
+shared-slice-read-fill c = c .before .before .before .before .pre .1
 
 fill-requires : tie.Need-fill-requires
 fill-requires c κs = search needs
@@ -20,10 +22,15 @@ lesser-requires : tie.Need-lesser-requires
 lesser-requires c κs = search needs
 
 copy-row-requires : tie.Need-copy-row-requires
-copy-row-requires c κs = search needs
+copy-row-requires c κs =
+    let f = c .before .before .before .before in
+    let s = f .before .before .before .before .before in
+    (omega (arith, c .lesser .ensures, f .fill .kept .0, s .pre .0), omega (arith, c .lesser .ensures, s .pre .1))
 
 same-length : tie.Need-same-length
-same-length c = search needs
+same-length c =
+    let k = c .before .before in
+    k .copy-row .kept .0 ∙ k .before .before .before .before .before .fill .kept .0
 
 returns : tie.Need-returns
 returns c =

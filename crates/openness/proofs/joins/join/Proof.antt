@@ -7,7 +7,7 @@ use lib.ListN.{length, getD}
 use lib.Ieee.{nan}
 use Rattle.lists.specs.Turned.{Turned, turned-none}
 use Rattle.openness.specs.Openness.{joined}
-use Rattle.openness.proofs.Runs.{turned-within, turned-next}
+use Rattle.lists.specs.Runs.{turned-within, turned-next}
 use borrow.Author.Needs.{needs}
 use Rattle.openness.proofs.joins.join.Statement.{statement}
 use Rattle.openness.proofs.joins.join.Tie as tie

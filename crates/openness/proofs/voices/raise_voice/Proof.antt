@@ -25,10 +25,13 @@ same-length-2 c = search needs
 same-length-3 : tie.Need-same-length-3
 same-length-3 c = search needs
 
+same-length-4 : tie.Need-same-length-4
+same-length-4 c = search needs
+
 returns-2 : tie.Need-returns-2
 returns-2 c =
-    let r = c .before .before .before .before .before .before in
-    let g = r .before .before .before .before in
+    let r = c .before .before .before .before .before .before .before .before in
+    let g = r .before .before .before .before .before in
     let t = g .before in
     let kept = t .before .if1 .left in (
       voice-joined _ _ _ _ _ kept (g .gains-of .ensures .0) (t .tone-of .ensures) (r .raise-tone .ensures .0),
@@ -46,4 +49,5 @@ raise-voice-spec =
     same-length
     same-length-2
     same-length-3
+    same-length-4
     returns-2)

@@ -12,20 +12,21 @@ use Rattle.openness.proofs.voices.raise_voices.Statement.{statement}
 use Rattle.openness.proofs.voices.raise_voices.Tie as tie
 
 abbrev Inv-loop : tie.InvT-loop
-Inv-loop first₀ second₀ chunk₀ powers octaves sines gaussians tabled table stereo grid count voices index₀ first second chunk index =
+Inv-loop first₀ second₀ chunk₀ indexes₀ powers octaves sines gaussians tabled table stereo grid count voices index₀ first second chunk indexes index =
     (length voices ≡ 128)
     × (length first ≡ length first₀)
     × (length second ≡ length second₀)
     × (length chunk ≡ length chunk₀)
+    × (length indexes ≡ length indexes₀)
     × (voices-from grid (logsOf tabled table) (channelGain (firstSide stereo)) voices count index first ≡ voices-from grid (logsOf tabled table) (channelGain (firstSide stereo)) voices count 0 first₀)
     × (voices-from grid (logsOf tabled table) (channelGain (secondSide stereo)) voices count index second ≡ voices-from grid (logsOf tabled table) (channelGain (secondSide stereo)) voices count 0 second₀)
 
 abbrev μ-loop : tie.MeasureT-loop
-μ-loop first₀ second₀ chunk₀ powers octaves sines gaussians tabled table stereo grid count voices index₀ first second chunk index =
+μ-loop first₀ second₀ chunk₀ indexes₀ powers octaves sines gaussians tabled table stereo grid count voices index₀ first second chunk indexes index =
     count - index
 
 loop-holds : tie.Need-loop-holds Inv-loop μ-loop
-loop-holds c = (search needs, refl, refl, refl, refl, refl)
+loop-holds c = (search needs, refl, refl, refl, refl, refl, refl)
 
 mul-voice : tie.Need-mul-voice Inv-loop μ-loop
 mul-voice c = omega arith
@@ -35,9 +36,18 @@ array-copy-out-voice c = omega arith
 
 raise-voice-requires : tie.Need-raise-voice-requires Inv-loop μ-loop
 raise-voice-requires c κs =
-    let l = c .before .before .before .before .before in
-    let s = l .before .before .before .before .before in
-    (s .pre .0, s .pre .1, s .pre .2, s .pre .3, omega (arith, s .pre .4, l .loop .inv .3), s .pre .5, s .pre .6, s .pre .7)
+    let l = c .before .before .before .before .before .before in
+    let s = l .before .before .before .before .before .before in (
+      s .pre .0,
+      s .pre .1,
+      s .pre .2,
+      s .pre .3,
+      omega (arith, s .pre .4, l .loop .inv .3),
+      omega (arith, s .pre .5, l .loop .inv .3, l .loop .inv .4),
+      s .pre .6,
+      s .pre .7,
+      s .pre .8,
+    )
 
 add-index : tie.Need-add-index Inv-loop μ-loop
 add-index c = search needs
@@ -47,17 +57,18 @@ loop-less c = omega arith
 
 loop-again : tie.Need-loop-again Inv-loop μ-loop
 loop-again c =
-    let r = c .before .before .before .before .before .before in
-    let n = r .before .before .before .before .before in
+    let r = c .before .before .before .before .before .before .before .before in
+    let n = r .before .before .before .before .before .before in
     let l = n .before in
-    let s = l .before .before .before .before .before in
-    let some : s .args .count ≤ length (s .args .t12) = omega (arith, s .pre .8, l .loop .inv .0) in (
+    let s = l .before .before .before .before .before .before in
+    let some : s .args .count ≤ length (s .args .t13) = omega (arith, s .pre .9, l .loop .inv .0) in (
       l .loop .inv .0,
       omega (arith, r .raise-voice .kept .0, l .loop .inv .1),
       omega (arith, r .raise-voice .kept .1 .0, l .loop .inv .2),
       omega (arith, r .raise-voice .kept .1 .1 .0, l .loop .inv .3),
-      voices-next _ _ _ _ _ (l .loop .index) _ some (n .loop-test .taken) (r .raise-voice .ensures .0) ∙ l .loop .inv .4,
-      voices-next _ _ _ _ _ (l .loop .index) _ some (n .loop-test .taken) (r .raise-voice .ensures .1) ∙ l .loop .inv .5,
+      omega (arith, r .raise-voice .kept .1 .1 .1 .0, l .loop .inv .4),
+      voices-next _ _ _ _ _ (l .loop .index) _ some (n .loop-test .taken) (r .raise-voice .ensures .0) ∙ l .loop .inv .5,
+      voices-next _ _ _ _ _ (l .loop .index) _ some (n .loop-test .taken) (r .raise-voice .ensures .1) ∙ l .loop .inv .6,
     )
 
 same-length : tie.Need-same-length Inv-loop μ-loop
@@ -69,10 +80,13 @@ same-length-2 c = c .before .loop .inv .2
 same-length-3 : tie.Need-same-length-3 Inv-loop μ-loop
 same-length-3 c = c .before .loop .inv .3
 
+same-length-4 : tie.Need-same-length-4 Inv-loop μ-loop
+same-length-4 c = c .before .loop .inv .4
+
 returns : tie.Need-returns Inv-loop μ-loop
 returns c =
     let l = c .before .loop in
-    (sym (voices-end _ _ _ _ _ _ _ (c .loop-test .left)) ∙ l .inv .4, sym (voices-end _ _ _ _ _ _ _ (c .loop-test .left)) ∙ l .inv .5)
+    (sym (voices-end _ _ _ _ _ _ _ (c .loop-test .left)) ∙ l .inv .5, sym (voices-end _ _ _ _ _ _ _ (c .loop-test .left)) ∙ l .inv .6)
 
 pub raise-voices-spec : {M : Type 1} → statement M
 raise-voices-spec =
@@ -90,4 +104,5 @@ raise-voices-spec =
     same-length
     same-length-2
     same-length-3
+    same-length-4
     returns)

@@ -1,33 +1,29 @@
--- `openings_at_places` replaces the first `count` entries: of those below k each is what the lobe opens at the place that stood there. Assumes nothing.
+-- `openings_of_bells` replaces the first `count` bells: of those below k each is what the lobe opens under it. Assumes nothing.
 use mathlib.Core.Logic.{inl}
 use Prim.Native.Nat.{_-_, _≤_}
 use native.Mathlib.Omega.{arith}
 use lib.Ieee.{nan}
 use Rattle.lists.specs.Turned.{Turned, turned-none, turned-to}
-use Rattle.gaussian.specs.Bell.{between}
+use Rattle.lists.specs.Runs.{turned-next}
 use Rattle.openness.specs.Stages.{openedBy}
-use Rattle.openness.proofs.Runs.{turned-next}
 use borrow.Author.Needs.{needs}
-use Rattle.openness.proofs.chunk.openings_at_places.Statement.{statement}
-use Rattle.openness.proofs.chunk.openings_at_places.Tie as tie
+use Rattle.openness.proofs.chunk.openings_of_bells.Statement.{statement}
+use Rattle.openness.proofs.chunk.openings_of_bells.Tie as tie
 
 abbrev Inv-loop : tie.InvT-loop
-Inv-loop chunk₀ gaussians count strength k₀ chunk k = Turned (λ k place. openedBy strength (between place)) 0 chunk₀ chunk k × (k ≤ count)
+Inv-loop chunk₀ count strength k₀ chunk k = Turned (λ k bell. openedBy strength bell) 0 chunk₀ chunk k × (k ≤ count)
 
 abbrev μ-loop : tie.MeasureT-loop
-μ-loop chunk₀ gaussians count strength k₀ chunk k = count - k
+μ-loop chunk₀ count strength k₀ chunk k = count - k
 
 loop-holds : tie.Need-loop-holds Inv-loop μ-loop
 loop-holds c = (turned-none _ _ _, omega arith)
 
-mul-between : tie.Need-mul-between Inv-loop μ-loop
-mul-between c = search needs
+mul-opened-by : tie.Need-mul-opened-by Inv-loop μ-loop
+mul-opened-by c = search needs
 
-slice-read-between : tie.Need-slice-read-between Inv-loop μ-loop
-slice-read-between c = search needs
-
-between-requires : tie.Need-between-requires Inv-loop μ-loop
-between-requires c κs = search needs
+slice-read-opened-by : tie.Need-slice-read-opened-by Inv-loop μ-loop
+slice-read-opened-by c = search needs
 
 opened-by-requires : tie.Need-opened-by-requires Inv-loop μ-loop
 opened-by-requires c κs = search needs
@@ -45,7 +41,7 @@ loop-less : tie.Need-loop-less Inv-loop μ-loop
 loop-less c = omega arith
 
 loop-again : tie.Need-loop-again Inv-loop μ-loop
-loop-again c = (turned-next nan (c .before .before .before .before .loop .inv .0) (omega arith) (rw (← c .before .between .ensures) (c .opened-by .ensures)), omega arith)
+loop-again c = (turned-next nan (c .before .before .before .loop .inv .0) (omega arith) (c .opened-by .ensures), omega arith)
 
 same-length : tie.Need-same-length Inv-loop μ-loop
 same-length c = c .before .loop .inv .0 .len
@@ -53,16 +49,15 @@ same-length c = c .before .loop .inv .0 .len
 returns : tie.Need-returns Inv-loop μ-loop
 returns c = turned-to _ (c .before .loop .inv .0) (inl (c .before .loop .inv .1)) (omega arith)
 
-pub openings-at-places-spec : {M : Type 1} → statement M
-openings-at-places-spec =
+pub openings-of-bells-spec : {M : Type 1} → statement M
+openings-of-bells-spec =
     tie.close
     (tie.spec
     Inv-loop
     μ-loop
     loop-holds
-    mul-between
-    slice-read-between
-    between-requires
+    mul-opened-by
+    slice-read-opened-by
     opened-by-requires
     mul-chunk
     slice-write-chunk
