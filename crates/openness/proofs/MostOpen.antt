@@ -2,7 +2,7 @@
 use mathlib.Core.Path.{_≡_, refl, sym, ap, _∙_, subst}
 use mathlib.Core.Bool.{Bool}
 use mathlib.Core.List.{List}
-use Prim.Native.Nat.{ℕ, _+_, _≤_, _<_}
+use Prim.Native.Nat.{ℕ, _+_, _-_, _≤_, _<_}
 use native.Mathlib.Nat.{le-refl}
 use native.Mathlib.Omega.{arith}
 use lib.Dec.{T, lit≤}
@@ -14,6 +14,7 @@ use Rattle.lists.specs.Maps.{tabulate, mapRange, between-in, getD-tabulate, len
 use Rattle.lists.specs.Totals.{All, all-at}
 use Rattle.float_laws.specs.Rise.{Upto, upto-weaken}
 use Rattle.float32.specs.Remainder.{zero, one}
+use Rattle.blocks.specs.Least.{Numbers}
 use Rattle.lobes.specs.declared.Grid.{Grid}
 use Rattle.lobes.specs.declared.Lobe.{Lobe}
 use Rattle.lobes.specs.Distance.{lent}
@@ -26,7 +27,7 @@ use Rattle.openness.proofs.Entries.{all-places}
 use Rattle.openness.proofs.RaisedVoices.{nothing-open}
 use Rattle.openness.proofs.Highest.{InUnit, highest-reaches, once-before}
 use Rattle.openness.proofs.CompactIsPlain.{reaches, opens, AllInUnit, row-step, row-run}
-use Rattle.openness.proofs.RowRaised.{in-row, row-same, place-same, row-open}
+use Rattle.openness.proofs.RowRaised.{in-row, open-numbers, row-same, place-same, row-open}
 
 module _ (grid : Grid) (table : List Float) (lobes : List Lobe) (count : ℕ) (sound : SoundLobes grid lobes count) (few : count ≤ length lobes) (bin : ℕ) where
   abbrev step : Float → Lobe → Float
@@ -103,8 +104,8 @@ module _ (grid : Grid) (table : List Float) (lobes : List Lobe) (count : ℕ) (s
     grown : T (le held (in-row grid table lobe start end k held))
     grown = rw (row-step grid table bin held lobe (opening-in-unit grid lobe m table bin)) (where-join (reaches grid table bin) (opens grid table bin) .grows held lobe fit u)
 
-  pub joining-first : (row : List Float) → row ≡ tabulate 64 (λ k. zero) → Joining 0 (with-lobe first row)
-  joining-first row e =
+  joining-first : (row : List Float) (n : ℕ) → row ≡ tabulate n (λ k. zero) → Joining 0 (with-lobe first row)
+  joining-first row n e =
       record {
         opennesses = row-open grid table first start end row zeros (sound top inside .measured);
         there = λ k h q. subst (BelowWhere (reaches grid table (start + k)) (opens grid table (start + k)) first) (sym (value k h q)) (raised first (sound top inside .measured) k nothing-open);
@@ -112,7 +113,7 @@ module _ (grid : Grid) (table : List Float) (lobes : List Lobe) (count : ℕ) (s
       }
     where
       holds : (k : ℕ) → k < length row → getD row k nan ≡ zero
-      holds k h = ap (λ l. getD l k nan) e ∙ getD-tabulate (λ k. zero) 64 k nan (subst (λ n. k < n) (ap length e ∙ length-tab (λ k. zero) 0 64) h)
+      holds k h = ap (λ l. getD l k nan) e ∙ getD-tabulate (λ k. zero) n k nan (subst (λ m. k < m) (ap length e ∙ length-tab (λ k. zero) 0 n) h)
 
       zeros : Opennesses row
       zeros k h = subst (Upto binary32 3) (sym (holds k h)) nothing-open
@@ -122,7 +123,7 @@ module _ (grid : Grid) (table : List Float) (lobes : List Lobe) (count : ℕ) (s
           let l : k < length row = subst (λ n. k < n) (same-length first row) h in
           at-place first row k l q ∙ ap (in-row grid table first start end k) (holds k l)
 
-  pub joining-next : (p : ℕ) (row : List Float) → p < count → Joining p row → Joining (p + 1) (with-lobe (getD lobes p noLobe) row)
+  joining-next : (p : ℕ) (row : List Float) → p < count → Joining p row → Joining (p + 1) (with-lobe (getD lobes p noLobe) row)
   joining-next p row h j =
       record {
         opennesses = row-open grid table lobe start end row (j .opennesses) m;
@@ -150,6 +151,16 @@ module _ (grid : Grid) (table : List Float) (lobes : List Lobe) (count : ℕ) (s
   joining-there p row e j =
       subst (λ (n : ℕ). row ≡ with-lobe (getD lobes n noLobe) row) (sym e)
       (row-same grid table first start end row (λ k h q. place-same grid table first start end k (j .opennesses k h) (sound top inside .measured) (j .there k h q)))
+
+  -- a row of zeros to which the first was joined; and one lobe more
+  pub joining-start : (row : List Float) (n : ℕ) {ys : List Float} → row ≡ tabulate n (λ k. zero) → ys ≡ with-lobe first row → Joining 0 ys
+  joining-start row n e w = subst (Joining 0) (sym w) (joining-first row n e)
+
+  pub joining-more : (p : ℕ) (row : List Float) {ys : List Float} → p < count → Joining p row → ys ≡ with-lobe (getD lobes p noLobe) row → Joining (p + 1) ys
+  joining-more p row h j w = subst (Joining (p + 1)) (sym w) (joining-next p row h j)
+
+  pub joining-numbers : (lo hi p : ℕ) {row : List Float} → Joining p row → Numbers lo hi row
+  joining-numbers lo hi p {row} j = open-numbers lo hi row (j .opennesses)
 
   pub joining-end : (row : List Float) → Joining count row → (k : ℕ) → k < length row → start + k < end → getD row k nan ≡ mostOpen grid (lent table) (take count lobes) (start + k)
   joining-end row j k l h = sym (left-end grid table lobes count sound few (start + k) (getD row k nan)) ∙ j .rest k l (omega arith)

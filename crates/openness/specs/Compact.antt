@@ -1,7 +1,7 @@
 -- The compact way of raising a tone: its lobes together, block by block. What it writes is what the plain way writes, so nothing here says what a mask is; these are the steps between. Assumes nothing.
 use mathlib.Core.Path.{_≡_}
 use mathlib.Core.List.{List, map}
-use Prim.Native.Nat.{ℕ, _≤_, _<_}
+use Prim.Native.Nat.{ℕ, _+_, _≤_, _<_}
 use lib.Dec.{T}
 use lib.ListN.{length, getD}
 use lib.Ieee.{Float, nan, binary32, le}
@@ -49,3 +49,15 @@ Bounded grid table lobe bound start end = (bin : ℕ) → start ≤ bin → bin 
 -- what a row of bins holds are opennesses: not negative, and at most 8
 abbrev pub Opennesses : List Float → Type 0
 Opennesses xs = (k : ℕ) → k < length xs → Upto binary32 3 (getD xs k nan)
+
+-- a bound in 0..1 for each of the first `count` lobes
+abbrev pub BoundedLobes : Grid → List Float → List Lobe → ℕ → List Float → ℕ → ℕ → Type 0
+BoundedLobes grid table lobes count bounds start end = (p : ℕ) → p < count → Upto binary32 0 (getD bounds p nan) × Bounded grid table (getD lobes p noLobe) (getD bounds p nan) start end
+
+-- a row that has the most that one of the lobes opens at each bin from start on and below end
+abbrev pub HasMost : Grid → List Float → List Lobe → ℕ → ℕ → List Float → Type 0
+HasMost grid table lobes start end row = (k : ℕ) → start + k < end → getD row k nan ≡ mostOpen grid (lent table) lobes (start + k)
+
+-- a number that is not above what any of these bins holds
+abbrev pub NotAbove : Float → ℕ → ℕ → List Float → Type 0
+NotAbove x start end xs = (bin : ℕ) → start ≤ bin → bin < end → bin < length xs → T (le x (getD xs bin nan))

@@ -1,9 +1,9 @@
 // The most that the lobes of a tone open over a block of bins, worked out in a row: each lobe only where it can count.
 ghost use mathlib.Core.Path.{_≡_};
 ghost use mathlib.Core.Bool.{true};
-ghost use Prim.Native.Nat.{ℕ, _+_, _-_, _^_, _≤_, _<_};
-ghost use lib.ListN.{length, getD, take};
-ghost use lib.Ieee.{nan, binary32};
+ghost use Prim.Native.Nat.{_+_, _-_, _^_, _≤_, _<_};
+ghost use lib.ListN.{length, take};
+ghost use lib.Ieee.{binary32};
 ghost use Rattle.lists.specs.Maps.{mapRange};
 ghost use Rattle.float_laws.specs.Rise.{Upto};
 ghost use Rattle.float32.specs.Remainder.{one};
@@ -11,7 +11,7 @@ ghost use Rattle.gaussian.specs.Table.{gaussianTable};
 ghost use Rattle.blocks.specs.Least.{Least};
 ghost use Rattle.lobes.specs.Distance.{lent};
 ghost use Rattle.openness.specs.Openness.{lobeJoined};
-ghost use Rattle.openness.specs.Compact.{noLobe, mostOpen, SoundLobe, SoundLobes, Bounded, Opennesses};
+ghost use Rattle.openness.specs.Compact.{SoundLobe, SoundLobes, Bounded, Opennesses, BoundedLobes, HasMost};
 use crate::chunk::openings_by_table;
 use crate::joins::join;
 use blocks::least_from;
@@ -111,8 +111,8 @@ pub fn raise_partials(
     start: usize,
     end: usize,
 )
-    requires { ⌜ (now gaussians ≡ gaussianTable) × (SoundLobes grid lobes count) × (count ≤ 24) × (top < count) × (count ≤ length (now bounds)) × (start ≤ end) × (length (now row) ≡ 64) × (length (now chunk) ≡ 64) × (length (now indexes) ≡ 64) × (length (now scratch) ≡ 64) × (end ≤ start + 64) × (end ≤ length (now table)) × (grid .«last_bin» ≤ 2 ^ 24) × ((p : ℕ) → p < count → (Upto binary32 0 (getD (now bounds) p nan)) × (Bounded grid (now table) (getD lobes p noLobe) (getD (now bounds) p nan) start end)) ⌝ }
-    ensures { λ _. ⌜ (k : ℕ) → start + k < end → getD (now (row .exit)) k nan ≡ mostOpen grid (lent (now (table .entry))) (take count lobes) (start + k) ⌝ }
+    requires { ⌜ (now gaussians ≡ gaussianTable) × (SoundLobes grid lobes count) × (count ≤ 24) × (top < count) × (count ≤ length (now bounds)) × (start ≤ end) × (length (now row) ≡ 64) × (length (now chunk) ≡ 64) × (length (now indexes) ≡ 64) × (length (now scratch) ≡ 64) × (end ≤ start + 64) × (end ≤ length (now table)) × (grid .«last_bin» ≤ 2 ^ 24) × (BoundedLobes grid (now table) lobes count (now bounds) start end) ⌝ }
+    ensures { λ _. ⌜ HasMost grid (now (table .entry)) (take count lobes) start end (now (row .exit)) ⌝ }
 {
     slices::fill(row, 0.0);
     let first = lobes[top];
