@@ -10,11 +10,13 @@ use lib.Dec.{T}
 use lib.ListN.{length, getD, take, length-map}
 use lib.Seq.{ext-getD, getD-take, length-take-le}
 use lib.Ieee.{Float, binary32, lt}
-use Rattle.lists.specs.Maps.{between-in, getD-mapRange}
+use Rattle.lists.specs.Maps.{mapAt, between-in, getD-mapRange}
 use Rattle.lists.specs.Turned.{Turned}
+use Rattle.lists.specs.Runs.{map-same}
 use Rattle.lists.specs.Folds.{fold, range, takeUntil, range-next, range-none, until-step, until-stop, until-end}
 use Rattle.float_laws.specs.Units.{real}
 use Rattle.float_laws.specs.Round.{plus-zero}
+use Rattle.power.specs.Log.{L2}
 use Rattle.scene.specs.declared.MaskVoice.{MaskVoice}
 use Rattle.scene.proofs.Voices.{RealVoice}
 use Rattle.lobes.specs.declared.Grid.{Grid}
@@ -107,10 +109,21 @@ module _ (grid : Grid) (logs : Logs) (tone : Tone) where
   pub lobe-at : (lobes : List Lobe) (n : ℕ) → n ≡ length (partialsOf grid tone) → take n lobes ≡ lobesOf grid logs tone → (p : ℕ) → p < n → getD lobes p noLobe ≡ lobeOf grid logs tone (p + 1)
   lobe-at lobes n e t p h = sym (getD-take n lobes p noLobe h) ∙ ap (λ (l : List Lobe). getD l p noLobe) t ∙ nth-lobe p (omega arith)
 
+  pub known-lobes : (lobes : List Lobe) (n : ℕ) → n ≡ length (partialsOf grid tone) → take n lobes ≡ lobesOf grid logs tone → (p : ℕ) → p < n
+      → (getD lobes p noLobe .«center_log2» ≡ L2 (getD lobes p noLobe .center)) × (getD lobes p noLobe .«last_bin» ≤ grid .«last_bin»)
+  known-lobes lobes n e t p h =
+      subst (λ (lobe : Lobe). (lobe .«center_log2» ≡ L2 (lobe .center)) × (lobe .«last_bin» ≤ grid .«last_bin»)) (sym (lobe-at lobes n e t p h)) (center-log2 grid logs tone (p + 1), last-bin grid logs tone (p + 1))
+
   -- joining the lobes is joining the tone
   pub lobes-are-tone : (gain : Float) (bin : ℕ) (held : Float) → lobesJoined grid logs gain (lobesOf grid logs tone) bin held ≡ toneJoined grid logs gain tone bin held
   unfolding lobesJoined toneJoined
   lobes-are-tone gain bin held = fold-map (λ held lobe. lobeJoined grid logs gain bin held lobe) (lobeOf grid logs tone) held (partialsOf grid tone)
+
+  pub tone-raised : (gain : Float) (n : ℕ) (lobes : List Lobe) → take n lobes ≡ lobesOf grid logs tone → (xs : List Float) {ys : List Float} → ys ≡ mapAt (lobesJoined grid logs gain (take n lobes)) xs
+      → ys ≡ mapAt (toneJoined grid logs gain tone) xs
+  tone-raised gain n lobes t xs w =
+      w ∙ ap (λ (l : List Lobe). mapAt (lobesJoined grid logs gain l) xs) t
+      ∙ map-same (lobesJoined grid logs gain (lobesOf grid logs tone)) (toneJoined grid logs gain tone) xs (λ bin held p. lobes-are-tone gain bin held)
 
 -- the lobes of an accepted voice
 pub sound-lobes : (grid : Grid) (logs : Logs) (voice : MaskVoice) → T (real binary32 (grid .width)) → T (lt plus-zero (grid .width)) → T (real binary32 (grid .rolloff)) → grid .partials ≤ 24 → RealVoice voice
