@@ -18,13 +18,13 @@ pub struct Span {
     pub plain_cost: usize,
 }
 
-// How many bins a lobe has.
-fn length_of(lobe: Lobe) -> usize
-    requires { ⌜ lobe .«last_bin» ≤ 8192 ⌝ }
+// How many bins there are from a first to a last one.
+pub fn bins_between(first_bin: usize, last_bin: usize) -> usize
+    requires { ⌜ «last_bin» ≤ 8192 ⌝ }
     ensures { λ r. ⌜ r ≤ 8193 ⌝ }
 {
-    if lobe.first_bin <= lobe.last_bin {
-        return lobe.last_bin + 1 - lobe.first_bin;
+    if first_bin <= last_bin {
+        return last_bin + 1 - first_bin;
     }
     0
 }
@@ -41,7 +41,7 @@ pub fn span_of(lobes: [Lobe; 24], count: usize, last_bin: usize) -> Span
         let lobe = lobes[p];
         first = lesser(first, lobe.first_bin);
         last = greater(last, lobe.last_bin);
-        cost += length_of(lobe);
+        cost += bins_between(lobe.first_bin, lobe.last_bin);
         p += 1;
     }
     Span {

@@ -54,8 +54,8 @@ lesser-requires c κs = search needs
 greater-requires : tie.Need-greater-requires Inv-loop μ-loop
 greater-requires c κs = search needs
 
-length-of-requires : tie.Need-length-of-requires Inv-loop μ-loop
-length-of-requires c κs =
+bins-between-requires : tie.Need-bins-between-requires Inv-loop μ-loop
+bins-between-requires c κs =
     let i = c .before .before .before in
     let s = i .before .before in
     omega (arith, s .pre .1, s .pre .2 _ (i .loop-test .taken))
@@ -64,7 +64,7 @@ add-cost : tie.Need-add-cost Inv-loop μ-loop
 add-cost c =
     let i = c .before .before .before .before in
     let s = i .before .before in
-    omega (arith, c .length-of .ensures, i .before .loop .inv .3, i .loop-test .taken, s .pre .0)
+    omega (arith, c .bins-between .ensures, i .before .loop .inv .3, i .loop-test .taken, s .pre .0)
 
 add-p : tie.Need-add-p Inv-loop μ-loop
 add-p c =
@@ -84,7 +84,7 @@ loop-again c =
       l .inv .0,
       omega (arith, i .loop-test .taken),
       omega (arith, g .greater .ensures, l .inv .2, s .pre .2 _ (i .loop-test .taken)),
-      omega (arith, c .length-of .ensures, l .inv .3),
+      omega (arith, c .bins-between .ensures, l .inv .3),
       one-more (s .args .t1) _ _ _ _ _ (l .inv .4) (e .lesser .ensures) (g .greater .ensures),
     )
 
@@ -106,7 +106,7 @@ span-of-spec =
     array-copy-out-lobe
     lesser-requires
     greater-requires
-    length-of-requires
+    bins-between-requires
     add-cost
     add-p
     loop-less
