@@ -20,10 +20,12 @@ use slices::fill;
 use voices::raise_voices;
 
 pub mod chunk;
+pub mod columns;
 pub mod compact;
 pub mod joins;
 pub mod most;
 pub mod raise;
+pub mod tone_lobes;
 pub mod voices;
 
 // So many bins are worked out at a time: enough for a loop over them to pay, and few enough to stay close at hand.

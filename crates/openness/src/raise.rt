@@ -2,8 +2,8 @@
 // alone, which no lobe reaches.
 ghost use mathlib.Core.Path.{_≡_};
 ghost use mathlib.Core.Bool.{true};
-ghost use Prim.Native.Nat.{_^_, _≤_, _<_};
-ghost use lib.ListN.{length};
+ghost use Prim.Native.Nat.{ℕ, _^_, _≤_, _<_};
+ghost use lib.ListN.{length, getD, take};
 ghost use Rattle.lists.specs.Maps.{mapAt};
 ghost use Rattle.power.specs.Table.{powerTable};
 ghost use Rattle.power.specs.Log.{L2};
@@ -11,16 +11,17 @@ ghost use Rattle.gaussian.specs.Table.{gaussianTable};
 ghost use Rattle.lobes.specs.Tone.{partialOctaves};
 ghost use Rattle.lobes.specs.Distance.{logsOf};
 ghost use Rattle.openness.specs.Openness.{lobeJoined, toneJoined};
+ghost use Rattle.openness.specs.Compact.{noLobe, lobesJoined};
 use crate::chunk::openings;
 use crate::joins::join;
+use crate::tone_lobes::lobes_of;
+use crate::tone_lobes::partials_of;
 use float32::counts::lesser;
 use gaussian::GaussianTable;
 use lobes::Grid;
 use lobes::Lobe;
 use lobes::Tone;
 use lobes::octaves::PartialOctaves;
-use lobes::reach::lobe_of;
-use lobes::tones::center_of;
 use power::table::PowerTable;
 
 // A voice's gain on each side.
@@ -69,6 +70,44 @@ fn raise_lobe(
     }
 }
 
+// The plain way: the first `count` lobes, one after the other.
+fn raise_lobes(
+    first: &mut [f32],
+    second: &mut [f32],
+    chunk: &mut [f32],
+    indexes: &mut [u32],
+    powers: &PowerTable,
+    gaussians: &GaussianTable,
+    tabled: bool,
+    table: &[f32],
+    grid: Grid,
+    lobes: [Lobe; 24],
+    count: usize,
+    gains: Gains,
+)
+    requires { ⌜ (now powers ≡ powerTable) × (now gaussians ≡ gaussianTable) × (0 < length (now chunk)) × (length (now chunk) ≤ length (now indexes)) × (count ≤ 24) × (grid .«last_bin» ≤ 2 ^ 24) × (tabled ≡ true → grid .«last_bin» < length (now table)) × ((p : ℕ) → p < count → (getD lobes p noLobe .«center_log2» ≡ L2 (getD lobes p noLobe .center)) × (getD lobes p noLobe .«last_bin» ≤ grid .«last_bin»)) ⌝ }
+    ensures { λ _. ⌜ (now (first .exit) ≡ mapAt (lobesJoined grid (logsOf tabled (now (table .entry))) (gains .first) (take count lobes)) (now (first .entry))) × (now (second .exit) ≡ mapAt (lobesJoined grid (logsOf tabled (now (table .entry))) (gains .second) (take count lobes)) (now (second .entry))) ⌝ }
+{
+    let mut p: usize = 0;
+    while p < count {
+        let lobe = lobes[p];
+        raise_lobe(
+            first,
+            second,
+            chunk,
+            indexes,
+            powers,
+            gaussians,
+            tabled,
+            table,
+            grid,
+            lobe,
+            gains,
+        );
+        p += 1;
+    }
+}
+
 // The partials of a tone, up to the first above nyquist.
 pub fn raise_tone(
     first: &mut [f32],
@@ -87,25 +126,20 @@ pub fn raise_tone(
     requires { ⌜ (now powers ≡ powerTable) × (now octaves ≡ partialOctaves) × (now gaussians ≡ gaussianTable) × (0 < length (now chunk)) × (length (now chunk) ≤ length (now indexes)) × (grid .partials ≤ 24) × (grid .«last_bin» ≤ 2 ^ 24) × (tabled ≡ true → grid .«last_bin» < length (now table)) ⌝ }
     ensures { λ _. ⌜ (now (first .exit) ≡ mapAt (toneJoined grid (logsOf tabled (now (table .entry))) (gains .first) tone) (now (first .entry))) × (now (second .exit) ≡ mapAt (toneJoined grid (logsOf tabled (now (table .entry))) (gains .second) tone) (now (second .entry))) ⌝ }
 {
-    let mut partial: usize = 1;
-    while partial <= grid.partials {
-        if grid.nyquist < center_of(tone, partial) {
-            return;
-        }
-        let lobe = lobe_of(powers, octaves, tabled, table, grid, tone, partial);
-        raise_lobe(
-            first,
-            second,
-            chunk,
-            indexes,
-            powers,
-            gaussians,
-            tabled,
-            table,
-            grid,
-            lobe,
-            gains,
-        );
-        partial += 1;
-    }
+    let count = partials_of(grid, tone);
+    let lobes = lobes_of(powers, octaves, tabled, table, grid, tone, count);
+    raise_lobes(
+        first,
+        second,
+        chunk,
+        indexes,
+        powers,
+        gaussians,
+        tabled,
+        table,
+        grid,
+        lobes,
+        count,
+        gains,
+    );
 }
