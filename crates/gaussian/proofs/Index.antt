@@ -2,7 +2,7 @@
 use mathlib.Core.Path.{_≡_, refl, sym, ap, _∙_}
 use mathlib.Core.Bool.{Bool, true, false, not, cond}
 use Prim.Native.Nat.{ℕ, _+_, _-_, _*_, _/_, _%_, _^_, _≤_, _<_}
-use native.Mathlib.Nat.{min-eq-left, mod-lt, div-add-mod', mod-eq-of-lt, add-mul-mod-self-right}
+use native.Mathlib.Nat.{le-trans, le-of-eq, le-of-lt, min-eq-left, mod-lt, div-add-mod', mod-eq-of-lt, add-mul-mod-self-right}
 use native.Mathlib.Omega.{arith}
 use mir.Val.{boolByte}
 use lib.Bits.{bitAnd, and-mask}
@@ -20,6 +20,9 @@ use Rattle.gaussian.proofs.InUnit.{left-most, room}
 byte-is : (b : Bool) → boolByte b ≡ cond b 1 0
 byte-is true = refl
 byte-is false = refl
+
+pub low-bits-most : (n : ℕ) → bitAnd n 8388607 ≤ 2 ^ 24
+low-bits-most n = le-trans (le-of-eq (and-mask n 23)) (le-trans (le-of-lt (mod-lt n (lit≤ tt))) (lit≤ tt))
 
 -- taking away what was rounded up takes it from the low digits alone
 module _ (n m q u : ℕ) (z : 0 < m) (e : n % m ≡ q + u) where

@@ -41,7 +41,8 @@ pub struct Step {
     pub part: f32,
 }
 
-// The sum has no digits below 1, so its low bits count whole steps: one too many where it was rounded up, which is where the place is below it.
+// The sum has no digits below 1, so its low bits count whole steps: one too many where it was rounded up, and there the place is below what the sum stands for. The count is then
+// lowered without a branch, so that a loop over places is done for several at once.
 pub fn step_of(place: f32) -> Step
     requires { ⌜ Place place ⌝ }
     ensures { λ r. ⌜ (r .index ≡ indexOf place) × (r .part ≡ partOf place) ⌝ }

@@ -1,14 +1,12 @@
 -- `gaussian::step_of` meets its contract: proofs/Index.antt says what the bits of its sum count. Assumes nothing.
 use mathlib.Core.Path.{ap}
 use Prim.Native.Nat.{ℕ}
-use native.Mathlib.Nat.{le-trans, le-of-eq, min-le-right}
+use native.Mathlib.Omega.{arith}
 use borrow.Author.Needs.{needs}
-use lib.Dec.{lit≤}
 use lib.IntN.{pos}
 use lib.Ieee.{binary32, ofBits, ofInt, sub}
 use Rattle.float32.proofs.Sums.{in-float}
-use Rattle.float32.specs.Counts.{floorCount}
-use Rattle.gaussian.proofs.Index.{sum-no-nan, up-fits, index-is}
+use Rattle.gaussian.proofs.Index.{low-bits-most, sum-no-nan, up-fits, index-is}
 use Rattle.gaussian.proofs.step_of.Statement.{statement}
 use Rattle.gaussian.proofs.step_of.Tie as tie
 
@@ -21,11 +19,10 @@ float-to-bits-index c = sum-no-nan (c .args .place) (c .pre)
 
 sub-index : tie.Need-sub-index
 unfolding ofBits
-sub-index c = up-fits (c .args .place) (c .pre)
+sub-index c = omega (arith, up-fits (c .args .place) (c .pre))
 
 int-to-float-part : tie.Need-int-to-float-part
-unfolding ofBits
-int-to-float-part c = in-float _ (le-trans (le-of-eq (index-is (c .before .args .place) (c .before .pre))) (le-trans (min-le-right (floorCount (c .before .args .place)) 1024) (lit≤ tt)))
+int-to-float-part c = in-float _ (search low-bits-most)
 
 returns : tie.Need-returns
 unfolding ofBits
