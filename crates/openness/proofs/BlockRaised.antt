@@ -66,7 +66,7 @@ module _ (grid : Grid) (table : List Float) (lobes : List Lobe) (count : ℕ) (s
   abbrev most : ℕ → Float
   most bin = mostOpen grid (lent table) (take count lobes) bin
 
-  most-in-unit : (bin : ℕ) → Upto binary32 0 (most bin)
+  pub most-in-unit : (bin : ℕ) → Upto binary32 0 (most bin)
   unfolding lobesJoined
   most-in-unit bin =
       let all = all-in-unit grid table lobes count sound few bin in

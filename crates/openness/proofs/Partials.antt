@@ -22,6 +22,11 @@ pub last-bin : (grid : Grid) (logs : Logs) (tone : Tone) (partial : ℕ) → lob
 unfolding lobeOf
 last-bin grid logs tone partial = omega arith
 
+-- and never begins at bin 0
+pub first-bin : (grid : Grid) (logs : Logs) (tone : Tone) (partial : ℕ) → 1 ≤ lobeOf grid logs tone partial .«first_bin»
+unfolding lobeOf
+first-bin grid logs tone partial = omega arith
+
 -- and its field has its centre's logarithm
 pub center-log2 : (grid : Grid) (logs : Logs) (tone : Tone) (partial : ℕ) → lobeOf grid logs tone partial .«center_log2» ≡ L2 (lobeOf grid logs tone partial .center)
 unfolding lobeOf

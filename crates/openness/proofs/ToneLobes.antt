@@ -28,7 +28,7 @@ use Rattle.lobes.specs.Lobe.{lobeOf}
 use Rattle.lobes.proofs.Bounded.{lobe-measured}
 use Rattle.openness.specs.Openness.{lobeJoined, partialsOf, toneJoined}
 use Rattle.openness.specs.Compact.{noLobe, lobesOf, lobesJoined, SoundLobe, SoundLobes}
-use Rattle.openness.proofs.Partials.{last-bin, center-log2}
+use Rattle.openness.proofs.Partials.{first-bin, last-bin, center-log2}
 
 -- ---- numbers in a row, up to the first that stops, are numbers in a row, and no more of them
 until-range : (stop : ℕ → Bool) (i n : ℕ) → takeUntil stop (range i n) ≡ range i (length (takeUntil stop (range i n)))
@@ -133,6 +133,7 @@ sound-lobes grid logs voice w a r few u lobes n e t p h =
     subst (SoundLobe grid) (sym (lobe-at grid logs tone lobes n e t p h))
     record {
       log-of-center = center-log2 grid logs tone (p + 1);
+      first = first-bin grid logs tone (p + 1);
       last = last-bin grid logs tone (p + 1);
       measured = lobe-measured grid logs voice (p + 1) w a r u (omega arith) (omega (arith, partials-few grid tone));
     }

@@ -6,6 +6,7 @@ use lib.Dec.{T}
 use lib.ListN.{length, getD}
 use lib.Ieee.{Float, nan, binary32, le}
 use Rattle.lists.specs.Folds.{fold}
+use Rattle.float_laws.specs.Units.{real}
 use Rattle.float_laws.specs.Rise.{Upto}
 use Rattle.float32.specs.Remainder.{zero, one}
 use Rattle.power.specs.Log.{L2}
@@ -36,6 +37,7 @@ mostOpen grid logs lobes bin = lobesJoined grid logs one lobes bin zero
 -- a lobe as an accepted voice has it
 pub record SoundLobe (grid : Grid) (lobe : Lobe) : Type 0 where
   pub log-of-center : lobe .«center_log2» ≡ L2 (lobe .center)
+  pub first : 1 ≤ lobe .«first_bin»
   pub last : lobe .«last_bin» ≤ grid .«last_bin»
   pub measured : Measured grid lobe
 
@@ -61,3 +63,17 @@ HasMost grid table lobes start end row = (k : ℕ) → start + k < end → getD 
 -- a number that is not above what any of these bins holds
 abbrev pub NotAbove : Float → ℕ → ℕ → List Float → Type 0
 NotAbove x start end xs = (bin : ℕ) → start ≤ bin → bin < end → bin < length xs → T (le x (getD xs bin nan))
+
+-- the entries of a table, from 1 on, are finite numbers
+abbrev pub RealTable : List Float → Type 0
+RealTable table = (bin : ℕ) → 1 ≤ bin → bin < length table → T (real binary32 (getD table bin nan))
+
+-- no lobe reaches a bin below the first or above the last
+abbrev pub Within : List Lobe → ℕ → ℕ → ℕ → Type 0
+Within lobes count first last = (p : ℕ) → p < count → (first ≤ getD lobes p noLobe .«first_bin») × (getD lobes p noLobe .«last_bin» ≤ last)
+
+-- the lobes' centres, strengths and peaks in columns
+abbrev pub InColumns : List Lobe → ℕ → List Float → List Float → List Float → Type 0
+InColumns lobes count centers strengths peaks =
+    (p : ℕ) → p < count
+    → (getD centers p nan ≡ getD lobes p noLobe .«center_log2») × (getD strengths p nan ≡ getD lobes p noLobe .strength) × (getD peaks p nan ≡ getD lobes p noLobe .«peak_squared»)

@@ -72,14 +72,14 @@ pub fn columns_of(
     }
 }
 
-// The first bin of the block that a bin is in.
-pub fn block_start(bin: usize) -> usize
-    ensures { λ r. ⌜ r ≡ 1 + 64 * blockOf bin ⌝ }
+// The block that a bin is in.
+pub fn block_of(bin: usize) -> usize
+    ensures { λ r. ⌜ r ≡ blockOf bin ⌝ }
 {
     if bin == 0 {
-        return 1;
+        return 0;
     }
-    1 + (bin - 1) / BLOCK * BLOCK
+    (bin - 1) / BLOCK
 }
 
 // Whether the walk can pay on a grid: the lobes of so many partials overlap where twice the sum of their lengths is above three times what they span. In units of the fundamental partial n reaches

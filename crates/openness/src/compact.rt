@@ -7,21 +7,27 @@
 // is. So the compact way gives each bin what the plain way gives it, for every accepted table (`compact-is-plain`).
 ghost use mathlib.Core.Path.{_≡_};
 ghost use mathlib.Core.Bool.{true};
-ghost use Prim.Native.Nat.{_+_, _^_, _≤_, _<_};
+ghost use Prim.Native.Nat.{_+_, _*_, _^_, _≤_, _<_};
 ghost use lib.ListN.{length, take};
 ghost use lib.Ieee.{binary32, mul};
-ghost use Rattle.lists.specs.Maps.{mapRange};
+ghost use Rattle.lists.specs.Maps.{mapAt, mapRange};
 ghost use Rattle.float_laws.specs.Rise.{Upto};
 ghost use Rattle.gaussian.specs.Table.{gaussianTable};
+ghost use Rattle.blocks.specs.Ends.{Ends};
 ghost use Rattle.lobes.specs.Distance.{lent};
-ghost use Rattle.openness.specs.Compact.{lobesJoined, SoundLobes, Opennesses, BoundedLobes, NotAbove};
+ghost use Rattle.openness.specs.Compact.{lobesJoined, SoundLobes, Opennesses, BoundedLobes, NotAbove, RealTable, Within, InColumns};
+use crate::columns::Span;
+use crate::columns::block_of;
 use crate::joins::join;
 use crate::most::raise_partials;
 use crate::raise::Gains;
+use blocks::BLOCK;
 use blocks::least_from;
+use float32::counts::lesser;
 use gaussian::GaussianTable;
 use lobes::Grid;
 use lobes::Lobe;
+use lobes::bounds::bounds_of;
 use lobes::bounds::greatest_at;
 
 // Whether a bound, under either gain, is not above the least bin that its side holds from `start` on.
@@ -84,4 +90,65 @@ fn raise_block(
     );
     join(first, row, gains.first, start, end);
     join(second, row, gains.second, start, end);
+}
+
+// Block by block, the bins that the lobes reach.
+fn raise_blocks(
+    first: &mut [f32],
+    second: &mut [f32],
+    row: &mut [f32],
+    chunk: &mut [f32],
+    indexes: &mut [u32],
+    scratch: &mut [f32],
+    bounds: &mut [f32],
+    gaussians: &GaussianTable,
+    table: &[f32],
+    lows: &[f32],
+    highs: &[f32],
+    centers: &[f32],
+    strengths: &[f32],
+    peaks: &[f32],
+    grid: Grid,
+    lobes: [Lobe; 24],
+    count: usize,
+    gains: Gains,
+    span: Span,
+)
+    requires { ⌜ (now gaussians ≡ gaussianTable) × (SoundLobes grid lobes count) × (0 < count) × (count ≤ 24) × (count ≤ length (now bounds)) × (length (now row) ≡ 64) × (length (now chunk) ≡ 64) × (length (now indexes) ≡ 64) × (length (now scratch) ≡ 64) × (grid .«last_bin» ≤ 8192) × (grid .«last_bin» < length (now table)) × (length (now table) ≤ 64 * length (now lows) + 1) × (length (now table) ≤ 64 * length (now highs) + 1) × (Ends (now table) (now lows) (now highs)) × (RealTable (now table)) × (count ≤ length (now centers)) × (count ≤ length (now strengths)) × (count ≤ length (now peaks)) × (InColumns lobes count (now centers) (now strengths) (now peaks)) × (Opennesses (now first)) × (Opennesses (now second)) × (Upto binary32 3 (gains .first)) × (Upto binary32 3 (gains .second)) × (span .«last_bin» ≤ grid .«last_bin») × (Within lobes count (span .«first_bin») (span .«last_bin»)) ⌝ }
+    ensures { λ _. ⌜ (now (first .exit) ≡ mapAt (lobesJoined grid (lent (now (table .entry))) (gains .first) (take count lobes)) (now (first .entry))) × (now (second .exit) ≡ mapAt (lobesJoined grid (lent (now (table .entry))) (gains .second) (take count lobes)) (now (second .entry))) ⌝ }
+{
+    let mut block = block_of(lesser(span.first_bin, span.last_bin));
+    while block * BLOCK < span.last_bin {
+        let start = 1 + block * BLOCK;
+        let end = lesser(start + BLOCK, table.len());
+        bounds_of(
+            bounds,
+            gaussians,
+            centers,
+            strengths,
+            peaks,
+            grid.width,
+            lows[block],
+            highs[block],
+            count,
+        );
+        raise_block(
+            first,
+            second,
+            row,
+            chunk,
+            indexes,
+            scratch,
+            gaussians,
+            table,
+            bounds,
+            grid,
+            lobes,
+            count,
+            gains,
+            start,
+            end,
+        );
+        block += 1;
+    }
 }
