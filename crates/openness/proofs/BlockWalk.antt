@@ -57,9 +57,10 @@ module _ {table lows highs : List Float} (ends : Ends table lows highs) (known :
       → BoundedLobes grid table lobes count bounds (1 + 64 * block) end
   block-bounded grid lobes count centers strengths peaks before {bounds} sound columns room end e w is p h =
       let lobe = getD lobes p noLobe in
-      let m = sound p h .measured in
-      (subst (Upto binary32 0) (sym value) (bound-in-unit (grid .width) (lobe .strength) (L2 (lobe .center)) (lobe .«peak_squared») (getD lows block nan) (getD highs block nan) (m .strength-real) (m .strength-low)),
-        λ bin l q. subst (λ (x : Float). T (lib.Ieee.le (opening grid (lent table) lobe bin) x)) (sym value) (opening-bounded grid lobe m table bin (getD lows block nan) (getD highs block nan) (in-block bin l (omega arith) (omega arith))))
+      let m = sound p h .measured in (
+        subst (Upto binary32 0) (sym value) (bound-in-unit (grid .width) (lobe .strength) (L2 (lobe .center)) (lobe .«peak_squared») (getD lows block nan) (getD highs block nan) (m .strength-real) (m .strength-low)),
+        λ bin l q. subst (λ (x : Float). T (lib.Ieee.le (opening grid (lent table) lobe bin) x)) (sym value) (opening-bounded grid lobe m table bin (getD lows block nan) (getD highs block nan) (in-block bin l (omega arith) (omega arith))),
+      )
     where
       f : ℕ → Float → Float
       f p held = boundOf (grid .width) (getD strengths p nan) (getD centers p nan) (getD peaks p nan) (getD lows block nan) (getD highs block nan)
@@ -69,6 +70,12 @@ module _ {table lows highs : List Float} (ends : Ends table lows highs) (known :
           let c = columns p h in
           ap (λ l. getD l p nan) is ∙ getD-mapRange f 0 count before p nan (omega arith) ∙ between-in f 0 count p (getD before p nan) (omega arith) h
           ∙ rw (c .1, c .0 ∙ sound p h .log-of-center, c .2) refl
+
+-- a column that was written entry by entry
+pub column-at : (f : ℕ → Float) (count : ℕ) (before : List Float) {column : List Float} → count ≤ length before → column ≡ mapRange (λ p held. f p) 0 count before → (p : ℕ) → p < count → getD column p nan ≡ f p
+column-at f count before room e p h =
+    let g : ℕ → Float → Float = λ p held. f p in
+    ap (λ l. getD l p nan) e ∙ getD-mapRange g 0 count before p nan (omega arith) ∙ between-in g 0 count p (getD before p nan) (omega arith) h
 
 -- ---- what a side holds
 module _ (grid : Grid) (table : List Float) (lobes : List Lobe) (count : ℕ) (sound : SoundLobes grid lobes count) (few : count ≤ length lobes) {gain : Float} (g : Upto binary32 3 gain) where

@@ -1,15 +1,20 @@
 -- The compact way of raising a tone: its lobes together, block by block. What it writes is what the plain way writes, so nothing here says what a mask is; these are the steps between. Assumes nothing.
 use mathlib.Core.Path.{_≡_}
 use mathlib.Core.List.{List, map}
-use Prim.Native.Nat.{ℕ, _+_, _≤_, _<_}
+use Prim.Native.Nat.{ℕ, _+_, _*_, _≤_, _<_}
 use lib.Dec.{T}
-use lib.ListN.{length, getD}
-use lib.Ieee.{Float, nan, binary32, le}
+use lib.ListN.{length, getD, take}
+use lib.Ieee.{Float, nan, binary32, le, lt}
 use Rattle.lists.specs.Folds.{fold}
+use Rattle.lists.specs.Totals.{All}
 use Rattle.float_laws.specs.Units.{real}
+use Rattle.float_laws.specs.Round.{plus-zero}
 use Rattle.float_laws.specs.Rise.{Upto}
 use Rattle.float32.specs.Remainder.{zero, one}
 use Rattle.power.specs.Log.{L2}
+use Rattle.scene.specs.declared.MaskVoice.{MaskVoice}
+use Rattle.scene.proofs.Voices.{RealVoice}
+use Rattle.blocks.specs.Ends.{Ends}
 use Rattle.lobes.specs.declared.Grid.{Grid}
 use Rattle.lobes.specs.declared.Tone.{Tone}
 use Rattle.lobes.specs.declared.Lobe.{Lobe}
@@ -77,3 +82,31 @@ abbrev pub InColumns : List Lobe → ℕ → List Float → List Float → List 
 InColumns lobes count centers strengths peaks =
     (p : ℕ) → p < count
     → (getD centers p nan ≡ getD lobes p noLobe .«center_log2») × (getD strengths p nan ≡ getD lobes p noLobe .strength) × (getD peaks p nan ≡ getD lobes p noLobe .«peak_squared»)
+
+-- the ends of a table's blocks, on a grid that the walk can go over
+pub record Ready (grid : Grid) (table lows highs : List Float) : Type 0 where
+  pub last : grid .«last_bin» ≤ 8192
+  pub inside : grid .«last_bin» < length table
+  pub lows-long : length table ≤ 64 * length lows + 1
+  pub highs-long : length table ≤ 64 * length highs + 1
+  pub ends : Ends table lows highs
+  pub table-real : RealTable table
+
+-- a width and a rolloff of accepted settings
+pub record RealGrid (grid : Grid) : Type 0 where
+  pub width-real : T (real binary32 (grid .width))
+  pub width-above : T (lt plus-zero (grid .width))
+  pub rolloff-real : T (real binary32 (grid .rolloff))
+  pub few : grid .partials ≤ 24
+
+-- what the walk asks of a tone: its lobes are sound however they are listed
+abbrev pub SoundTone : Grid → List Float → Tone → Type 0
+SoundTone grid table tone = (lobes : List Lobe) (n : ℕ) → n ≡ length (partialsOf grid tone) → take n lobes ≡ lobesOf grid (lent table) tone → SoundLobes grid lobes n
+
+-- an accepted scene, as the masks by a table are built from it
+pub record SoundScene (grid : Grid) (voices : List MaskVoice) (table : List Float) : Type 0 where
+  pub last : grid .«last_bin» ≤ 8192
+  pub long : length table ≤ 8193
+  pub grid-real : RealGrid grid
+  pub voices-real : All RealVoice voices
+  pub table-real : RealTable table

@@ -6,7 +6,7 @@
 // has the most that any lobe opens, is joined once to each side (`gain-last`). A block where the greatest bound, under either gain, is not above the least bin that the side holds is left as it
 // is. So the compact way gives each bin what the plain way gives it, for every accepted table (`compact-is-plain`).
 ghost use mathlib.Core.Path.{_≡_};
-ghost use mathlib.Core.Bool.{true};
+ghost use mathlib.Core.Bool.{true, cond};
 ghost use Prim.Native.Nat.{_+_, _*_, _^_, _≤_, _<_};
 ghost use lib.ListN.{length, take};
 ghost use lib.Ieee.{binary32, mul};
@@ -15,9 +15,12 @@ ghost use Rattle.float_laws.specs.Rise.{Upto};
 ghost use Rattle.gaussian.specs.Table.{gaussianTable};
 ghost use Rattle.blocks.specs.Ends.{Ends};
 ghost use Rattle.lobes.specs.Distance.{lent};
-ghost use Rattle.openness.specs.Compact.{lobesJoined, SoundLobes, Opennesses, BoundedLobes, NotAbove, RealTable, Within, InColumns};
+ghost use Rattle.openness.specs.Compact.{lobesJoined, SoundLobes, Opennesses, BoundedLobes, NotAbove, RealTable, Within, InColumns, Ready};
 use crate::columns::Span;
+use crate::columns::bins_between;
 use crate::columns::block_of;
+use crate::columns::columns_of;
+use crate::columns::span_of;
 use crate::joins::join;
 use crate::most::raise_partials;
 use crate::raise::Gains;
@@ -151,4 +154,109 @@ fn raise_blocks(
         );
         block += 1;
     }
+}
+
+// What the walk costs, in bins of the plain way, by measurement; with many voices it passes over most blocks.
+fn compact_cost(span: Span, crowded: bool) -> usize
+    requires { ⌜ span .«last_bin» ≤ 8192 ⌝ }
+    ensures { λ r. ⌜ r ≤ 6 * 8193 + 512 ⌝ }
+{
+    let bins = bins_between(span.first_bin, span.last_bin);
+    if crowded {
+        return 3 * bins + 512;
+    }
+    6 * bins + 512
+}
+
+// The walk, with rows and columns of its own.
+fn walk(
+    first: &mut [f32],
+    second: &mut [f32],
+    chunk: &mut [f32],
+    indexes: &mut [u32],
+    gaussians: &GaussianTable,
+    table: &[f32],
+    lows: &[f32],
+    highs: &[f32],
+    grid: Grid,
+    lobes: [Lobe; 24],
+    count: usize,
+    gains: Gains,
+    span: Span,
+)
+    requires { ⌜ (now gaussians ≡ gaussianTable) × (SoundLobes grid lobes count) × (0 < count) × (count ≤ 24) × (length (now chunk) ≡ 64) × (length (now indexes) ≡ 64) × (Ready grid (now table) (now lows) (now highs)) × (Opennesses (now first)) × (Opennesses (now second)) × (Upto binary32 3 (gains .first)) × (Upto binary32 3 (gains .second)) × (span .«last_bin» ≤ grid .«last_bin») × (Within lobes count (span .«first_bin») (span .«last_bin»)) ⌝ }
+    ensures { λ _. ⌜ (now (first .exit) ≡ mapAt (lobesJoined grid (lent (now (table .entry))) (gains .first) (take count lobes)) (now (first .entry))) × (now (second .exit) ≡ mapAt (lobesJoined grid (lent (now (table .entry))) (gains .second) (take count lobes)) (now (second .entry))) ⌝ }
+{
+    let mut row = [0.0f32; 64];
+    let mut scratch = [0.0f32; 64];
+    let mut bounds = [0.0f32; 24];
+    let mut centers = [0.0f32; 24];
+    let mut strengths = [0.0f32; 24];
+    let mut peaks = [0.0f32; 24];
+    columns_of(&mut centers, &mut strengths, &mut peaks, lobes, count);
+    raise_blocks(
+        first,
+        second,
+        &mut row,
+        chunk,
+        indexes,
+        &mut scratch,
+        &mut bounds,
+        gaussians,
+        table,
+        lows,
+        highs,
+        &centers,
+        &strengths,
+        &peaks,
+        grid,
+        lobes,
+        count,
+        gains,
+        span,
+    );
+}
+
+// Raises the partials of a tone together, where there are two and that costs less than raising each, and answers whether it did.
+pub fn rasterize_compact_harmonic_envelope(
+    first: &mut [f32],
+    second: &mut [f32],
+    chunk: &mut [f32],
+    indexes: &mut [u32],
+    gaussians: &GaussianTable,
+    table: &[f32],
+    lows: &[f32],
+    highs: &[f32],
+    grid: Grid,
+    lobes: [Lobe; 24],
+    count: usize,
+    gains: Gains,
+    crowded: bool,
+) -> bool
+    requires { ⌜ (now gaussians ≡ gaussianTable) × (SoundLobes grid lobes count) × (count ≤ 24) × (length (now chunk) ≡ 64) × (length (now indexes) ≡ 64) × (Ready grid (now table) (now lows) (now highs)) × (Opennesses (now first)) × (Opennesses (now second)) × (Upto binary32 3 (gains .first)) × (Upto binary32 3 (gains .second)) ⌝ }
+    ensures { λ r. ⌜ (now (first .exit) ≡ cond r (mapAt (lobesJoined grid (lent (now (table .entry))) (gains .first) (take count lobes)) (now (first .entry))) (now (first .entry))) × (now (second .exit) ≡ cond r (mapAt (lobesJoined grid (lent (now (table .entry))) (gains .second) (take count lobes)) (now (second .entry))) (now (second .entry))) ⌝ }
+{
+    if count < 2 {
+        return false;
+    }
+    let span = span_of(lobes, count, grid.last_bin);
+    if 2 * span.plain_cost <= compact_cost(span, crowded) {
+        return false;
+    }
+    walk(
+        first,
+        second,
+        chunk,
+        indexes,
+        gaussians,
+        table,
+        lows,
+        highs,
+        grid,
+        lobes,
+        count,
+        gains,
+        span,
+    );
+    true
 }
