@@ -110,3 +110,14 @@ pub record SoundScene (grid : Grid) (voices : List MaskVoice) (table : List Floa
   pub grid-real : RealGrid grid
   pub voices-real : All RealVoice voices
   pub table-real : RealTable table
+
+-- what stands ready where a tone, a voice or voices may be raised by the walk: the ends of the table's blocks, rows of 64, and sides that hold opennesses
+pub record SidesReady (grid : Grid) (table lows highs first second : List Float) : Type 0 where
+  pub ready : Ready grid table lows highs
+  pub first-open : Opennesses first
+  pub second-open : Opennesses second
+
+pub record ToneReady (grid : Grid) (tone : Tone) (gain₁ gain₂ : Float) (table : List Float) : Type 0 where
+  pub sound : SoundTone grid table tone
+  pub first-gain : Upto binary32 3 gain₁
+  pub second-gain : Upto binary32 3 gain₂

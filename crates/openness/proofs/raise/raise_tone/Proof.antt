@@ -1,5 +1,14 @@
--- `raise_tone` joins the lobes of the partials to both sides, which is joining the tone. Assumes nothing.
+-- `raise_tone` raises the lobes of the partials together or one after the other; either way that is joining the tone. Assumes nothing.
+use mathlib.Core.Path.{_≡_, sym, ap, _∙_, subst}
+use mathlib.Core.Bool.{Bool}
+use mathlib.Core.List.{List}
 use native.Mathlib.Omega.{arith}
+use lib.ListN.{take}
+use lib.Ieee.{Float}
+use Rattle.lists.specs.Maps.{mapAt}
+use Rattle.lobes.specs.Distance.{lent, logsOf}
+use Rattle.openness.specs.Openness.{toneJoined}
+use Rattle.openness.specs.Compact.{lobesOf, lobesJoined}
 use Rattle.openness.proofs.ToneLobes.{known-lobes, tone-raised}
 use borrow.Author.Needs.{needs}
 use Rattle.openness.proofs.raise.raise_tone.Statement.{statement}
@@ -11,19 +20,20 @@ partials-of-requires c κs = search needs
 lobes-of-requires : tie.Need-lobes-of-requires
 lobes-of-requires c κs = search needs
 
-raise-lobes-requires : tie.Need-raise-lobes-requires
-raise-lobes-requires c κs =
+raised-together-requires : tie.Need-raised-together-requires
+raised-together-requires c κs =
     let o = c .before .before .before .before in
     let n = o .before in
-    let s = n .before .before .before .before .before .before in (
-      s .pre .0,
+    let s = n .before .before .before .before .before .before .before .before in
+    let of = o .lobes-of .ensures .0 in (
       s .pre .2,
+      omega (arith, s .pre .5, n .partials-of .ensures .1),
       s .pre .3,
       s .pre .4,
-      omega (arith, s .pre .5, n .partials-of .ensures .1),
-      s .pre .6,
-      s .pre .7,
-      known-lobes (s .args .grid) _ (s .args .tone) (o .lobes-of .result) (n .partials-of .result) (n .partials-of .ensures .0) (o .lobes-of .ensures .0),
+      λ e.
+          let k = s .pre .8 e in
+          (k .2 .sound (o .lobes-of .result) (n .partials-of .result) (n .partials-of .ensures .0)
+          (subst (λ (b : Bool). take (n .partials-of .result) (o .lobes-of .result) ≡ lobesOf (s .args .grid) (logsOf b (s .args .table .now)) (s .args .tone)) (k .0) of), k .1, k .2 .first-gain, k .2 .second-gain),
     )
 
 same-length : tie.Need-same-length
@@ -40,12 +50,63 @@ same-length-4 c = search needs
 
 returns : tie.Need-returns
 returns c =
-    let r = c .before .before .before .before .before .before .before .before in
+    let r = c .before .before .before .before .before .before .before .before .before in
     let o = r .before .before .before .before .before in
     let n = o .before in
-    let s = n .before .before .before .before .before .before in (
-      tone-raised (s .args .grid) _ (s .args .tone) _ (n .partials-of .result) (o .lobes-of .result) (o .lobes-of .ensures .0) _ (r .raise-lobes .ensures .0),
-      tone-raised (s .args .grid) _ (s .args .tone) _ (n .partials-of .result) (o .lobes-of .result) (o .lobes-of .ensures .0) _ (r .raise-lobes .ensures .1),
+    let s = n .before .before .before .before .before .before .before .before in
+    let k = s .pre .8 (r .raised-together .ensures .0 (c .if1 .taken)) in
+    let first = rw (c .if1 .taken) at (r .raised-together .ensures .1) in
+    let second = rw (c .if1 .taken) at (r .raised-together .ensures .2) in
+    let of = subst (λ (b : Bool). take (n .partials-of .result) (o .lobes-of .result) ≡ lobesOf (s .args .grid) (logsOf b (s .args .table .now)) (s .args .tone)) (k .0) (o .lobes-of .ensures .0) in
+    rw (k .0) (
+      tone-raised (s .args .grid) (lent (s .args .table .now)) (s .args .tone) _ (n .partials-of .result) (o .lobes-of .result) of (s .args .first .now) first,
+      tone-raised (s .args .grid) (lent (s .args .table .now)) (s .args .tone) _ (n .partials-of .result) (o .lobes-of .result) of (s .args .second .now) second,
+    )
+
+raise-lobes-requires : tie.Need-raise-lobes-requires
+raise-lobes-requires c κs =
+    let r = c .before .before .before .before .before .before .before .before .before .before .before .before .before in
+    let o = r .before .before .before .before .before in
+    let n = o .before in
+    let s = n .before .before .before .before .before .before .before .before in (
+      s .pre .0,
+      s .pre .2,
+      omega (arith, r .raised-together .kept .1 .1 .0, s .pre .3),
+      omega (arith, r .raised-together .kept .1 .1 .0, r .raised-together .kept .1 .1 .1, s .pre .3, s .pre .4),
+      omega (arith, s .pre .5, n .partials-of .ensures .1),
+      s .pre .6,
+      s .pre .7,
+      known-lobes (s .args .grid) _ (s .args .tone) (o .lobes-of .result) (n .partials-of .result) (n .partials-of .ensures .0) (o .lobes-of .ensures .0),
+    )
+
+same-length-5 : tie.Need-same-length-5
+same-length-5 c = search needs
+
+same-length-6 : tie.Need-same-length-6
+same-length-6 c = search needs
+
+same-length-7 : tie.Need-same-length-7
+same-length-7 c = search needs
+
+same-length-8 : tie.Need-same-length-8
+same-length-8 c = search needs
+
+returns-2 : tie.Need-returns-2
+returns-2 c =
+    let w = c .before .before .before .before .before .before .before .before in
+    let e = w .before .before .before .before .before in
+    let r = e .before .before .before .before .before .before .before .before .before in
+    let o = r .before .before .before .before .before in
+    let n = o .before in
+    let s = n .before .before .before .before .before .before .before .before in
+    let logs = logsOf (s .args .tabled) (s .args .table .now) in
+    let lobes = take (n .partials-of .result) (o .lobes-of .result) in
+    let first = rw (e .if1 .left) at (r .raised-together .ensures .1) in
+    let second = rw (e .if1 .left) at (r .raised-together .ensures .2) in (
+      tone-raised (s .args .grid) logs (s .args .tone) _ (n .partials-of .result) (o .lobes-of .result) (o .lobes-of .ensures .0) (s .args .first .now)
+          (w .raise-lobes .ensures .0 ∙ ap (λ (xs : List Float). mapAt (lobesJoined (s .args .grid) logs (s .args .gains .first) lobes) xs) first),
+      tone-raised (s .args .grid) logs (s .args .tone) _ (n .partials-of .result) (o .lobes-of .result) (o .lobes-of .ensures .0) (s .args .second .now)
+          (w .raise-lobes .ensures .1 ∙ ap (λ (xs : List Float). mapAt (lobesJoined (s .args .grid) logs (s .args .gains .second) lobes) xs) second),
     )
 
 pub raise-tone-spec : {M : Type 1} → statement M
@@ -54,9 +115,15 @@ raise-tone-spec =
     (tie.spec
     partials-of-requires
     lobes-of-requires
-    raise-lobes-requires
+    raised-together-requires
     same-length
     same-length-2
     same-length-3
     same-length-4
-    returns)
+    returns
+    raise-lobes-requires
+    same-length-5
+    same-length-6
+    same-length-7
+    same-length-8
+    returns-2)
