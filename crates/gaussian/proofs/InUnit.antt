@@ -14,6 +14,7 @@ use Rattle.float_laws.specs.Order as order
 use Rattle.float_laws.specs.Round.{plus-zero}
 use Rattle.float_laws.specs.Mono.{sizes}
 use Rattle.float_laws.specs.Inf.{mul-by, mul-by-number}
+use Rattle.float_laws.specs.Bounds as bounds
 use Rattle.float_laws.specs.Bounds.{real-between}
 use Rattle.float_laws.specs.Range.{toward, toward-lower-nonneg, toward-lower-most, toward-lower-real}
 use Rattle.float_laws.specs.Rise.{Upto}
@@ -68,18 +69,36 @@ module _ (place : Float) (w : Place place) where
   unfolding between
   line = rw (min-eq-left left-most) refl
 
+  left-upto : Upto binary32 0 (G left)
+  left-upto = G-upto left left-most
+
+  right-upto : Upto binary32 0 (G right)
+  right-upto = G-upto right (omega arith)
+
+  fraction-low : T (le plus-zero fraction)
+  fraction-low = fraction-nonneg binary32 place (w .is-real) (w .low) small room
+
+  fraction-high : T (le fraction bounds.one)
+  fraction-high = fraction-at-most-one binary32 place (w .is-real) (w .low) small room
+
+  most : T (le (toward binary32 (G left) (G right) fraction) (G left))
+  most =
+      toward-lower-most binary32 (G left) (G right) fraction (left-upto .is-real) (right-upto .is-real) (fraction-real binary32 place (w .is-real) (w .low) small room)
+      (right-upto .low) (right-falls left left-most) fraction-low fraction-high
+
   upto : Upto binary32 0 (toward binary32 (G left) (G right) fraction)
   upto =
-      let a = G-upto left left-most in
-      let b = G-upto right (omega arith) in
-      let t0 = fraction-nonneg binary32 place (w .is-real) (w .low) small room in
-      let t1 = fraction-at-most-one binary32 place (w .is-real) (w .low) small room in
+      let a = left-upto in
+      let b = right-upto in
       let t = fraction-real binary32 place (w .is-real) (w .low) small room in
       let falls = right-falls left left-most in
-      let r = toward-lower-real binary32 (G left) (G right) fraction (a .is-real) (b .is-real) t (b .low) falls t0 t1 in
-      let l = toward-lower-nonneg binary32 (G left) (G right) fraction (a .is-real) (b .is-real) t (b .low) falls t0 t1 in
-      let h = toward-lower-most binary32 (G left) (G right) fraction (a .is-real) (b .is-real) t (b .low) falls t0 t1 in
-      record { is-real = r; low = l; high = le-trans (sizes binary32 (toward binary32 (G left) (G right) fraction) (G left) r (a .is-real) l h .0) (a .high) }
+      let r = toward-lower-real binary32 (G left) (G right) fraction (a .is-real) (b .is-real) t (b .low) falls fraction-low fraction-high in
+      let l = toward-lower-nonneg binary32 (G left) (G right) fraction (a .is-real) (b .is-real) t (b .low) falls fraction-low fraction-high in
+      record { is-real = r; low = l; high = le-trans (sizes binary32 (toward binary32 (G left) (G right) fraction) (G left) r (a .is-real) l most .0) (a .high) }
+
+  -- never above the entry on its left
+  pub between-at-most : T (le (between place) (G left))
+  between-at-most = subst (λ (x : Float). T (le x (G left))) (sym line) most
 
   pub between-in-unit : Upto binary32 0 (between place)
   between-in-unit = subst (Upto binary32 0) (sym line) upto

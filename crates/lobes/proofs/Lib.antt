@@ -7,3 +7,6 @@ pub mod Channels
 pub mod Harmonics
 pub mod Raised
 pub mod ZeroSigns
+pub mod Columns
+pub mod Nearest
+pub mod Bounded

@@ -4,3 +4,4 @@ pub mod Tone
 pub mod Distance
 pub mod Peak
 pub mod Lobe
+pub mod Bound

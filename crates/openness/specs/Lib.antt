@@ -1,3 +1,4 @@
 pub mod Stages
 pub mod Sides
 pub mod Openness
+pub mod Compact

@@ -12,7 +12,7 @@ ghost use Rattle.power.specs.Table.{powerTable};
 ghost use Rattle.power.specs.Log.{L2};
 ghost use Rattle.gaussian.specs.Table.{gaussianTable};
 ghost use Rattle.gaussian.specs.Bell.{Place, indexOf, partOf, line, between};
-ghost use Rattle.lobes.specs.Distance.{none, logsOf, inWidths};
+ghost use Rattle.lobes.specs.Distance.{lent, none, logsOf, inWidths};
 ghost use Rattle.lobes.specs.Lobe.{opening};
 ghost use Rattle.openness.specs.Stages.{relativeTo, placeOf, openedBy};
 use gaussian::GaussianTable;
@@ -156,7 +156,35 @@ fn openings_by_frequency(
     }
 }
 
-// What the lobe opens at the bins from `start` on: by the table where one was lent.
+// What the lobe opens at the bins from `start` on, by the table.
+pub fn openings_by_table(
+    chunk: &mut [f32],
+    indexes: &mut [u32],
+    gaussians: &GaussianTable,
+    table: &[f32],
+    grid: Grid,
+    lobe: Lobe,
+    start: usize,
+    count: usize,
+)
+    requires { ⌜ (now gaussians ≡ gaussianTable) × (lobe .«center_log2» ≡ L2 (lobe .center)) × (count ≤ length (now chunk)) × (count ≤ length (now indexes)) × (start + count ≤ length (now table)) ⌝ }
+    ensures { λ _. ⌜ now (chunk .exit) ≡ mapRange (λ k held. opening grid (lent (now (table .entry))) lobe (start + k)) 0 count (now (chunk .entry)) ⌝ }
+{
+    bells(
+        chunk,
+        indexes,
+        gaussians,
+        table,
+        start,
+        count,
+        lobe.center_log2,
+        grid.width,
+        lobe.peak_squared,
+    );
+    openings_of_bells(chunk, count, lobe.strength);
+}
+
+// By the table where one was lent.
 pub fn openings(
     chunk: &mut [f32],
     indexes: &mut [u32],
@@ -173,18 +201,7 @@ pub fn openings(
     ensures { λ _. ⌜ now (chunk .exit) ≡ mapRange (λ k held. opening grid (logsOf tabled (now (table .entry))) lobe (start + k)) 0 count (now (chunk .entry)) ⌝ }
 {
     if tabled {
-        bells(
-            chunk,
-            indexes,
-            gaussians,
-            table,
-            start,
-            count,
-            lobe.center_log2,
-            grid.width,
-            lobe.peak_squared,
-        );
-        openings_of_bells(chunk, count, lobe.strength);
+        openings_by_table(chunk, indexes, gaussians, table, grid, lobe, start, count);
         return;
     }
     openings_by_frequency(chunk, powers, grid, lobe, start, count);

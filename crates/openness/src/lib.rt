@@ -9,7 +9,11 @@ ghost use Rattle.sine.specs.Table.{sineTable};
 ghost use Rattle.gaussian.specs.Table.{gaussianTable};
 ghost use Rattle.lobes.specs.Pan as side;
 ghost use Rattle.lobes.specs.Distance.{lent, logsOf};
+ghost use Rattle.blocks.specs.Ends.{Ends};
 ghost use Rattle.openness.specs.Openness.{openness};
+ghost use Rattle.openness.specs.Compact.{RealTable, SoundScene};
+use blocks::block_ends;
+use columns::block_walk_pays;
 use gaussian::GaussianTable;
 use lobes::Grid;
 use lobes::octaves::partial_octaves;
@@ -20,12 +24,39 @@ use slices::fill;
 use voices::raise_voices;
 
 pub mod chunk;
+pub mod columns;
+pub mod compact;
 pub mod joins;
+pub mod most;
 pub mod raise;
+pub mod tone_lobes;
 pub mod voices;
 
 // So many bins are worked out at a time: enough for a loop over them to pay, and few enough to stay close at hand.
 const CHUNK: usize = 64;
+
+// The blocks of the largest mask.
+const BLOCKS: usize = 128;
+
+// The ends of the table's blocks, where the walk by blocks may be taken.
+fn ends_where(compact: bool, lows: &mut [f32], highs: &mut [f32], row: &mut [f32], table: &[f32])
+    requires { ⌜ (length (now row) ≡ 64) × (length (now lows) ≡ 128) × (length (now highs) ≡ 128) × (compact ≡ true → (length (now table) ≤ 8193) × (RealTable (now table))) ⌝ }
+    ensures { λ _. ⌜ (compact ≡ true → Ends (now (table .entry)) (now (lows .exit)) (now (highs .exit))) ⌝ }
+{
+    if compact {
+        block_ends(lows, highs, row, table);
+    }
+}
+
+// Whether the walk by blocks may be taken: only with a table.
+fn walks(tabled: bool, grid: Grid) -> bool
+    ensures { λ r. ⌜ (r ≡ true → tabled ≡ true) ⌝ }
+{
+    if tabled {
+        return block_walk_pays(grid);
+    }
+    false
+}
 
 // One mask for both sides.
 pub fn open_one(
@@ -39,15 +70,19 @@ pub fn open_one(
     count: usize,
     grid: Grid,
 )
-    requires { ⌜ (now powers ≡ powerTable) × (now sines ≡ sineTable) × (now gaussians ≡ gaussianTable) × (grid .partials ≤ 24) × (grid .«last_bin» ≤ 2 ^ 24) × (tabled ≡ true → grid .«last_bin» < length (now table)) × (count ≤ 128) ⌝ }
+    requires { ⌜ (now powers ≡ powerTable) × (now sines ≡ sineTable) × (now gaussians ≡ gaussianTable) × (grid .partials ≤ 24) × (grid .«last_bin» ≤ 2 ^ 24) × (tabled ≡ true → grid .«last_bin» < length (now table)) × (count ≤ 128) × (tabled ≡ true → SoundScene grid (take count voices) (now table)) ⌝ }
     ensures { λ _. ⌜ now (out .exit) ≡ tabulate (length (now (out .entry))) (openness grid (logsOf tabled (now (table .entry))) side.mono (take count voices)) ⌝ }
 {
     // There is no second side: no lobe reaches bin 0.
     let mut nothing = [0.0f32; 1];
     let mut chunk = [0.0f32; CHUNK];
     let mut indexes = [0u32; CHUNK];
+    let mut lows = [0.0f32; BLOCKS];
+    let mut highs = [0.0f32; BLOCKS];
     let octaves = partial_octaves();
+    let compact = walks(tabled, grid);
     fill(out, 0.0);
+    ends_where(compact, &mut lows, &mut highs, &mut chunk, table);
     raise_voices(
         out,
         &mut nothing,
@@ -59,6 +94,9 @@ pub fn open_one(
         gaussians,
         tabled,
         table,
+        &lows,
+        &highs,
+        compact,
         false,
         grid,
         voices,
@@ -78,14 +116,18 @@ pub fn open_two(
     count: usize,
     grid: Grid,
 )
-    requires { ⌜ (now powers ≡ powerTable) × (now sines ≡ sineTable) × (now gaussians ≡ gaussianTable) × (grid .partials ≤ 24) × (grid .«last_bin» ≤ 2 ^ 24) × (grid .«last_bin» < length (now table)) × (count ≤ 128) ⌝ }
+    requires { ⌜ (now powers ≡ powerTable) × (now sines ≡ sineTable) × (now gaussians ≡ gaussianTable) × (grid .partials ≤ 24) × (grid .«last_bin» ≤ 2 ^ 24) × (grid .«last_bin» < length (now table)) × (count ≤ 128) × (SoundScene grid (take count voices) (now table)) ⌝ }
     ensures { λ _. ⌜ (now (left .exit) ≡ tabulate (length (now (left .entry))) (openness grid (lent (now (table .entry))) side.left (take count voices))) × (now (right .exit) ≡ tabulate (length (now (right .entry))) (openness grid (lent (now (table .entry))) side.right (take count voices))) ⌝ }
 {
     let mut chunk = [0.0f32; CHUNK];
     let mut indexes = [0u32; CHUNK];
+    let mut lows = [0.0f32; BLOCKS];
+    let mut highs = [0.0f32; BLOCKS];
     let octaves = partial_octaves();
+    let compact = block_walk_pays(grid);
     fill(left, 0.0);
     fill(right, 0.0);
+    ends_where(compact, &mut lows, &mut highs, &mut chunk, table);
     raise_voices(
         left,
         right,
@@ -97,6 +139,9 @@ pub fn open_two(
         gaussians,
         true,
         table,
+        &lows,
+        &highs,
+        compact,
         true,
         grid,
         voices,

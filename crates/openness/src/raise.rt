@@ -1,26 +1,30 @@
 // Both sides of a mask raised together, lobe by lobe: what a lobe opens is worked out once, and joined to each side by that side's gain. Of a mono mask the second side has bin 0
 // alone, which no lobe reaches.
 ghost use mathlib.Core.Path.{_≡_};
-ghost use mathlib.Core.Bool.{true};
-ghost use Prim.Native.Nat.{_^_, _≤_, _<_};
-ghost use lib.ListN.{length};
+ghost use mathlib.Core.Bool.{true, cond};
+ghost use Prim.Native.Nat.{ℕ, _^_, _≤_, _<_};
+ghost use lib.ListN.{length, getD, take};
+ghost use lib.Ieee.{binary32};
 ghost use Rattle.lists.specs.Maps.{mapAt};
+ghost use Rattle.float_laws.specs.Rise.{Upto};
 ghost use Rattle.power.specs.Table.{powerTable};
 ghost use Rattle.power.specs.Log.{L2};
 ghost use Rattle.gaussian.specs.Table.{gaussianTable};
 ghost use Rattle.lobes.specs.Tone.{partialOctaves};
-ghost use Rattle.lobes.specs.Distance.{logsOf};
+ghost use Rattle.lobes.specs.Distance.{lent, logsOf};
 ghost use Rattle.openness.specs.Openness.{lobeJoined, toneJoined};
+ghost use Rattle.openness.specs.Compact.{noLobe, lobesJoined, SoundLobes, SidesReady, ToneReady};
 use crate::chunk::openings;
+use crate::compact::rasterize_compact_harmonic_envelope;
 use crate::joins::join;
+use crate::tone_lobes::lobes_of;
+use crate::tone_lobes::partials_of;
 use float32::counts::lesser;
 use gaussian::GaussianTable;
 use lobes::Grid;
 use lobes::Lobe;
 use lobes::Tone;
 use lobes::octaves::PartialOctaves;
-use lobes::reach::lobe_of;
-use lobes::tones::center_of;
 use power::table::PowerTable;
 
 // A voice's gain on each side.
@@ -69,30 +73,27 @@ fn raise_lobe(
     }
 }
 
-// The partials of a tone, up to the first above nyquist.
-pub fn raise_tone(
+// The plain way: the first `count` lobes, one after the other.
+fn raise_lobes(
     first: &mut [f32],
     second: &mut [f32],
     chunk: &mut [f32],
     indexes: &mut [u32],
     powers: &PowerTable,
-    octaves: &PartialOctaves,
     gaussians: &GaussianTable,
     tabled: bool,
     table: &[f32],
     grid: Grid,
-    tone: Tone,
+    lobes: [Lobe; 24],
+    count: usize,
     gains: Gains,
 )
-    requires { ⌜ (now powers ≡ powerTable) × (now octaves ≡ partialOctaves) × (now gaussians ≡ gaussianTable) × (0 < length (now chunk)) × (length (now chunk) ≤ length (now indexes)) × (grid .partials ≤ 24) × (grid .«last_bin» ≤ 2 ^ 24) × (tabled ≡ true → grid .«last_bin» < length (now table)) ⌝ }
-    ensures { λ _. ⌜ (now (first .exit) ≡ mapAt (toneJoined grid (logsOf tabled (now (table .entry))) (gains .first) tone) (now (first .entry))) × (now (second .exit) ≡ mapAt (toneJoined grid (logsOf tabled (now (table .entry))) (gains .second) tone) (now (second .entry))) ⌝ }
+    requires { ⌜ (now powers ≡ powerTable) × (now gaussians ≡ gaussianTable) × (0 < length (now chunk)) × (length (now chunk) ≤ length (now indexes)) × (count ≤ 24) × (grid .«last_bin» ≤ 2 ^ 24) × (tabled ≡ true → grid .«last_bin» < length (now table)) × ((p : ℕ) → p < count → (getD lobes p noLobe .«center_log2» ≡ L2 (getD lobes p noLobe .center)) × (getD lobes p noLobe .«last_bin» ≤ grid .«last_bin»)) ⌝ }
+    ensures { λ _. ⌜ (now (first .exit) ≡ mapAt (lobesJoined grid (logsOf tabled (now (table .entry))) (gains .first) (take count lobes)) (now (first .entry))) × (now (second .exit) ≡ mapAt (lobesJoined grid (logsOf tabled (now (table .entry))) (gains .second) (take count lobes)) (now (second .entry))) ⌝ }
 {
-    let mut partial: usize = 1;
-    while partial <= grid.partials {
-        if grid.nyquist < center_of(tone, partial) {
-            return;
-        }
-        let lobe = lobe_of(powers, octaves, tabled, table, grid, tone, partial);
+    let mut p: usize = 0;
+    while p < count {
+        let lobe = lobes[p];
         raise_lobe(
             first,
             second,
@@ -106,6 +107,104 @@ pub fn raise_tone(
             lobe,
             gains,
         );
-        partial += 1;
+        p += 1;
     }
+}
+
+// The lobes together, where a caller says that this can pay; answers whether it was done.
+fn raised_together(
+    first: &mut [f32],
+    second: &mut [f32],
+    chunk: &mut [f32],
+    indexes: &mut [u32],
+    gaussians: &GaussianTable,
+    table: &[f32],
+    lows: &[f32],
+    highs: &[f32],
+    compact: bool,
+    crowded: bool,
+    grid: Grid,
+    lobes: [Lobe; 24],
+    count: usize,
+    gains: Gains,
+) -> bool
+    requires { ⌜ (now gaussians ≡ gaussianTable) × (count ≤ 24) × (length (now chunk) ≡ 64) × (length (now indexes) ≡ 64) × (compact ≡ true → (SoundLobes grid lobes count) × (SidesReady grid (now table) (now lows) (now highs) (now first) (now second)) × (Upto binary32 3 (gains .first)) × (Upto binary32 3 (gains .second))) ⌝ }
+    ensures { λ r. ⌜ (r ≡ true → compact ≡ true) × (now (first .exit) ≡ cond r (mapAt (lobesJoined grid (lent (now (table .entry))) (gains .first) (take count lobes)) (now (first .entry))) (now (first .entry))) × (now (second .exit) ≡ cond r (mapAt (lobesJoined grid (lent (now (table .entry))) (gains .second) (take count lobes)) (now (second .entry))) (now (second .entry))) ⌝ }
+{
+    if compact {
+        return rasterize_compact_harmonic_envelope(
+            first,
+            second,
+            chunk,
+            indexes,
+            gaussians,
+            table,
+            lows,
+            highs,
+            grid,
+            lobes,
+            count,
+            gains,
+            crowded,
+        );
+    }
+    false
+}
+
+// The partials of a tone, up to the first above nyquist.
+pub fn raise_tone(
+    first: &mut [f32],
+    second: &mut [f32],
+    chunk: &mut [f32],
+    indexes: &mut [u32],
+    powers: &PowerTable,
+    octaves: &PartialOctaves,
+    gaussians: &GaussianTable,
+    tabled: bool,
+    table: &[f32],
+    lows: &[f32],
+    highs: &[f32],
+    compact: bool,
+    crowded: bool,
+    grid: Grid,
+    tone: Tone,
+    gains: Gains,
+)
+    requires { ⌜ (now powers ≡ powerTable) × (now octaves ≡ partialOctaves) × (now gaussians ≡ gaussianTable) × (length (now chunk) ≡ 64) × (length (now indexes) ≡ 64) × (grid .partials ≤ 24) × (grid .«last_bin» ≤ 2 ^ 24) × (tabled ≡ true → grid .«last_bin» < length (now table)) × (compact ≡ true → (tabled ≡ true) × (SidesReady grid (now table) (now lows) (now highs) (now first) (now second)) × (ToneReady grid tone (gains .first) (gains .second) (now table))) ⌝ }
+    ensures { λ _. ⌜ (now (first .exit) ≡ mapAt (toneJoined grid (logsOf tabled (now (table .entry))) (gains .first) tone) (now (first .entry))) × (now (second .exit) ≡ mapAt (toneJoined grid (logsOf tabled (now (table .entry))) (gains .second) tone) (now (second .entry))) ⌝ }
+{
+    let count = partials_of(grid, tone);
+    let lobes = lobes_of(powers, octaves, tabled, table, grid, tone, count);
+    if raised_together(
+        first,
+        second,
+        chunk,
+        indexes,
+        gaussians,
+        table,
+        lows,
+        highs,
+        compact,
+        crowded,
+        grid,
+        lobes,
+        count,
+        gains,
+    ) {
+        return;
+    }
+    raise_lobes(
+        first,
+        second,
+        chunk,
+        indexes,
+        powers,
+        gaussians,
+        tabled,
+        table,
+        grid,
+        lobes,
+        count,
+        gains,
+    );
 }

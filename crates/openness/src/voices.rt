@@ -5,6 +5,8 @@ ghost use Prim.Native.Nat.{_^_, _≤_, _<_};
 ghost use lib.ListN.{length, take};
 ghost use Rattle.lists.specs.Folds.{fold};
 ghost use Rattle.lists.specs.Maps.{mapAt};
+ghost use Rattle.lists.specs.Totals.{All};
+ghost use Rattle.scene.proofs.Voices.{RealVoice};
 ghost use Rattle.power.specs.Table.{powerTable};
 ghost use Rattle.sine.specs.Table.{sineTable};
 ghost use Rattle.gaussian.specs.Table.{gaussianTable};
@@ -13,6 +15,7 @@ ghost use Rattle.lobes.specs.Tone.{partialOctaves};
 ghost use Rattle.lobes.specs.Distance.{logsOf};
 ghost use Rattle.openness.specs.Sides.{firstSide, secondSide};
 ghost use Rattle.openness.specs.Openness.{voiceJoined};
+ghost use Rattle.openness.specs.Compact.{RealGrid, SidesReady};
 use crate::raise::Gains;
 use crate::raise::raise_tone;
 use gaussian::GaussianTable;
@@ -28,6 +31,9 @@ use sine::table::SineTable;
 
 // A voice at this level or below does nothing.
 pub const SKIPPED_LEVEL: f32 = 0.00001;
+
+// From so many voices on most blocks are full before the last of them is raised.
+const CROWD: usize = 16;
 
 fn gains_of(sines: &SineTable, stereo: bool, voice: MaskVoice) -> Gains
     requires { ⌜ now sines ≡ sineTable ⌝ }
@@ -57,11 +63,15 @@ fn raise_voice(
     gaussians: &GaussianTable,
     tabled: bool,
     table: &[f32],
+    lows: &[f32],
+    highs: &[f32],
+    compact: bool,
+    crowded: bool,
     stereo: bool,
     grid: Grid,
     voice: MaskVoice,
 )
-    requires { ⌜ (now powers ≡ powerTable) × (now octaves ≡ partialOctaves) × (now sines ≡ sineTable) × (now gaussians ≡ gaussianTable) × (0 < length (now chunk)) × (length (now chunk) ≤ length (now indexes)) × (grid .partials ≤ 24) × (grid .«last_bin» ≤ 2 ^ 24) × (tabled ≡ true → grid .«last_bin» < length (now table)) ⌝ }
+    requires { ⌜ (now powers ≡ powerTable) × (now octaves ≡ partialOctaves) × (now sines ≡ sineTable) × (now gaussians ≡ gaussianTable) × (length (now chunk) ≡ 64) × (length (now indexes) ≡ 64) × (grid .partials ≤ 24) × (grid .«last_bin» ≤ 2 ^ 24) × (tabled ≡ true → grid .«last_bin» < length (now table)) × (compact ≡ true → (tabled ≡ true) × (SidesReady grid (now table) (now lows) (now highs) (now first) (now second)) × (RealGrid grid) × (RealVoice voice)) ⌝ }
     ensures { λ _. ⌜ (now (first .exit) ≡ mapAt (λ bin held. voiceJoined grid (logsOf tabled (now (table .entry))) (channelGain (firstSide stereo)) bin held voice) (now (first .entry))) × (now (second .exit) ≡ mapAt (λ bin held. voiceJoined grid (logsOf tabled (now (table .entry))) (channelGain (secondSide stereo)) bin held voice) (now (second .entry))) ⌝ }
 {
     if voice.level <= SKIPPED_LEVEL {
@@ -79,6 +89,10 @@ fn raise_voice(
         gaussians,
         tabled,
         table,
+        lows,
+        highs,
+        compact,
+        crowded,
         grid,
         tone,
         gains,
@@ -96,12 +110,15 @@ pub fn raise_voices(
     gaussians: &GaussianTable,
     tabled: bool,
     table: &[f32],
+    lows: &[f32],
+    highs: &[f32],
+    compact: bool,
     stereo: bool,
     grid: Grid,
     voices: [MaskVoice; 128],
     count: usize,
 )
-    requires { ⌜ (now powers ≡ powerTable) × (now octaves ≡ partialOctaves) × (now sines ≡ sineTable) × (now gaussians ≡ gaussianTable) × (0 < length (now chunk)) × (length (now chunk) ≤ length (now indexes)) × (grid .partials ≤ 24) × (grid .«last_bin» ≤ 2 ^ 24) × (tabled ≡ true → grid .«last_bin» < length (now table)) × (count ≤ 128) ⌝ }
+    requires { ⌜ (now powers ≡ powerTable) × (now octaves ≡ partialOctaves) × (now sines ≡ sineTable) × (now gaussians ≡ gaussianTable) × (length (now chunk) ≡ 64) × (length (now indexes) ≡ 64) × (grid .partials ≤ 24) × (grid .«last_bin» ≤ 2 ^ 24) × (tabled ≡ true → grid .«last_bin» < length (now table)) × (count ≤ 128) × (compact ≡ true → (tabled ≡ true) × (SidesReady grid (now table) (now lows) (now highs) (now first) (now second)) × (RealGrid grid) × (All RealVoice (take count voices))) ⌝ }
     ensures { λ _. ⌜ (now (first .exit) ≡ mapAt (λ bin held. fold (voiceJoined grid (logsOf tabled (now (table .entry))) (channelGain (firstSide stereo)) bin) held (take count voices)) (now (first .entry))) × (now (second .exit) ≡ mapAt (λ bin held. fold (voiceJoined grid (logsOf tabled (now (table .entry))) (channelGain (secondSide stereo)) bin) held (take count voices)) (now (second .entry))) ⌝ }
 {
     let mut index: usize = 0;
@@ -118,6 +135,10 @@ pub fn raise_voices(
             gaussians,
             tabled,
             table,
+            lows,
+            highs,
+            compact,
+            CROWD < count,
             stereo,
             grid,
             voice,

@@ -1,17 +1,12 @@
--- `openings` is the bells and what the lobe opens under them, where a table was lent, and else each bin by its frequency. Assumes nothing.
-use mathlib.Core.Path.{_∙_}
-use Rattle.openness.proofs.Staged.{staged}
+-- `openings` goes by the table where one was lent, and else each bin by its frequency. Assumes nothing.
 use borrow.Author.Needs.{needs}
 use Rattle.openness.proofs.chunk.openings.Statement.{statement}
 use Rattle.openness.proofs.chunk.openings.Tie as tie
 
-bells-requires : tie.Need-bells-requires
-bells-requires c κs =
+openings-by-table-requires : tie.Need-openings-by-table-requires
+openings-by-table-requires c κs =
     let s = c .before .before .before .before .before .before in
-    (s .pre .1, s .pre .3, s .pre .4, s .pre .6 (c .before .before .if1 .taken))
-
-openings-of-bells-requires : tie.Need-openings-of-bells-requires
-openings-of-bells-requires c κs = search needs
+    (s .pre .1, s .pre .2, s .pre .3, s .pre .4, s .pre .6 (c .before .before .if1 .taken))
 
 same-length : tie.Need-same-length
 same-length c = search needs
@@ -20,11 +15,7 @@ same-length-2 : tie.Need-same-length-2
 same-length-2 c = search needs
 
 returns : tie.Need-returns
-returns c =
-    let p = c .before .before .before .before .before .before .before .before in
-    let s = p .before .before .before .before .before .before .before in
-    let e = rw (p .bells .ensures) at (c .before .before .openings-of-bells .ensures) in
-    rw (p .before .before .before .if1 .taken) (e ∙ staged (s .args .grid) (s .args .lobe) (s .args .table .now) (s .args .lobe .«center_log2») (s .args .start) (s .args .count) (s .pre .2) (s .args .chunk .now))
+returns c = rw (c .before .before .before .before .before .before .before .if1 .taken) (c .before .before .before .before .openings-by-table .ensures)
 
 openings-by-frequency-requires : tie.Need-openings-by-frequency-requires
 openings-by-frequency-requires c κs = search needs
@@ -39,8 +30,7 @@ pub openings-spec : {M : Type 1} → statement M
 openings-spec =
     tie.close
     (tie.spec
-    bells-requires
-    openings-of-bells-requires
+    openings-by-table-requires
     same-length
     same-length-2
     returns

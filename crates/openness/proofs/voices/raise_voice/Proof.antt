@@ -1,5 +1,7 @@
 -- `raise_voice` leaves both sides as they are where the voice is skipped, and else joins its tone by its gains. Assumes nothing.
+use Rattle.openness.specs.Sides.{firstSide, secondSide}
 use Rattle.openness.proofs.EachVoice.{voice-skipped, voice-joined}
+use Rattle.openness.proofs.ReadyVoices.{tone-ready}
 use borrow.Author.Needs.{needs}
 use Rattle.openness.proofs.voices.raise_voice.Statement.{statement}
 use Rattle.openness.proofs.voices.raise_voice.Tie as tie
@@ -14,7 +16,22 @@ gains-of-requires : tie.Need-gains-of-requires
 gains-of-requires c κs = search needs
 
 raise-tone-requires : tie.Need-raise-tone-requires
-raise-tone-requires c κs = search needs
+raise-tone-requires c κs =
+    let g = c .before .before .before .before in
+    let t = g .before in
+    let s = t .before .before .before .before .before .before .before .before .before .before in (
+      s .pre .0,
+      s .pre .1,
+      s .pre .3,
+      s .pre .4,
+      s .pre .5,
+      s .pre .6,
+      s .pre .7,
+      s .pre .8,
+      λ e.
+          let k = s .pre .9 e in
+          (k .0, k .1, tone-ready (s .args .grid) (s .args .table .now) (s .args .voice) (firstSide (s .args .stereo)) (secondSide (s .args .stereo)) (k .2) (k .3) (t .tone-of .ensures) (g .gains-of .ensures .0) (g .gains-of .ensures .1)),
+    )
 
 same-length : tie.Need-same-length
 same-length c = search needs

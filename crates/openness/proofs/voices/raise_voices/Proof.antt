@@ -1,18 +1,26 @@
 -- `raise_voices` joins the voices to both sides: joining those from the one at hand on, to what stands there now, is joining them all to what stood there. Assumes nothing.
-use mathlib.Core.Path.{_≡_, refl, sym, _∙_}
+use mathlib.Core.Path.{_≡_, refl, sym, _∙_, subst}
+use mathlib.Core.Bool.{Bool, true}
+use mathlib.Core.List.{List}
 use Prim.Native.Nat.{_-_, _≤_}
 use native.Mathlib.Omega.{arith}
-use lib.ListN.{length}
+use lib.ListN.{length, getD}
+use lib.Ieee.{Float}
+use Rattle.lists.specs.Maps.{mapAt}
+use Rattle.scene.specs.Accepted.{noVoice}
 use Rattle.lobes.specs.Distance.{logsOf}
 use Rattle.lobes.specs.Pan.{channelGain}
+use Rattle.openness.specs.Openness.{voiceJoined}
+use Rattle.openness.specs.Compact.{Opennesses}
 use Rattle.openness.specs.Sides.{firstSide, secondSide}
 use Rattle.openness.proofs.EachVoice.{voices-from, voices-next, voices-end}
+use Rattle.openness.proofs.ReadyVoices.{voice-open, voice-real}
 use borrow.Author.Needs.{needs}
 use Rattle.openness.proofs.voices.raise_voices.Statement.{statement}
 use Rattle.openness.proofs.voices.raise_voices.Tie as tie
 
 abbrev Inv-loop : tie.InvT-loop
-Inv-loop first₀ second₀ chunk₀ indexes₀ powers octaves sines gaussians tabled table stereo grid count voices index₀ first second chunk indexes index =
+Inv-loop first₀ second₀ chunk₀ indexes₀ powers octaves sines gaussians tabled table lows highs compact stereo grid count voices index₀ first second chunk indexes index =
     (length voices ≡ 128)
     × (length first ≡ length first₀)
     × (length second ≡ length second₀)
@@ -20,13 +28,16 @@ Inv-loop first₀ second₀ chunk₀ indexes₀ powers octaves sines gaussians t
     × (length indexes ≡ length indexes₀)
     × (voices-from grid (logsOf tabled table) (channelGain (firstSide stereo)) voices count index first ≡ voices-from grid (logsOf tabled table) (channelGain (firstSide stereo)) voices count 0 first₀)
     × (voices-from grid (logsOf tabled table) (channelGain (secondSide stereo)) voices count index second ≡ voices-from grid (logsOf tabled table) (channelGain (secondSide stereo)) voices count 0 second₀)
+    × (compact ≡ true → Opennesses first × Opennesses second)
 
 abbrev μ-loop : tie.MeasureT-loop
-μ-loop first₀ second₀ chunk₀ indexes₀ powers octaves sines gaussians tabled table stereo grid count voices index₀ first second chunk indexes index =
+μ-loop first₀ second₀ chunk₀ indexes₀ powers octaves sines gaussians tabled table lows highs compact stereo grid count voices index₀ first second chunk indexes index =
     count - index
 
 loop-holds : tie.Need-loop-holds Inv-loop μ-loop
-loop-holds c = (search needs, refl, refl, refl, refl, refl, refl)
+loop-holds c =
+    let s = c .before .before .before .before .before .before .before in
+    (s .good .1 .1 .1 .1 .1 .1 .1 .1 .1 .1 .1 .1 .1 .1 .1 .0 .1 .0 .1, refl, refl, refl, refl, refl, refl, λ e. (s .pre .10 e .1 .first-open, s .pre .10 e .1 .second-open))
 
 mul-voice : tie.Need-mul-voice Inv-loop μ-loop
 mul-voice c = omega arith
@@ -36,17 +47,22 @@ array-copy-out-voice c = omega arith
 
 raise-voice-requires : tie.Need-raise-voice-requires Inv-loop μ-loop
 raise-voice-requires c κs =
-    let l = c .before .before .before .before .before .before in
-    let s = l .before .before .before .before .before .before in (
+    let n = c .before .before .before .before .before in
+    let l = n .before in
+    let s = l .before .before .before .before .before .before .before .before in
+    let some : s .args .count ≤ length (s .args .t16) = omega (arith, s .pre .9, l .loop .inv .0) in (
       s .pre .0,
       s .pre .1,
       s .pre .2,
       s .pre .3,
-      omega (arith, s .pre .4, l .loop .inv .3),
-      omega (arith, s .pre .5, l .loop .inv .3, l .loop .inv .4),
+      l .loop .inv .3 ∙ s .pre .4,
+      l .loop .inv .4 ∙ s .pre .5,
       s .pre .6,
       s .pre .7,
       s .pre .8,
+      λ e.
+          let k = s .pre .10 e in
+          (k .0, record { ready = k .1 .ready; first-open = l .loop .inv .7 e .0; second-open = l .loop .inv .7 e .1 }, k .2, voice-real (s .args .t16) (s .args .count) (l .loop .index) some (k .3) (n .loop-test .taken)),
     )
 
 add-index : tie.Need-add-index Inv-loop μ-loop
@@ -60,15 +76,22 @@ loop-again c =
     let r = c .before .before .before .before .before .before .before .before in
     let n = r .before .before .before .before .before .before in
     let l = n .before in
-    let s = l .before .before .before .before .before .before in
-    let some : s .args .count ≤ length (s .args .t13) = omega (arith, s .pre .9, l .loop .inv .0) in (
+    let s = l .before .before .before .before .before .before .before .before in
+    let voice = getD (s .args .t16) (l .loop .index) noVoice in
+    let some : s .args .count ≤ length (s .args .t16) = omega (arith, s .pre .9, l .loop .inv .0) in (
       l .loop .inv .0,
       omega (arith, r .raise-voice .kept .0, l .loop .inv .1),
       omega (arith, r .raise-voice .kept .1 .0, l .loop .inv .2),
       omega (arith, r .raise-voice .kept .1 .1 .0, l .loop .inv .3),
-      omega (arith, r .raise-voice .kept .1 .1 .1 .0, l .loop .inv .4),
+      omega (arith, r .raise-voice .kept .1 .1 .1, l .loop .inv .4),
       voices-next _ _ _ _ _ (l .loop .index) _ some (n .loop-test .taken) (r .raise-voice .ensures .0) ∙ l .loop .inv .5,
       voices-next _ _ _ _ _ (l .loop .index) _ some (n .loop-test .taken) (r .raise-voice .ensures .1) ∙ l .loop .inv .6,
+      λ e.
+          let k = s .pre .10 e in
+          let u = voice-real (s .args .t16) (s .args .count) (l .loop .index) some (k .3) (n .loop-test .taken) in
+          let first = rw (k .0) at (r .raise-voice .ensures .0) in
+          let second = rw (k .0) at (r .raise-voice .ensures .1) in
+          (voice-open (s .args .grid) (k .2) (s .args .table .now) (firstSide (s .args .stereo)) voice u (l .loop .first) (l .loop .inv .7 e .0) first, voice-open (s .args .grid) (k .2) (s .args .table .now) (secondSide (s .args .stereo)) voice u (l .loop .second) (l .loop .inv .7 e .1) second),
     )
 
 same-length : tie.Need-same-length Inv-loop μ-loop
@@ -86,7 +109,7 @@ same-length-4 c = c .before .loop .inv .4
 returns : tie.Need-returns Inv-loop μ-loop
 returns c =
     let l = c .before .loop in
-    (sym (voices-end _ _ _ _ _ _ _ (c .loop-test .left)) ∙ l .inv .5, sym (voices-end _ _ _ _ _ _ _ (c .loop-test .left)) ∙ l .inv .6)
+    (sym (voices-end _ _ _ _ _ (l .index) _ (c .loop-test .left)) ∙ l .inv .5, sym (voices-end _ _ _ _ _ (l .index) _ (c .loop-test .left)) ∙ l .inv .6)
 
 pub raise-voices-spec : {M : Type 1} → statement M
 raise-voices-spec =

@@ -1,0 +1,4 @@
+pub mod Halved
+pub mod Runs
+pub mod Walk
+pub mod Bins

@@ -1,0 +1,3 @@
+pub mod Least
+pub mod Row
+pub mod Ends
