@@ -12,7 +12,9 @@ ghost use Rattle.power.specs.Table.{powerTable};
 ghost use Rattle.sine.specs.Table.{sineTable};
 ghost use Rattle.masks.specs.Manual.{MANUAL-MASK-POINTS};
 ghost use Rattle.lobes.specs.Pan as side;
+ghost use Rattle.lobes.specs.Grid.{gridOf};
 ghost use Rattle.lobes.specs.Distance.{lent, logsOf};
+ghost use Rattle.openness.specs.Compact.{SoundScene};
 ghost use Rattle.mask_builder.specs.Mask.{opennessAt, maskOf};
 use power::table::PowerTable;
 use scene::MaskConfig;
@@ -30,7 +32,7 @@ fn open_mono(
     tabled: bool,
     table: &[f32],
 )
-    requires { ⌜ (now powers ≡ powerTable) × (now sines ≡ sineTable) × (count ≤ 128) × (config .«fft_size» ≤ 16384) × (length (now out) ≡ config .«fft_size» / 2 + 1) × (tabled ≡ true → length (now table) ≡ config .«fft_size» / 2 + 1) ⌝ }
+    requires { ⌜ (now powers ≡ powerTable) × (now sines ≡ sineTable) × (count ≤ 128) × (config .«fft_size» ≤ 16384) × (length (now out) ≡ config .«fft_size» / 2 + 1) × (tabled ≡ true → length (now table) ≡ config .«fft_size» / 2 + 1) × (tabled ≡ true → SoundScene (gridOf config) (take count voices) (now table)) ⌝ }
     ensures { λ _. ⌜ now (out .exit) ≡ tabulate (length (now (out .entry))) (opennessAt config (logsOf tabled (now (table .entry))) side.mono (take count voices)) ⌝ }
 {
     if config.note_layer_enabled {
@@ -63,7 +65,7 @@ fn open_sides(
     config: MaskConfig,
     table: &[f32],
 )
-    requires { ⌜ (now powers ≡ powerTable) × (now sines ≡ sineTable) × (count ≤ 128) × (config .«fft_size» ≤ 16384) × (length (now left) ≡ config .«fft_size» / 2 + 1) × (length (now right) ≡ config .«fft_size» / 2 + 1) × (length (now table) ≡ config .«fft_size» / 2 + 1) ⌝ }
+    requires { ⌜ (now powers ≡ powerTable) × (now sines ≡ sineTable) × (count ≤ 128) × (config .«fft_size» ≤ 16384) × (length (now left) ≡ config .«fft_size» / 2 + 1) × (length (now right) ≡ config .«fft_size» / 2 + 1) × (length (now table) ≡ config .«fft_size» / 2 + 1) × (SoundScene (gridOf config) (take count voices) (now table)) ⌝ }
     ensures { λ _. ⌜ now (left .exit) ≡ tabulate (length (now (left .entry))) (opennessAt config (lent (now (table .entry))) side.left (take count voices)) ⌝ }
     ensures { λ _. ⌜ now (right .exit) ≡ tabulate (length (now (right .entry))) (opennessAt config (lent (now (table .entry))) side.right (take count voices)) ⌝ }
 {
@@ -97,7 +99,7 @@ pub fn build_one(
     tabled: bool,
     table: &[f32],
 )
-    requires { ⌜ (length (now curve) ≡ MANUAL-MASK-POINTS) × (count ≤ 128) × (config .«fft_size» ≤ 16384) × (length (now out) ≡ config .«fft_size» / 2 + 1) × (tabled ≡ true → length (now table) ≡ config .«fft_size» / 2 + 1) ⌝ }
+    requires { ⌜ (length (now curve) ≡ MANUAL-MASK-POINTS) × (count ≤ 128) × (config .«fft_size» ≤ 16384) × (length (now out) ≡ config .«fft_size» / 2 + 1) × (tabled ≡ true → length (now table) ≡ config .«fft_size» / 2 + 1) × (tabled ≡ true → SoundScene (gridOf config) (take count voices) (now table)) ⌝ }
     ensures { λ _. ⌜ now (out .exit) ≡ maskOf (now (curve .entry)) config (logsOf tabled (now (table .entry))) side.mono (take count voices) ⌝ }
 {
     let powers = power::table::power_table();
@@ -116,7 +118,7 @@ pub fn build_two(
     config: MaskConfig,
     table: &[f32],
 )
-    requires { ⌜ (length (now curve) ≡ MANUAL-MASK-POINTS) × (count ≤ 128) × (config .«fft_size» ≤ 16384) × (length (now left) ≡ config .«fft_size» / 2 + 1) × (length (now right) ≡ config .«fft_size» / 2 + 1) × (length (now table) ≡ config .«fft_size» / 2 + 1) ⌝ }
+    requires { ⌜ (length (now curve) ≡ MANUAL-MASK-POINTS) × (count ≤ 128) × (config .«fft_size» ≤ 16384) × (length (now left) ≡ config .«fft_size» / 2 + 1) × (length (now right) ≡ config .«fft_size» / 2 + 1) × (length (now table) ≡ config .«fft_size» / 2 + 1) × (SoundScene (gridOf config) (take count voices) (now table)) ⌝ }
     ensures { λ _. ⌜ now (left .exit) ≡ maskOf (now (curve .entry)) config (lent (now (table .entry))) side.left (take count voices) ⌝ }
     ensures { λ _. ⌜ now (right .exit) ≡ maskOf (now (curve .entry)) config (lent (now (table .entry))) side.right (take count voices) ⌝ }
 {

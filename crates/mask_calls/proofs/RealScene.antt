@@ -8,11 +8,12 @@ use native.Mathlib.Omega.{arith}
 use lib.Dec.{T, eqb, eqb→eq}
 use lib.ListN.{length, getD, take, length-take}
 use lib.Seq.{getD-take}
-use lib.Ieee.{Float, nan, binary32}
+use lib.Count.{trailingZeros}
+use lib.Ieee.{Float, nan, binary32, fits, ofBits, ofFields, odd}
 use lib.Ieee.Fits.{and-l, and-r}
 use Rattle.lists.specs.Totals.{All}
-use Rattle.float_laws.specs.Units.{number}
-use Rattle.float32.proofs.Limits.{within-number}
+use Rattle.float_laws.specs.Units.{number, real}
+use Rattle.float32.proofs.Limits.{within-number, within-real}
 use Rattle.answer.specs.Reply.{Reply}
 use Rattle.limits.specs.Limits as limits
 use Rattle.limits.specs.Limits.{LEAST-TABLE-ENTRY, MOST-TABLE-ENTRY}
@@ -23,7 +24,11 @@ use Rattle.scene.specs.declared.MaskConfig.{MaskConfig}
 use Rattle.scene.specs.Accepted.{noVoice, sizeAccepted, settingsAccepted}
 use Rattle.scene.proofs.Voices.{RealVoice, accepted-real}
 use Rattle.openness.proofs.Entries.{all-places}
+use Rattle.lobes.specs.Grid.{gridOf}
+use Rattle.lobes.proofs.Bounded.{grid-width}
+use Rattle.openness.specs.Compact.{SoundScene}
 use Rattle.mask_builder.proofs.Rising.{RealSettings}
+use Rattle.mask_builder.proofs.Built.{grid-partials}
 use Rattle.refusals.specs.Masks.{MOST-VOICES, bins, first, settingsReply, voicesReply, tableReply, voicesMaskReply, tabledMaskReply, stereoReply}
 use Rattle.refusals.proofs.MaskAccepted.{Done, both-done, settings-done, voices-done, voice-done, entry-done}
 use Rattle.mask_calls.specs.F32.{F32Voice, F32Settings, F32Voices, F32List}
@@ -36,11 +41,20 @@ pub record RealScene (voices : List MaskVoice) (count : ℕ) (config : MaskConfi
   pub settings-accepted : T (settingsAccepted config)
   pub size-is-power : PowerOfTwo 6 15 (config .«fft_size»)
   pub settings-real : RealSettings config
+  pub width-real : T (real binary32 (config .«width_cents»))
 
 pub record RealTable (config : MaskConfig) (table : List Float) : Type 0 where
   pub entries : length table ≡ bins config
   pub entry-within : (i : ℕ) → 0 < i → i < length table → T (limits.tableEntry (getD table i nan))
   pub entry-number : (i : ℕ) → 0 < i → i < length table → T (number binary32 (getD table i nan))
+  pub entry-real : (i : ℕ) → 0 < i → i < length table → T (real binary32 (getD table i nan))
+
+entry-ends : T (real binary32 LEAST-TABLE-ENTRY) × T (real binary32 MOST-TABLE-ENTRY)
+unfolding ofBits ofFields odd trailingZeros fits
+entry-ends = (tt, tt)
+
+entry-finite : (x : Float) → T (limits.tableEntry x) → T (fits binary32 x) → T (real binary32 x)
+entry-finite x h f = within-real LEAST-TABLE-ENTRY MOST-TABLE-ENTRY x h binary32 f (entry-ends .0) (entry-ends .1)
 
 module _ (curve : List Float) (voices : List MaskVoice) (count : ℕ) (config : MaskConfig) where
   -- ---- from the groups of tests
@@ -60,6 +74,7 @@ module _ (curve : List Float) (voices : List MaskVoice) (count : ℕ) (config : 
         settings-accepted = s .1;
         size-is-power = size-power (config .«fft_size») (numbers.size-within config (s .0) (s .1) g);
         settings-real = numbers.real-settings config (s .0) (s .1) g;
+        width-real = numbers.width-real config (s .0) (s .1) g;
       }
 
   -- ---- the mono mask without a table
@@ -95,6 +110,7 @@ module _ (curve : List Float) (voices : List MaskVoice) (count : ℕ) (config : 
         record {
           entries = eqb→eq (length table) (bins config) (and-r (eqb (length curve) MANUAL-MASK-POINTS) (eqb (length table) (bins config)) g);
           entry-within = within;
+          entry-real = λ i l h. entry-finite (getD table i nan) (within i l h) (f i h);
           entry-number = λ i l h. within-number LEAST-TABLE-ENTRY MOST-TABLE-ENTRY (getD table i nan) (within i l h) binary32 (f i h);
         }
 
@@ -113,3 +129,17 @@ module _ (curve : List Float) (voices : List MaskVoice) (count : ℕ) (config : 
     pub stereo-table : (m n : ℕ) → Done (stereoReply m n curve voices count config table) → F32List table → RealTable config table
     unfolding stereoReply
     stereo-table m n d = tabled-entries (eqb m (bins config) && eqb n (bins config)) d
+
+-- ---- such a scene is one that the masks by a table are built from
+pub sound-scene : (voices : List MaskVoice) (count : ℕ) (config : MaskConfig) (table : List Float) → config .«fft_size» ≤ 16384 → RealScene voices count config → RealTable config table
+    → SoundScene (gridOf config) (take count voices) table
+unfolding gridOf
+sound-scene voices count config table h s t =
+    let w = grid-width config (s .width-real) in
+    record {
+      last = omega arith;
+      long = omega (arith, t .entries);
+      grid-real = record { width-real = w .0; width-above = w .1; rolloff-real = s .settings-real .rolloff; few = grid-partials config };
+      voices-real = s .voices-real;
+      table-real = t .entry-real;
+    }

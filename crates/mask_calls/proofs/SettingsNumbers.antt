@@ -47,6 +47,13 @@ module _ (config : MaskConfig) (s : T (sizeAccepted config)) (t : T (settingsAcc
   pub width-within : T (within LEAST-WIDTH MOST-WIDTH (config .«width_cents»))
   width-within = and-r (limits.noteDepth (config .«note_depth_db»)) (limits.width (config .«width_cents»)) first
 
+  width-ends : T (real binary32 LEAST-WIDTH) × T (real binary32 MOST-WIDTH)
+  unfolding ofBits ofFields odd trailingZeros fits
+  width-ends = (tt, tt)
+
+  pub width-real : T (real binary32 (config .«width_cents»))
+  width-real = within-real LEAST-WIDTH MOST-WIDTH (config .«width_cents») width-within binary32 (f .width) (width-ends .0) (width-ends .1)
+
   pub width-number : T (number binary32 (config .«width_cents»))
   width-number = within-number LEAST-WIDTH MOST-WIDTH (config .«width_cents») width-within binary32 (f .width)
 

@@ -17,9 +17,10 @@ open-two-requires : tie.Need-open-two-requires
 open-two-requires c κs =
     let b = c .before .before .before in
     let e = b .grid-of .ensures in
-    let config = b .before .before .before .before .before .before .args .config in
+    let start = b .before .before .before .before .before .before in
+    let config = start .args .config in
     let last : b .grid-of .result .«last_bin» ≡ config .«fft_size» / 2 = rw e (grid-last config) in
-    (search needs, search needs, search needs, rw e (grid-partials config), omega arith, omega arith, search needs)
+    (search needs, search needs, search needs, rw e (grid-partials config), omega arith, omega arith, search needs, rw e (start .pre .7))
 
 fill-requires : tie.Need-fill-requires
 fill-requires c κs = search needs

@@ -70,7 +70,7 @@ build-one-requires c κs =
     (v .before .before .both2 .ensures) (v .before .before .before .both .ensures) in
     let d = is-done _ (sym e ∙ ap ofOutcome (told .enum-told .given .1)) in
     let f = mask-accepted (a .manual-mask-db .now) (a .config) (length (a .output .now)) (a .note-levels .now) d in
-    (f .0 .0, lit≤ tt, f .0 .1, f .2, (λ t. absurd (true≢false (sym t))))
+    (f .0 .0, lit≤ tt, f .0 .1, f .2, (λ t. absurd (true≢false (sym t))), (λ t. absurd (true≢false (sym t))))
 
 returns : tie.Need-returns
 returns c =

@@ -41,7 +41,7 @@ build-one-requires c κs =
     (v .before .before .both .ensures) in
     let d = is-done _ (sym e ∙ ap ofOutcome (told .enum-told .given .1)) in
     let f = voices-mask-accepted (a .manual-mask-db .now) (a .config) (a .voices) (a .count) (length (a .output .now)) d in
-    (f .0 .0, f .1, f .0 .1, f .2, (λ t. absurd (true≢false (sym t))))
+    (f .0 .0, f .1, f .0 .1, f .2, (λ t. absurd (true≢false (sym t))), (λ t. absurd (true≢false (sym t))))
 
 returns : tie.Need-returns
 returns c =

@@ -4,6 +4,8 @@ use lib.ListN.{length}
 use Rattle.answer.specs.Reply.{ofOutcome}
 use Rattle.refusals.proofs.MaskAccepted.{is-done, tabled-mask-accepted}
 use Rattle.mask_calls.proofs.MaskAnswers.{tabled-mask-answer}
+use Rattle.mask_calls.proofs.Parameters.{voices-f32, settings-f32}
+use Rattle.mask_calls.proofs.RealScene.{tabled-mask-scene, tabled-mask-table, sound-scene}
 use borrow.Author.Needs.{needs}
 use Rattle.mask_calls.proofs.build_mask_with_voices_precomputed.Statement.{
   statement,
@@ -51,7 +53,10 @@ build-one-requires c κs =
     (v .of-voices .ensures) (k .before .before .before .of-table .ensures) (v .before .before .both .ensures) (length (a .output .now)) (v .before .both2 .ensures) in
     let d = is-done _ (sym e ∙ ap ofOutcome (told .enum-told .given .1)) in
     let f = tabled-mask-accepted (a .manual-mask-db .now) (a .config) (a .voices) (a .count) (a .table .now) (length (a .output .now)) d in
-    (f .0 .0, f .1, f .0 .1, f .3, (λ t. f .2))
+    let start = v .before .before .before .before .before .before .before in
+    let scene = tabled-mask-scene (a .manual-mask-db .now) (a .voices) (a .count) (a .config) (a .table .now) (length (a .output .now)) d (voices-f32 128 (a .voices) _ (start .good .1 .1 .0)) (settings-f32 (a .config) _ (start .good .1 .1 .1 .1 .0)) in
+    let table = tabled-mask-table (a .manual-mask-db .now) (a .voices) (a .count) (a .config) (a .table .now) (length (a .output .now)) d (λ i l. v .before .before .before .before .shared-slice-known2 .given i) in
+    (f .0 .0, f .1, f .0 .1, f .3, (λ t. f .2), (λ t. sound-scene (a .voices) (a .count) (a .config) (a .table .now) (f .0 .1) scene table))
 
 returns : tie.Need-returns
 returns c =

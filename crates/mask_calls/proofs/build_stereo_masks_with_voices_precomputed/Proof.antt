@@ -4,6 +4,8 @@ use lib.ListN.{length}
 use Rattle.answer.specs.Reply.{ofOutcome}
 use Rattle.refusals.proofs.MaskAccepted.{is-done, stereo-accepted}
 use Rattle.mask_calls.proofs.MaskAnswers.{stereo-answer}
+use Rattle.mask_calls.proofs.Parameters.{voices-f32, settings-f32}
+use Rattle.mask_calls.proofs.RealScene.{stereo-scene, stereo-table, sound-scene}
 use borrow.Author.Needs.{needs}
 use Rattle.mask_calls.proofs.build_stereo_masks_with_voices_precomputed.Statement.{
   statement,
@@ -54,7 +56,10 @@ build-two-requires c κs =
     (v .before .before .both2 .ensures) (length (a .left .now)) (length (a .right .now)) (v .before .both3 .ensures) (v .before .before .before .both .ensures) in
     let d = is-done _ (sym e ∙ ap ofOutcome (told .enum-told .given .1)) in
     let f = stereo-accepted (a .manual-mask-db .now) (a .config) (a .voices) (a .count) (a .table .now) (length (a .left .now)) (length (a .right .now)) d in
-    (f .0 .0, f .1, f .0 .1, f .3, f .4, f .2)
+    let start = v .before .before .before .before .before .before .before .before .before in
+    let scene = stereo-scene (a .manual-mask-db .now) (a .voices) (a .count) (a .config) (a .table .now) (length (a .left .now)) (length (a .right .now)) d (voices-f32 128 (a .voices) _ (start .good .1 .1 .1 .0)) (settings-f32 (a .config) _ (start .good .1 .1 .1 .1 .1 .0)) in
+    let table = stereo-table (a .manual-mask-db .now) (a .voices) (a .count) (a .config) (a .table .now) (length (a .left .now)) (length (a .right .now)) d (λ i l. v .before .before .before .before .before .shared-slice-known2 .given i) in
+    (f .0 .0, f .1, f .0 .1, f .3, f .4, f .2, sound-scene (a .voices) (a .count) (a .config) (a .table .now) (f .0 .1) scene table)
 
 returns : tie.Need-returns
 returns c =
