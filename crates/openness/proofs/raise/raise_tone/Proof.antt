@@ -31,9 +31,13 @@ raised-together-requires c κs =
       s .pre .3,
       s .pre .4,
       λ e.
-          let k = s .pre .8 e in
-          (k .2 .sound (o .lobes-of .result) (n .partials-of .result) (n .partials-of .ensures .0)
-          (subst (λ (b : Bool). take (n .partials-of .result) (o .lobes-of .result) ≡ lobesOf (s .args .grid) (logsOf b (s .args .table .now)) (s .args .tone)) (k .0) of), k .1, k .2 .first-gain, k .2 .second-gain),
+          let k = s .pre .8 e in (
+            k .2 .sound (o .lobes-of .result) (n .partials-of .result) (n .partials-of .ensures .0)
+                (subst (λ (b : Bool). take (n .partials-of .result) (o .lobes-of .result) ≡ lobesOf (s .args .grid) (logsOf b (s .args .table .now)) (s .args .tone)) (k .0) of),
+            k .1,
+            k .2 .first-gain,
+            k .2 .second-gain,
+          ),
     )
 
 same-length : tie.Need-same-length
