@@ -1,6 +1,6 @@
 /*
- * Dovetable: the mask builder of a spectral note gate. Link libspectral_dsp_c.a and the
- * mathematics library (-lm); x86-64, C11 or C++.
+ * Dovetable: the mask builder of a spectral note gate. Link libspectral_dsp_c.a, which needs
+ * nothing but the C library; x86-64, C11 or C++.
  *
  * An open call answers 0 where it is done, else the number of a refusal (DovetableRefusal). Its
  * tests run in the order of the numbers, and of several bad entries the lowest is named. Where it

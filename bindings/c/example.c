@@ -1,7 +1,7 @@
 /*
  * A chord as stereo masks, and a refusal. From the repository's root, once the library is there:
  *
- *     cc -std=c11 -I include bindings/c/example.c target/staticlib/libspectral_dsp_c.a -lm -o target/example
+ *     cc -std=c11 -I include bindings/c/example.c target/staticlib/libspectral_dsp_c.a -o target/example
  *
  * Prints a line for each of a few bins: the bin, its left and its right gain, with the nine digits
  * that name a float. Exits 1 where a call does not answer what it should.

@@ -68,7 +68,7 @@ fn the_example_prints_what_the_safe_calls_give() {
     };
     let program = Path::new(env!("CARGO_TARGET_TMPDIR")).join("example");
     cc.arg(root().join("bindings/c/example.c"));
-    cc.arg(env!("DOVETABLE_LINKED")).arg("-lm");
+    cc.arg(env!("DOVETABLE_LINKED"));
     assert!(cc.arg("-o").arg(&program).status().unwrap().success());
 
     let run = Command::new(&program).output().unwrap();
