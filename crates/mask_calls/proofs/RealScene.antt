@@ -10,7 +10,7 @@ use lib.ListN.{length, getD, take, length-take}
 use lib.Seq.{getD-take}
 use lib.Count.{trailingZeros}
 use lib.Ieee.{Float, nan, binary32, fits, ofBits, ofFields, odd}
-use lib.Ieee.Fits.{and-l, and-r}
+use lib.Ieee.Fits.{and-r}
 use Rattle.lists.specs.Totals.{All}
 use Rattle.float_laws.specs.Units.{number, real}
 use Rattle.float32.proofs.Limits.{within-number, within-real}

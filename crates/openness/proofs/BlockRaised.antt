@@ -1,7 +1,7 @@
 -- A block of bins under several lobes: the most that one of them opens, joined once, is what they hold joined one after the other; and a block where no bound under the gain is above what a bin
 -- holds stays as it is. Assumes nothing.
-use mathlib.Core.Path.{_≡_, refl, sym, ap, _∙_, subst}
-use mathlib.Core.Bool.{Bool, true}
+use mathlib.Core.Path.{_≡_, sym, ap, _∙_, subst}
+use mathlib.Core.Bool.{true}
 use mathlib.Core.List.{List}
 use Prim.Native.Nat.{ℕ, _+_, _-_, _≤_, _<_}
 use native.Mathlib.Decide.{decLt}
@@ -11,12 +11,10 @@ use lib.ListN.{length, getD, take}
 use lib.Seq.{ext-getD, getD-take, length-take-le}
 use lib.Ieee.{Float, nan, binary32, le, mul}
 use Rattle.lists.specs.Maps.{mapRange, between, between-in, between-low, between-high, getD-mapRange, length-mapRange}
-use Rattle.lists.specs.Folds.{fold}
 use Rattle.float_laws.specs.Units.{real-number}
 use Rattle.float_laws.specs.Order.{le-trans-f}
 use Rattle.float_laws.specs.Mono.{mul-mono-l}
 use Rattle.float_laws.specs.Rise.{Upto, upto-weaken, upto-mul}
-use Rattle.float32.specs.Order.{maximum}
 use Rattle.float32.specs.Remainder.{zero}
 use Rattle.blocks.specs.Least.{Least}
 use Rattle.lobes.specs.declared.Grid.{Grid}
@@ -26,7 +24,7 @@ use Rattle.lobes.specs.Bound.{GreatestAt}
 use Rattle.lobes.proofs.NoteLevels.{zero-is}
 use Rattle.openness.specs.Openness.{joined}
 use Rattle.openness.specs.Compact.{noLobe, lobesJoined, mostOpen, SoundLobes, Opennesses, BoundedLobes, HasMost, NotAbove}
-use Rattle.openness.proofs.Maxima.{le-join, joinWhere, BelowWhere}
+use Rattle.openness.proofs.Maxima.{le-join, BelowWhere}
 use Rattle.openness.proofs.Entries.{all-places}
 use Rattle.openness.proofs.RaisedVoices.{nothing-open}
 use Rattle.openness.proofs.Highest.{keeps-higher, highest-in-unit, highest-least}

@@ -1,6 +1,6 @@
 -- The compact way gives each bin the plain way's openness: lobes joined one after the other, each under the gain, hold what the most that one of them opens holds under the gain. Assumes nothing.
 use mathlib.Core.Path.{_≡_, refl, sym, ap, _∙_, subst}
-use mathlib.Core.Bool.{Bool, true, false, cond, _&&_}
+use mathlib.Core.Bool.{Bool, false, cond, _&&_}
 use mathlib.Core.List.{List, [], _∷_}
 use Prim.Native.Nat.{ℕ}
 use lib.Dec.{T, leb, lit≤}
@@ -13,7 +13,7 @@ use Rattle.float_laws.specs.Round.{plus-zero, real-zero}
 use Rattle.float_laws.specs.Ops.{mul-comm-f}
 use Rattle.float_laws.specs.Mono.{mul-number, mul-turns-l}
 use Rattle.float_laws.specs.Bounds as bounds
-use Rattle.float_laws.specs.Rise.{Upto, upto-weaken, upto-mul}
+use Rattle.float_laws.specs.Rise.{Upto, upto-mul}
 use Rattle.float32.specs.Order.{maximum}
 use Rattle.float32.specs.Remainder.{zero, one}
 use Rattle.lobes.specs.declared.Grid.{Grid}
@@ -24,7 +24,6 @@ use Rattle.lobes.proofs.NoteLevels.{zero-is, one-is}
 use Rattle.openness.specs.Openness.{lobeJoined}
 use Rattle.openness.specs.Compact.{lobesJoined, mostOpen}
 use Rattle.openness.proofs.Maxima.{Openness, joinWhere}
-use Rattle.openness.proofs.RaisedVoices.{nothing-open}
 use Rattle.openness.proofs.Highest.{keeps-higher, InUnit, gain-last}
 
 pub zero-unit : Upto binary32 0 zero

@@ -9,12 +9,11 @@ use lib.Ieee.{Float, binary32, le, lt, mul}
 use Rattle.lists.specs.Folds.{fold}
 use Rattle.lists.specs.Totals.{All}
 use Rattle.float_laws.specs.Units.{number, real-number}
-use Rattle.float_laws.specs.Order.{le-trans-f, le-antisymm-f, le-total-f, lt→le-f, not-lt-f, le→not-lt-f, lt-of-le-of-lt-f, lt-of-lt-of-le-f, eq→same, larger-right}
+use Rattle.float_laws.specs.Order.{le-antisymm-f, le-total-f, lt→le-f, not-lt-f, le→not-lt-f, lt-of-le-of-lt-f, lt-of-lt-of-le-f, eq→same, larger-right}
 use Rattle.float_laws.specs.Round.{plus-zero, real-zero}
 use Rattle.float_laws.specs.Mono.{above-zero, mul-mono-l}
 use Rattle.float_laws.specs.Rise.{Upto, upto-weaken, upto-mul, upto-maximum}
 use Rattle.float32.specs.Order.{maximum}
-use Rattle.float32.specs.Remainder.{zero}
 use Rattle.float32.proofs.OrderAgrees.{maximum-agrees, maximum-larger}
 use Rattle.openness.proofs.Maxima.{Openness, le-join, joinWhere, FitWhere, BelowWhere, where-join, AllBelow, fold-join}
 

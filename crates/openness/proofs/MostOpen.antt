@@ -1,6 +1,5 @@
 -- The most that one of several lobes opens at a bin: the lobes joined to a row in their order, one of them once more before all others, give it. Assumes nothing.
-use mathlib.Core.Path.{_≡_, refl, sym, ap, _∙_, subst}
-use mathlib.Core.Bool.{Bool}
+use mathlib.Core.Path.{_≡_, sym, ap, _∙_, subst}
 use mathlib.Core.List.{List}
 use Prim.Native.Nat.{ℕ, _+_, _-_, _≤_, _<_}
 use native.Mathlib.Nat.{le-refl}
@@ -11,14 +10,13 @@ use lib.Seq.{getD-take, length-take-le}
 use lib.Ieee.{Float, nan, binary32, le}
 use Rattle.lists.specs.Folds.{fold, fold-step, fold-end, rest-next, rest-none}
 use Rattle.lists.specs.Maps.{tabulate, mapRange, between-in, getD-tabulate, length-tab, getD-mapRange, length-mapRange}
-use Rattle.lists.specs.Totals.{All, all-at}
+use Rattle.lists.specs.Totals.{all-at}
 use Rattle.float_laws.specs.Rise.{Upto, upto-weaken}
 use Rattle.float32.specs.Remainder.{zero, one}
 use Rattle.blocks.specs.Least.{Numbers}
 use Rattle.lobes.specs.declared.Grid.{Grid}
 use Rattle.lobes.specs.declared.Lobe.{Lobe}
 use Rattle.lobes.specs.Distance.{lent}
-use Rattle.lobes.specs.Lobe.{opening}
 use Rattle.lobes.proofs.Bounded.{Measured, opening-in-unit}
 use Rattle.openness.specs.Openness.{lobeJoined}
 use Rattle.openness.specs.Compact.{noLobe, lobesJoined, mostOpen, SoundLobes, Opennesses}

@@ -1,6 +1,5 @@
 -- `raise_block` leaves a block where nothing rises, and else joins the most that one of the lobes opens to each side. Assumes nothing.
-use mathlib.Core.Path.{_≡_}
-use Prim.Native.Nat.{ℕ, _+_, _≤_, _<_}
+use Prim.Native.Nat.{_+_, _≤_}
 use native.Mathlib.Omega.{arith}
 use lib.ListN.{length, getD}
 use lib.Ieee.{nan, binary32}

@@ -2,8 +2,7 @@
 use mathlib.Core.Path.{_≡_, refl, sym, _∙_}
 use Prim.Native.Nat.{ℕ, _+_, _*_, _-_, _≤_, _<_, min, max}
 use native.Mathlib.Omega.{arith}
-use lib.ListN.{length, getD, take}
-use lib.Ieee.{nan}
+use lib.ListN.{length, take}
 use Rattle.blocks.specs.Ends.{blockOf}
 use Rattle.lobes.specs.Distance.{lent}
 use Rattle.openness.specs.Compact.{lobesJoined, Opennesses}

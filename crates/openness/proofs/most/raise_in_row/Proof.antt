@@ -1,8 +1,6 @@
 -- `raise_in_row` joins the openings of the bins that lobe and row have in common. Assumes nothing.
-use mathlib.Core.Path.{_≡_, ap}
-use Prim.Native.Nat.{ℕ, _+_, _-_, _≤_, _<_, min, max}
+use Prim.Native.Nat.{_-_}
 use native.Mathlib.Omega.{arith}
-use lib.ListN.{length}
 use Rattle.openness.proofs.RowRaised.{row-kept, row-raised}
 use borrow.Author.Needs.{needs}
 use Rattle.openness.proofs.most.raise_in_row.Statement.{statement}

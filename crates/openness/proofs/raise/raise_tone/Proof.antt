@@ -1,5 +1,5 @@
 -- `raise_tone` raises the lobes of the partials together or one after the other; either way that is joining the tone. Assumes nothing.
-use mathlib.Core.Path.{_≡_, sym, ap, _∙_, subst}
+use mathlib.Core.Path.{_≡_, ap, _∙_, subst}
 use mathlib.Core.Bool.{Bool}
 use mathlib.Core.List.{List}
 use native.Mathlib.Omega.{arith}
@@ -7,7 +7,6 @@ use lib.ListN.{take}
 use lib.Ieee.{Float}
 use Rattle.lists.specs.Maps.{mapAt}
 use Rattle.lobes.specs.Distance.{lent, logsOf}
-use Rattle.openness.specs.Openness.{toneJoined}
 use Rattle.openness.specs.Compact.{lobesOf, lobesJoined}
 use Rattle.openness.proofs.ToneLobes.{known-lobes, tone-raised}
 use borrow.Author.Needs.{needs}

@@ -1,16 +1,12 @@
 -- `raise_voices` joins the voices to both sides: joining those from the one at hand on, to what stands there now, is joining them all to what stood there. Assumes nothing.
-use mathlib.Core.Path.{_≡_, refl, sym, _∙_, subst}
-use mathlib.Core.Bool.{Bool, true}
-use mathlib.Core.List.{List}
+use mathlib.Core.Path.{_≡_, refl, sym, _∙_}
+use mathlib.Core.Bool.{true}
 use Prim.Native.Nat.{_-_, _≤_}
 use native.Mathlib.Omega.{arith}
 use lib.ListN.{length, getD}
-use lib.Ieee.{Float}
-use Rattle.lists.specs.Maps.{mapAt}
 use Rattle.scene.specs.Accepted.{noVoice}
 use Rattle.lobes.specs.Distance.{logsOf}
 use Rattle.lobes.specs.Pan.{channelGain}
-use Rattle.openness.specs.Openness.{voiceJoined}
 use Rattle.openness.specs.Compact.{Opennesses}
 use Rattle.openness.specs.Sides.{firstSide, secondSide}
 use Rattle.openness.proofs.EachVoice.{voices-from, voices-next, voices-end}
