@@ -28,7 +28,8 @@ use Rattle.motion.proofs.Compensated.{compensated-gain-upto}
 use Rattle.lobes.specs.Grid.{gridOf}
 use Rattle.lobes.specs.Pan.{Side}
 use Rattle.lobes.specs.Distance.{lent}
-use Rattle.openness.proofs.RaisedVoices.{Fair, RaisedIn, nothing-open, openness-rises}
+use Rattle.lobe_rows.proofs.Maxima.{nothing-open}
+use Rattle.openness.proofs.RaisedVoices.{Fair, RaisedIn, openness-rises}
 use Rattle.mask_builder.specs.Mask.{motionAt, gateAt, opennessAt, ceilingAt, maskAt}
 
 -- the settings, as far as these laws ask for them

@@ -14,7 +14,7 @@ ghost use Rattle.masks.specs.Manual.{MANUAL-MASK-POINTS};
 ghost use Rattle.lobes.specs.Pan as side;
 ghost use Rattle.lobes.specs.Grid.{gridOf};
 ghost use Rattle.lobes.specs.Distance.{lent, logsOf};
-ghost use Rattle.openness.specs.Compact.{SoundScene};
+ghost use Rattle.openness.specs.Scene.{SoundScene};
 ghost use Rattle.mask_builder.specs.Mask.{opennessAt, maskOf};
 use power::table::PowerTable;
 use scene::MaskConfig;

@@ -23,10 +23,10 @@ use Rattle.scene.specs.declared.MaskVoice.{MaskVoice}
 use Rattle.scene.specs.declared.MaskConfig.{MaskConfig}
 use Rattle.scene.specs.Accepted.{noVoice, sizeAccepted, settingsAccepted}
 use Rattle.scene.proofs.Voices.{RealVoice, accepted-real}
-use Rattle.openness.proofs.Entries.{all-places}
+use Rattle.lobe_rows.proofs.Entries.{all-places}
 use Rattle.lobes.specs.Grid.{gridOf}
 use Rattle.lobes.proofs.Bounded.{grid-width}
-use Rattle.openness.specs.Compact.{SoundScene}
+use Rattle.openness.specs.Scene.{SoundScene}
 use Rattle.mask_builder.proofs.Rising.{RealSettings}
 use Rattle.mask_builder.proofs.Built.{grid-partials}
 use Rattle.refusals.specs.Masks.{MOST-VOICES, bins, first, settingsReply, voicesReply, tableReply, voicesMaskReply, tabledMaskReply, stereoReply}

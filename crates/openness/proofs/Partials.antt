@@ -14,8 +14,8 @@ use Rattle.lobes.specs.declared.Tone.{Tone}
 use Rattle.lobes.specs.declared.Lobe.{Lobe}
 use Rattle.lobes.specs.Distance.{Logs}
 use Rattle.lobes.specs.Lobe.{lobeOf}
-use Rattle.openness.specs.Openness.{lobeJoined}
-use Rattle.openness.specs.Compact.{noLobe, lobesJoined}
+use Rattle.lobe_rows.specs.Joined.{lobeJoined}
+use Rattle.block_walk.specs.Compact.{noLobe, lobesJoined}
 
 -- a lobe ends with the bins
 pub last-bin : (grid : Grid) (logs : Logs) (tone : Tone) (partial : ℕ) → lobeOf grid logs tone partial .«last_bin» ≤ grid .«last_bin»

@@ -25,9 +25,10 @@ use Rattle.lobes.specs.Distance.{lent}
 use Rattle.lobes.specs.Lobe.{lobeOf, opening}
 use Rattle.lobes.proofs.NoteLevels.{zero-is}
 use Rattle.lobes.proofs.Raised.{Raised, same-bins, opened-rises}
-use Rattle.openness.specs.Openness.{SKIPPED-LEVEL, lobeJoined, partialsOf, toneJoined, voiceJoined, openness}
-use Rattle.openness.proofs.Maxima.{Openness, Join, le-join, FitWhere, BelowWhere, where-join, AllBelow, fold-join}
-use Rattle.openness.proofs.Entries.{all-range, all-until, all-weaken, all-both, all-places}
+use Rattle.lobe_rows.specs.Joined.{lobeJoined}
+use Rattle.lobe_rows.proofs.Maxima.{Openness, nothing-open, Join, le-join, FitWhere, BelowWhere, where-join, AllBelow, fold-join}
+use Rattle.lobe_rows.proofs.Entries.{all-range, all-until, all-weaken, all-both, all-places}
+use Rattle.openness.specs.Openness.{SKIPPED-LEVEL, partialsOf, toneJoined, voiceJoined, openness}
 
 pub raised-self : (a : MaskVoice) → RealVoice a → Raised a a
 raised-self a u =
@@ -55,10 +56,6 @@ pub record Fair (grid : Grid) : Type 0 where
 skipped-number : T (number binary32 SKIPPED-LEVEL)
 unfolding ofBits fits
 skipped-number = tt
-
-pub nothing-open : Openness zero
-unfolding ofBits fits le mag
-nothing-open = record { is-real = tt; low = tt; high = lit≤ tt }
 
 module _ (grid : Grid) (fair : Fair grid) (table : List Float) (side : Side) (bin : ℕ) where
   abbrev pub lobe : MaskVoice → ℕ → Lobe

@@ -23,9 +23,11 @@ use Rattle.lobes.specs.Pan.{Side, channelGain}
 use Rattle.lobes.specs.Tone.{toneOf}
 use Rattle.lobes.specs.Distance.{lent}
 use Rattle.lobes.proofs.Channels.{channel-gain-rises}
+use Rattle.lobe_rows.proofs.Maxima.{nothing-open}
+use Rattle.block_walk.specs.Compact.{Opennesses}
 use Rattle.openness.specs.Openness.{voiceJoined}
-use Rattle.openness.specs.Compact.{RealGrid, SoundTone, ToneReady, Opennesses}
-use Rattle.openness.proofs.RaisedVoices.{Fair, nothing-open, voice-join}
+use Rattle.openness.specs.Scene.{RealGrid, SoundTone, ToneReady}
+use Rattle.openness.proofs.RaisedVoices.{Fair, voice-join}
 use Rattle.openness.proofs.ToneLobes.{sound-lobes}
 
 voice-gain : (side : Side) (voice : MaskVoice) → RealVoice voice → Upto binary32 3 (channelGain side voice)

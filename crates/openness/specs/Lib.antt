@@ -1,4 +1,3 @@
-pub mod Stages
 pub mod Sides
 pub mod Openness
-pub mod Compact
+pub mod Scene

@@ -1,33 +1,22 @@
 -- How far the voices open a bin: "Lobes join by maximum, onto an openness of 0 in every bin." Everything here is a function of the bin. Assumes nothing.
-use mathlib.Core.Bool.{cond, _&&_}
+use mathlib.Core.Bool.{cond}
 use mathlib.Core.List.{List}
 use Prim.Native.Nat.{ℕ}
-use lib.Dec.{leb}
-use lib.Ieee.{Float, binary32, ofBits, mul, le, lt}
+use lib.Ieee.{Float, binary32, ofBits, le, lt}
 use Rattle.lists.specs.Folds.{fold, takeUntil, range}
-use Rattle.float32.specs.Order.{maximum}
 use Rattle.float32.specs.Remainder.{zero}
 use Rattle.scene.specs.declared.MaskVoice.{MaskVoice}
 use Rattle.lobes.specs.declared.Grid.{Grid}
 use Rattle.lobes.specs.declared.Tone.{Tone}
-use Rattle.lobes.specs.declared.Lobe.{Lobe}
 use Rattle.lobes.specs.Pan.{Side, channelGain}
 use Rattle.lobes.specs.Tone.{toneOf, centerOf}
 use Rattle.lobes.specs.Distance.{Logs}
-use Rattle.lobes.specs.Lobe.{lobeOf, opening}
+use Rattle.lobes.specs.Lobe.{lobeOf}
+use Rattle.lobe_rows.specs.Joined.{lobeJoined}
 
 -- "Voices at level ≤ 0.00001 are skipped."
 abbrev pub SKIPPED-LEVEL : Float
 SKIPPED-LEVEL = ofBits binary32 0x3727_c5ac
-
--- what a bin holds, and what a lobe opens there; gain is the voice's expression on this side
-abbrev pub joined : Float → Float → Float → Float
-joined gain held opening = maximum held (mul binary32 opening gain)
-
--- a lobe joined to what a bin holds, where it reaches the bin
-unfoldable pub lobeJoined : Grid → Logs → Float → ℕ → Float → Lobe → Float
-lobeJoined grid logs gain bin held lobe =
-    cond (leb (lobe .«first_bin») bin && leb bin (lobe .«last_bin»)) (joined gain held (opening grid logs lobe bin)) held
 
 -- the partials 1, 2, .. of a tone, ending at the first whose centre is above nyquist
 abbrev pub partialsOf : Grid → Tone → List ℕ

@@ -12,26 +12,23 @@ ghost use Rattle.power.specs.Log.{L2};
 ghost use Rattle.gaussian.specs.Table.{gaussianTable};
 ghost use Rattle.lobes.specs.Tone.{partialOctaves};
 ghost use Rattle.lobes.specs.Distance.{lent, logsOf};
-ghost use Rattle.openness.specs.Openness.{lobeJoined, toneJoined};
-ghost use Rattle.openness.specs.Compact.{noLobe, lobesJoined, SoundLobes, SidesReady, ToneReady};
-use crate::chunk::openings;
-use crate::compact::rasterize_compact_harmonic_envelope;
-use crate::joins::join;
+ghost use Rattle.lobe_rows.specs.Joined.{lobeJoined};
+ghost use Rattle.block_walk.specs.Compact.{noLobe, lobesJoined, SoundLobes};
+ghost use Rattle.openness.specs.Openness.{toneJoined};
+ghost use Rattle.openness.specs.Scene.{SidesReady, ToneReady};
 use crate::tone_lobes::lobes_of;
 use crate::tone_lobes::partials_of;
+use block_walk::Gains;
+use block_walk::compact::rasterize_compact_harmonic_envelope;
 use float32::counts::lesser;
 use gaussian::GaussianTable;
+use lobe_rows::chunk::openings;
+use lobe_rows::joins::join;
 use lobes::Grid;
 use lobes::Lobe;
 use lobes::Tone;
 use lobes::octaves::PartialOctaves;
 use power::table::PowerTable;
-
-// A voice's gain on each side.
-pub struct Gains {
-    pub first: f32,
-    pub second: f32,
-}
 
 // A lobe's bins, as many at a time as the chunk has room for.
 fn raise_lobe(

@@ -7,7 +7,7 @@ ghost use Rattle.power.specs.Table.{powerTable};
 ghost use Rattle.lobes.specs.Tone.{partialOctaves};
 ghost use Rattle.lobes.specs.Distance.{logsOf};
 ghost use Rattle.openness.specs.Openness.{partialsOf};
-ghost use Rattle.openness.specs.Compact.{lobesOf};
+ghost use Rattle.openness.specs.Scene.{lobesOf};
 use lobes::Grid;
 use lobes::Lobe;
 use lobes::Tone;

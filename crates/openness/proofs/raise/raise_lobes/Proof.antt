@@ -5,7 +5,7 @@ use native.Mathlib.Omega.{arith}
 use lib.ListN.{length, take}
 use Rattle.lists.specs.Maps.{mapAt}
 use Rattle.lobes.specs.Distance.{logsOf}
-use Rattle.openness.specs.Compact.{lobesJoined}
+use Rattle.block_walk.specs.Compact.{lobesJoined}
 use Rattle.openness.proofs.Partials.{lobes-from, lobes-all, lobes-next, lobes-end}
 use borrow.Author.Needs.{needs}
 use Rattle.openness.proofs.raise.raise_lobes.Statement.{statement}

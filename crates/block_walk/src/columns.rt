@@ -1,0 +1,97 @@
+// What the walk by blocks takes from the lobes of a tone before it begins: the bins that they reach, their columns, and whether it can pay at all.
+ghost use mathlib.Core.Path.{_≡_};
+ghost use Prim.Native.Nat.{ℕ, _+_, _*_, _≤_, _<_};
+ghost use lib.ListN.{length, getD};
+ghost use Rattle.lists.specs.Maps.{mapRange};
+ghost use Rattle.blocks.specs.Ends.{blockOf};
+ghost use Rattle.block_walk.specs.Compact.{noLobe};
+use blocks::BLOCK;
+use float32::counts::greater;
+use float32::counts::lesser;
+use lobes::Grid;
+use lobes::Lobe;
+
+// The bins that lobes reach, from the first to the last, and how many the plain way works out for them.
+pub struct Span {
+    pub first_bin: usize,
+    pub last_bin: usize,
+    pub plain_cost: usize,
+}
+
+// How many bins there are from a first to a last one.
+pub fn bins_between(first_bin: usize, last_bin: usize) -> usize
+    requires { ⌜ «last_bin» ≤ 8192 ⌝ }
+    ensures { λ r. ⌜ r ≤ 8193 ⌝ }
+{
+    if first_bin <= last_bin {
+        return last_bin + 1 - first_bin;
+    }
+    0
+}
+
+pub fn span_of(lobes: [Lobe; 24], count: usize, last_bin: usize) -> Span
+    requires { ⌜ (count ≤ 24) × («last_bin» ≤ 8192) × ((p : ℕ) → p < count → getD lobes p noLobe .«last_bin» ≤ «last_bin») ⌝ }
+    ensures { λ r. ⌜ (r .«last_bin» ≤ «last_bin») × (r .«plain_cost» ≤ 24 * 8193) × ((p : ℕ) → p < count → (r .«first_bin» ≤ getD lobes p noLobe .«first_bin») × (getD lobes p noLobe .«last_bin» ≤ r .«last_bin»)) ⌝ }
+{
+    let mut first = last_bin + 1;
+    let mut last: usize = 0;
+    let mut cost: usize = 0;
+    let mut p: usize = 0;
+    while p < count {
+        let lobe = lobes[p];
+        first = lesser(first, lobe.first_bin);
+        last = greater(last, lobe.last_bin);
+        cost += bins_between(lobe.first_bin, lobe.last_bin);
+        p += 1;
+    }
+    Span {
+        first_bin: first,
+        last_bin: last,
+        plain_cost: cost,
+    }
+}
+
+// The columns that the bounds are worked out from.
+pub fn columns_of(
+    centers: &mut [f32],
+    strengths: &mut [f32],
+    peaks: &mut [f32],
+    lobes: [Lobe; 24],
+    count: usize,
+)
+    requires { ⌜ (count ≤ 24) × (count ≤ length (now centers)) × (count ≤ length (now strengths)) × (count ≤ length (now peaks)) ⌝ }
+    ensures { λ _. ⌜ (now (centers .exit) ≡ mapRange (λ p held. getD lobes p noLobe .«center_log2») 0 count (now (centers .entry))) × (now (strengths .exit) ≡ mapRange (λ p held. getD lobes p noLobe .strength) 0 count (now (strengths .entry))) × (now (peaks .exit) ≡ mapRange (λ p held. getD lobes p noLobe .«peak_squared») 0 count (now (peaks .entry))) ⌝ }
+{
+    let mut p: usize = 0;
+    while p < count {
+        let lobe = lobes[p];
+        centers[p] = lobe.center_log2;
+        strengths[p] = lobe.strength;
+        peaks[p] = lobe.peak_squared;
+        p += 1;
+    }
+}
+
+// The block that a bin is in.
+pub fn block_of(bin: usize) -> usize
+    ensures { λ r. ⌜ r ≡ blockOf bin ⌝ }
+{
+    if bin == 0 {
+        return 0;
+    }
+    (bin - 1) / BLOCK
+}
+
+// Whether the walk can pay on a grid: the lobes of so many partials overlap where twice the sum of their lengths is above three times what they span. In units of the fundamental partial n reaches
+// from n times the lower ratio to n times the upper one.
+pub fn block_walk_pays(grid: Grid) -> bool {
+    if grid.partials < 3 {
+        return false;
+    }
+    if grid.partials > 24 {
+        return false;
+    }
+    let partials = grid.partials as f32;
+    let lengths = partials * (partials + 1.0) * (grid.upper_ratio - grid.lower_ratio);
+    3.0 * (partials * grid.upper_ratio - grid.lower_ratio) < lengths
+}

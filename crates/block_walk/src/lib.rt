@@ -1,0 +1,11 @@
+// The compact way: the partials of a tone raised together, over blocks of 64 bins, each only where it can count.
+
+pub mod columns;
+pub mod compact;
+pub mod most;
+
+// A voice's gain on each side.
+pub struct Gains {
+    pub first: f32,
+    pub second: f32,
+}

@@ -1,0 +1,78 @@
+-- The stages of a row of bins, one after the other, give each bin its bell, and then the lobe's opening. Assumes nothing.
+use mathlib.Core.Path.{_≡_, sym, ap, _∙_, subst}
+use mathlib.Core.List.{List}
+use Prim.Native.Nat.{ℕ, _+_, _≤_, _<_}
+use native.Mathlib.Nat.{le-trans, le-of-eq, min-le-right}
+use native.Mathlib.Omega.{arith}
+use lib.ListN.{length, getD}
+use lib.Ieee.{Float, nan, binary32, sub}
+use lib.Ieee.Fits.{sub-fits}
+use Rattle.lists.specs.Maps.{mapRange, between-in, getD-mapRange}
+use Rattle.lists.specs.Runs.{range-range, range-same}
+use Rattle.float32.specs.Counts.{floorCount}
+use Rattle.float32.specs.Powers.{square}
+use Rattle.power.specs.Log.{L2}
+use Rattle.gaussian.specs.Bell.{Place, indexOf, partOf, line, between}
+use Rattle.gaussian.proofs.InUnit.{place-of}
+use Rattle.lobes.specs.declared.Grid.{Grid}
+use Rattle.lobes.specs.declared.Lobe.{Lobe}
+use Rattle.lobes.specs.Distance.{lent, inWidths}
+use Rattle.lobes.specs.Lobe.{opening}
+use Rattle.lobes.proofs.Raised.{from-zero}
+use Rattle.lobe_rows.specs.Stages.{relativeTo, placeOf, openedBy, opening-lent}
+
+-- what is taken from a distance, NaN too, is a place of the table: a maximum with 0 is a number
+pub in-table : (peak distance : Float) → Place (placeOf peak distance)
+in-table peak distance = place-of (relativeTo peak distance) (from-zero _ (sub-fits binary32 (square distance) peak))
+
+-- ---- the bells of the first `count` entries: their places, the entries and parts of the steps there, and the lines
+module _ (place : ℕ → Float) (count : ℕ) (before : List Float) (room : count ≤ length before) where
+  abbrev placed : List Float
+  placed = mapRange (λ k x. place k) 0 count before
+
+  placed-at : {xs : List Float} → xs ≡ placed → (k : ℕ) → k < count → getD xs k nan ≡ place k
+  placed-at e k h =
+      ap (λ (l : List Float). getD l k nan) e
+      ∙ getD-mapRange (λ k x. place k) 0 count before k nan (omega arith)
+      ∙ between-in (λ k x. place k) 0 count k (getD before k nan) (omega arith) h
+
+  pub placed-in-table : ((k : ℕ) → Place (place k)) → {xs : List Float} → xs ≡ placed → (k : ℕ) → k < count → Place (getD xs k nan)
+  placed-in-table w e k h = subst Place (sym (placed-at e k h)) (w k)
+
+  module _ {xs : List Float} (e : xs ≡ placed) (held : List ℕ) (wide : count ≤ length held) {ns : List ℕ} (d : ns ≡ mapRange (λ k x. indexOf (getD xs k nan)) 0 count held) where
+    index-at : (k : ℕ) → k < count → getD ns k 0 ≡ indexOf (place k)
+    index-at k h =
+        ap (λ (l : List ℕ). getD l k 0) d
+        ∙ getD-mapRange (λ k x. indexOf (getD xs k nan)) 0 count held k 0 (omega arith)
+        ∙ between-in (λ k x. indexOf (getD xs k nan)) 0 count k (getD held k 0) (omega arith) h
+        ∙ ap indexOf (placed-at e k h)
+
+    pub index-most : (k : ℕ) → k < count → getD ns k 0 ≤ 1024
+    index-most k h = le-trans (le-of-eq (index-at k h)) (min-le-right (floorCount (place k)) 1024)
+
+    abbrev there : ℕ → Float → Float
+    there k part = line (getD ns k 0) part
+
+    there-is : (k : ℕ) → k < count → there k (partOf (place k)) ≡ between (place k)
+    unfolding between
+    there-is k h = ap (λ (n : ℕ). line n (partOf (place k))) (index-at k h)
+
+    pub belled : {ys zs : List Float} → ys ≡ mapRange (λ k x. partOf x) 0 count xs → zs ≡ mapRange there 0 count ys → zs ≡ mapRange (λ k x. between (place k)) 0 count before
+    belled b c =
+        c
+        ∙ ap (mapRange there 0 count) (b ∙ ap (mapRange (λ k x. partOf x) 0 count) e ∙ range-range (λ k x. partOf x) (λ k x. place k) 0 count before)
+        ∙ range-range there (λ k x. partOf (place k)) 0 count before
+        ∙ range-same (λ k x. there k (partOf (place k))) (λ k x. between (place k)) 0 count before (λ k x p q. there-is k q)
+
+-- ---- and what a lobe opens under them
+module _ (grid : Grid) (lobe : Lobe) (table : List Float) (center : Float) (start count : ℕ) where
+  abbrev pub place : ℕ → Float
+  place k = placeOf (lobe .«peak_squared») (inWidths (grid .width) (sub binary32 (getD table (start + k) nan) center))
+
+  pub staged : center ≡ L2 (lobe .center) → (xs : List Float)
+      → mapRange (λ k bell. openedBy (lobe .strength) bell) 0 count (mapRange (λ k x. between (place k)) 0 count xs)
+      ≡ mapRange (λ k held. opening grid (lent table) lobe (start + k)) 0 count xs
+  staged e xs =
+      range-range (λ k bell. openedBy (lobe .strength) bell) (λ k x. between (place k)) 0 count xs
+      ∙ range-same (λ k x. openedBy (lobe .strength) (between (place k))) (λ k held. opening grid (lent table) lobe (start + k)) 0 count xs
+      (λ k held p q. rw e (sym (opening-lent grid lobe (start + k) table)))

@@ -1,0 +1,28 @@
+// Openness joined by maximum.
+ghost use mathlib.Core.Path.{_≡_};
+ghost use Prim.Native.Nat.{_+_, _-_, _≤_};
+ghost use lib.ListN.{length, getD};
+ghost use lib.Ieee.{nan};
+ghost use Rattle.lists.specs.Maps.{mapRange};
+ghost use Rattle.lobe_rows.specs.Joined.{joined};
+use float32::counts::lesser;
+
+// What a bin holds, and what a lobe opens there under a voice's expression.
+fn joined(held: f32, opening: f32, gain: f32) -> f32
+    ensures { λ r. ⌜ r ≡ joined gain held opening ⌝ }
+{
+    float32::order::max(held, opening * gain)
+}
+
+// The openings of a chunk's bins joined to what the bins hold, as far as there are bins: so the same call serves a side that is not there.
+pub fn join(out: &mut [f32], openings: &[f32], gain: f32, start: usize, end: usize)
+    requires { ⌜ end ≤ start + length (now openings) ⌝ }
+    ensures { λ _. ⌜ now (out .exit) ≡ mapRange (λ bin held. joined gain held (getD (now (openings .entry)) (bin - start) nan)) start end (now (out .entry)) ⌝ }
+{
+    let stop = lesser(end, out.len());
+    let mut bin = start;
+    while bin < stop {
+        out[bin] = joined(out[bin], openings[bin - start], gain);
+        bin += 1;
+    }
+}

@@ -1,0 +1,54 @@
+-- What the walk by blocks asks of a scene, of a tone of it, and of the sides that are raised. No mask is said here: both ways of raising a tone write the same. Assumes nothing.
+use mathlib.Core.Path.{_≡_}
+use mathlib.Core.List.{List, map}
+use Prim.Native.Nat.{ℕ, _≤_}
+use lib.Dec.{T}
+use lib.ListN.{length, take}
+use lib.Ieee.{Float, binary32, lt}
+use Rattle.lists.specs.Totals.{All}
+use Rattle.float_laws.specs.Units.{real}
+use Rattle.float_laws.specs.Round.{plus-zero}
+use Rattle.float_laws.specs.Rise.{Upto}
+use Rattle.scene.specs.declared.MaskVoice.{MaskVoice}
+use Rattle.scene.proofs.Voices.{RealVoice}
+use Rattle.lobes.specs.declared.Grid.{Grid}
+use Rattle.lobes.specs.declared.Tone.{Tone}
+use Rattle.lobes.specs.declared.Lobe.{Lobe}
+use Rattle.lobes.specs.Distance.{Logs, lent}
+use Rattle.lobes.specs.Lobe.{lobeOf}
+use Rattle.block_walk.specs.Compact.{SoundLobes, Opennesses, RealTable, Ready}
+use Rattle.openness.specs.Openness.{partialsOf}
+
+-- the lobes of a tone's partials
+abbrev pub lobesOf : Grid → Logs → Tone → List Lobe
+lobesOf grid logs tone = map (lobeOf grid logs tone) (partialsOf grid tone)
+
+-- a width and a rolloff of accepted settings
+pub record RealGrid (grid : Grid) : Type 0 where
+  pub width-real : T (real binary32 (grid .width))
+  pub width-above : T (lt plus-zero (grid .width))
+  pub rolloff-real : T (real binary32 (grid .rolloff))
+  pub few : grid .partials ≤ 24
+
+-- what the walk asks of a tone: its lobes are sound however they are listed
+abbrev pub SoundTone : Grid → List Float → Tone → Type 0
+SoundTone grid table tone = (lobes : List Lobe) (n : ℕ) → n ≡ length (partialsOf grid tone) → take n lobes ≡ lobesOf grid (lent table) tone → SoundLobes grid lobes n
+
+-- an accepted scene, as the masks by a table are built from it
+pub record SoundScene (grid : Grid) (voices : List MaskVoice) (table : List Float) : Type 0 where
+  pub last : grid .«last_bin» ≤ 8192
+  pub long : length table ≤ 8193
+  pub grid-real : RealGrid grid
+  pub voices-real : All RealVoice voices
+  pub table-real : RealTable table
+
+-- what stands ready where a tone, a voice or voices may be raised by the walk: the ends of the table's blocks, rows of 64, and sides that hold opennesses
+pub record SidesReady (grid : Grid) (table lows highs first second : List Float) : Type 0 where
+  pub ready : Ready grid table lows highs
+  pub first-open : Opennesses first
+  pub second-open : Opennesses second
+
+pub record ToneReady (grid : Grid) (tone : Tone) (gain₁ gain₂ : Float) (table : List Float) : Type 0 where
+  pub sound : SoundTone grid table tone
+  pub first-gain : Upto binary32 3 gain₁
+  pub second-gain : Upto binary32 3 gain₂
