@@ -28,9 +28,9 @@ use Rattle.lobes.specs.Lobe.{opening}
 use Rattle.lobes.specs.Bound.{boundOf}
 use Rattle.lobes.proofs.Nearest.{InBlock}
 use Rattle.lobes.proofs.Bounded.{bound-in-unit, opening-bounded}
-use Rattle.lobe_rows.specs.Joined.{joined, lobeJoined}
+use Rattle.lobe_rows.specs.Joined.{joined, lobeJoined, noLobe, lobesJoined}
 use Rattle.lobe_rows.proofs.Entries.{all-places}
-use Rattle.block_walk.specs.Compact.{noLobe, lobesJoined, mostOpen, SoundLobes, Opennesses, BoundedLobes, RealTable, Within, InColumns}
+use Rattle.block_walk.specs.Compact.{mostOpen, SoundLobes, Opennesses, BoundedLobes, RealTable, Within, InColumns}
 use Rattle.block_walk.proofs.Highest.{keeps}
 use Rattle.block_walk.proofs.CompactIsPlain.{compact-is-plain}
 use Rattle.block_walk.proofs.MostOpen.{all-in-unit}

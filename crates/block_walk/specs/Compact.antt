@@ -5,7 +5,6 @@ use Prim.Native.Nat.{ℕ, _+_, _*_, _≤_, _<_}
 use lib.Dec.{T}
 use lib.ListN.{length, getD}
 use lib.Ieee.{Float, nan, binary32, le}
-use Rattle.lists.specs.Folds.{fold}
 use Rattle.float_laws.specs.Units.{real}
 use Rattle.float_laws.specs.Rise.{Upto}
 use Rattle.float32.specs.Remainder.{zero, one}
@@ -16,15 +15,7 @@ use Rattle.lobes.specs.declared.Lobe.{Lobe}
 use Rattle.lobes.specs.Distance.{Logs, lent}
 use Rattle.lobes.specs.Lobe.{opening}
 use Rattle.lobes.proofs.Bounded.{Measured}
-use Rattle.lobe_rows.specs.Joined.{lobeJoined}
-
--- what stands past the end of a list of lobes
-abbrev pub noLobe : Lobe
-noLobe = record { center = nan; «center_log2» = nan; strength = nan; «first_bin» = 0; «last_bin» = 0; «peak_squared» = nan }
-
--- lobes joined one after the other to what a bin holds
-unfoldable pub lobesJoined : Grid → Logs → Float → List Lobe → ℕ → Float → Float
-lobesJoined grid logs gain lobes bin held = fold (λ held lobe. lobeJoined grid logs gain bin held lobe) held lobes
+use Rattle.lobe_rows.specs.Joined.{noLobe, lobesJoined}
 
 -- the most that one of them opens at a bin
 abbrev pub mostOpen : Grid → Logs → List Lobe → ℕ → Float

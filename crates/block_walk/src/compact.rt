@@ -13,10 +13,9 @@ ghost use lib.Ieee.{binary32, mul};
 ghost use Rattle.lists.specs.Maps.{mapAt, mapRange};
 ghost use Rattle.float_laws.specs.Rise.{Upto};
 ghost use Rattle.gaussian.specs.Table.{gaussianTable};
-ghost use Rattle.blocks.specs.Ends.{Ends};
 ghost use Rattle.lobes.specs.Distance.{lent};
-ghost use Rattle.block_walk.specs.Compact.{lobesJoined, SoundLobes, Opennesses, BoundedLobes, NotAbove, RealTable, Within, InColumns, Ready};
-use crate::Gains;
+ghost use Rattle.lobe_rows.specs.Joined.{lobesJoined};
+ghost use Rattle.block_walk.specs.Compact.{SoundLobes, Opennesses, BoundedLobes, NotAbove, Within, InColumns, Ready};
 use crate::columns::Span;
 use crate::columns::bins_between;
 use crate::columns::block_of;
@@ -27,6 +26,7 @@ use blocks::BLOCK;
 use blocks::least_from;
 use float32::counts::lesser;
 use gaussian::GaussianTable;
+use lobe_rows::Gains;
 use lobe_rows::joins::join;
 use lobes::Grid;
 use lobes::Lobe;
@@ -58,7 +58,6 @@ fn raise_block(
     row: &mut [f32],
     chunk: &mut [f32],
     indexes: &mut [u32],
-    scratch: &mut [f32],
     gaussians: &GaussianTable,
     table: &[f32],
     bounds: &[f32],
@@ -69,18 +68,17 @@ fn raise_block(
     start: usize,
     end: usize,
 )
-    requires { ⌜ (now gaussians ≡ gaussianTable) × (SoundLobes grid lobes count) × (0 < count) × (count ≤ 24) × (count ≤ length (now bounds)) × (start ≤ end) × (length (now row) ≡ 64) × (length (now chunk) ≡ 64) × (length (now indexes) ≡ 64) × (length (now scratch) ≡ 64) × (end ≤ start + 64) × (end ≤ length (now table)) × (grid .«last_bin» ≤ 2 ^ 24) × (Opennesses (now first)) × (Opennesses (now second)) × (Upto binary32 3 (gains .first)) × (Upto binary32 3 (gains .second)) × (BoundedLobes grid (now table) lobes count (now bounds) start end) ⌝ }
+    requires { ⌜ (now gaussians ≡ gaussianTable) × (SoundLobes grid lobes count) × (0 < count) × (count ≤ 24) × (count ≤ length (now bounds)) × (start ≤ end) × (length (now row) ≡ 64) × (length (now chunk) ≡ 64) × (length (now indexes) ≡ 64) × (end ≤ start + 64) × (end ≤ length (now table)) × (grid .«last_bin» ≤ 2 ^ 24) × (Opennesses (now first)) × (Opennesses (now second)) × (Upto binary32 3 (gains .first)) × (Upto binary32 3 (gains .second)) × (BoundedLobes grid (now table) lobes count (now bounds) start end) ⌝ }
     ensures { λ _. ⌜ (now (first .exit) ≡ mapRange (lobesJoined grid (lent (now (table .entry))) (gains .first) (take count lobes)) start end (now (first .entry))) × (now (second .exit) ≡ mapRange (lobesJoined grid (lent (now (table .entry))) (gains .second) (take count lobes)) start end (now (second .entry))) ⌝ }
 {
     let top = greatest_at(bounds, count);
-    if nothing_rises(first, second, scratch, bounds[top], gains, start) {
+    if nothing_rises(first, second, chunk, bounds[top], gains, start) {
         return;
     }
     raise_partials(
         row,
         chunk,
         indexes,
-        scratch,
         gaussians,
         table,
         bounds,
@@ -102,7 +100,6 @@ fn raise_blocks(
     row: &mut [f32],
     chunk: &mut [f32],
     indexes: &mut [u32],
-    scratch: &mut [f32],
     bounds: &mut [f32],
     gaussians: &GaussianTable,
     table: &[f32],
@@ -117,7 +114,7 @@ fn raise_blocks(
     gains: Gains,
     span: Span,
 )
-    requires { ⌜ (now gaussians ≡ gaussianTable) × (SoundLobes grid lobes count) × (0 < count) × (count ≤ 24) × (count ≤ length (now bounds)) × (length (now row) ≡ 64) × (length (now chunk) ≡ 64) × (length (now indexes) ≡ 64) × (length (now scratch) ≡ 64) × (grid .«last_bin» ≤ 8192) × (grid .«last_bin» < length (now table)) × (length (now table) ≤ 64 * length (now lows) + 1) × (length (now table) ≤ 64 * length (now highs) + 1) × (Ends (now table) (now lows) (now highs)) × (RealTable (now table)) × (count ≤ length (now centers)) × (count ≤ length (now strengths)) × (count ≤ length (now peaks)) × (InColumns lobes count (now centers) (now strengths) (now peaks)) × (Opennesses (now first)) × (Opennesses (now second)) × (Upto binary32 3 (gains .first)) × (Upto binary32 3 (gains .second)) × (span .«last_bin» ≤ grid .«last_bin») × (Within lobes count (span .«first_bin») (span .«last_bin»)) ⌝ }
+    requires { ⌜ (now gaussians ≡ gaussianTable) × (SoundLobes grid lobes count) × (0 < count) × (count ≤ 24) × (count ≤ length (now bounds)) × (length (now row) ≡ 64) × (length (now chunk) ≡ 64) × (length (now indexes) ≡ 64) × (Ready grid (now table) (now lows) (now highs)) × (count ≤ length (now centers)) × (count ≤ length (now strengths)) × (count ≤ length (now peaks)) × (InColumns lobes count (now centers) (now strengths) (now peaks)) × (Opennesses (now first)) × (Opennesses (now second)) × (Upto binary32 3 (gains .first)) × (Upto binary32 3 (gains .second)) × (span .«last_bin» ≤ grid .«last_bin») × (Within lobes count (span .«first_bin») (span .«last_bin»)) ⌝ }
     ensures { λ _. ⌜ (now (first .exit) ≡ mapAt (lobesJoined grid (lent (now (table .entry))) (gains .first) (take count lobes)) (now (first .entry))) × (now (second .exit) ≡ mapAt (lobesJoined grid (lent (now (table .entry))) (gains .second) (take count lobes)) (now (second .entry))) ⌝ }
 {
     let mut block = block_of(lesser(span.first_bin, span.last_bin));
@@ -141,7 +138,6 @@ fn raise_blocks(
             row,
             chunk,
             indexes,
-            scratch,
             gaussians,
             table,
             bounds,
@@ -188,7 +184,6 @@ fn walk(
     ensures { λ _. ⌜ (now (first .exit) ≡ mapAt (lobesJoined grid (lent (now (table .entry))) (gains .first) (take count lobes)) (now (first .entry))) × (now (second .exit) ≡ mapAt (lobesJoined grid (lent (now (table .entry))) (gains .second) (take count lobes)) (now (second .entry))) ⌝ }
 {
     let mut row = [0.0f32; 64];
-    let mut scratch = [0.0f32; 64];
     let mut bounds = [0.0f32; 24];
     let mut centers = [0.0f32; 24];
     let mut strengths = [0.0f32; 24];
@@ -200,7 +195,6 @@ fn walk(
         &mut row,
         chunk,
         indexes,
-        &mut scratch,
         &mut bounds,
         gaussians,
         table,

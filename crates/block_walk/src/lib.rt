@@ -3,9 +3,3 @@
 pub mod columns;
 pub mod compact;
 pub mod most;
-
-// A voice's gain on each side.
-pub struct Gains {
-    pub first: f32,
-    pub second: f32,
-}

@@ -61,7 +61,6 @@ fn raise_above(
     row: &mut [f32],
     chunk: &mut [f32],
     indexes: &mut [u32],
-    scratch: &mut [f32],
     gaussians: &GaussianTable,
     table: &[f32],
     grid: Grid,
@@ -72,7 +71,7 @@ fn raise_above(
     start: usize,
     end: usize,
 ) -> f32
-    requires { ⌜ (now gaussians ≡ gaussianTable) × (SoundLobe grid lobe) × (start ≤ end) × (length (now row) ≡ 64) × (length (now chunk) ≡ 64) × (length (now indexes) ≡ 64) × (length (now scratch) ≡ 64) × (end ≤ start + 64) × (end ≤ length (now table)) × (grid .«last_bin» ≤ 2 ^ 24) × (Opennesses (now row)) × (Least least 0 64 (now row)) × (Upto binary32 0 bound) × (Bounded grid (now table) lobe bound start end) × (there ≡ true → now row ≡ mapRange (λ k held. lobeJoined grid (lent (now table)) one (start + k) held lobe) 0 (end - start) (now row)) ⌝ }
+    requires { ⌜ (now gaussians ≡ gaussianTable) × (SoundLobe grid lobe) × (start ≤ end) × (length (now row) ≡ 64) × (length (now chunk) ≡ 64) × (length (now indexes) ≡ 64) × (end ≤ start + 64) × (end ≤ length (now table)) × (grid .«last_bin» ≤ 2 ^ 24) × (Opennesses (now row)) × (Least least 0 64 (now row)) × (Upto binary32 0 bound) × (Bounded grid (now table) lobe bound start end) × (there ≡ true → now row ≡ mapRange (λ k held. lobeJoined grid (lent (now table)) one (start + k) held lobe) 0 (end - start) (now row)) ⌝ }
     ensures { λ r. ⌜ (now (row .exit) ≡ mapRange (λ k held. lobeJoined grid (lent (now (table .entry))) one (start + k) held lobe) 0 (end - start) (now (row .entry))) × (Least r 0 64 (now (row .exit))) ⌝ }
 {
     if there {
@@ -92,7 +91,7 @@ fn raise_above(
         start,
         end,
     );
-    least_from(scratch, row, 0)
+    least_from(chunk, row, 0)
 }
 
 // The most that one of the lobes opens at each bin from `start` on and below `end`. The lobe at `top` comes first.
@@ -100,7 +99,6 @@ pub fn raise_partials(
     row: &mut [f32],
     chunk: &mut [f32],
     indexes: &mut [u32],
-    scratch: &mut [f32],
     gaussians: &GaussianTable,
     table: &[f32],
     bounds: &[f32],
@@ -111,7 +109,7 @@ pub fn raise_partials(
     start: usize,
     end: usize,
 )
-    requires { ⌜ (now gaussians ≡ gaussianTable) × (SoundLobes grid lobes count) × (count ≤ 24) × (top < count) × (count ≤ length (now bounds)) × (start ≤ end) × (length (now row) ≡ 64) × (length (now chunk) ≡ 64) × (length (now indexes) ≡ 64) × (length (now scratch) ≡ 64) × (end ≤ start + 64) × (end ≤ length (now table)) × (grid .«last_bin» ≤ 2 ^ 24) × (BoundedLobes grid (now table) lobes count (now bounds) start end) ⌝ }
+    requires { ⌜ (now gaussians ≡ gaussianTable) × (SoundLobes grid lobes count) × (count ≤ 24) × (top < count) × (count ≤ length (now bounds)) × (start ≤ end) × (length (now row) ≡ 64) × (length (now chunk) ≡ 64) × (length (now indexes) ≡ 64) × (end ≤ start + 64) × (end ≤ length (now table)) × (grid .«last_bin» ≤ 2 ^ 24) × (BoundedLobes grid (now table) lobes count (now bounds) start end) ⌝ }
     ensures { λ _. ⌜ HasMost grid (now (table .entry)) (take count lobes) start end (now (row .exit)) ⌝ }
 {
     slices::fill(row, 0.0);
@@ -127,7 +125,7 @@ pub fn raise_partials(
         start,
         end,
     );
-    let mut least = least_from(scratch, row, 0);
+    let mut least = least_from(chunk, row, 0);
     let mut p: usize = 0;
     while p < count {
         let lobe = lobes[p];
@@ -135,7 +133,6 @@ pub fn raise_partials(
             row,
             chunk,
             indexes,
-            scratch,
             gaussians,
             table,
             grid,

@@ -1,3 +1,5 @@
 pub mod Staged
+pub mod Walk
+pub mod EachLobe
 pub mod Maxima
 pub mod Entries

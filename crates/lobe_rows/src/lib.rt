@@ -1,4 +1,11 @@
-// A lobe over a row of at most 64 bins: what it opens at each of them, and how that is joined to what the bins hold.
+// Lobes over rows of at most 64 bins: what a lobe opens at each bin of a row, how that is joined to what the bins hold, and the plain way of raising lobes, one after the other.
 
 pub mod chunk;
 pub mod joins;
+pub mod plain;
+
+// A voice's gain on each side.
+pub struct Gains {
+    pub first: f32,
+    pub second: f32,
+}

@@ -5,12 +5,12 @@ use mathlib.Core.Bool.{Bool, true, false, not, cond, _&&_}
 use mathlib.Core.List.{List}
 use Prim.Native.Nat.{ℕ, _+_, _≤_, _<_}
 use native.Mathlib.Omega.{arith}
-use lib.Dec.{T, T-not, not-T, leb, lit≤}
+use lib.Dec.{T, T-not, not-T, leb}
 use lib.ListN.{length, getD}
 use lib.Ieee.{Float, binary32, fits, le, mul, ofBits}
 use Rattle.lists.specs.Folds.{fold, range}
 use Rattle.lists.specs.Totals.{All, all-at}
-use Rattle.float_laws.specs.Units.{mag, number, real, real-number}
+use Rattle.float_laws.specs.Units.{number, real, real-number}
 use Rattle.float_laws.specs.Order.{le-trans-f, le-refl-f}
 use Rattle.float_laws.specs.Rise.{Rise, rise-refl}
 use Rattle.float32.specs.Remainder.{zero}

@@ -26,8 +26,8 @@ use Rattle.lobes.specs.Tone.{toneOf, centerOf}
 use Rattle.lobes.specs.Distance.{Logs}
 use Rattle.lobes.specs.Lobe.{lobeOf}
 use Rattle.lobes.proofs.Bounded.{lobe-measured}
-use Rattle.lobe_rows.specs.Joined.{lobeJoined}
-use Rattle.block_walk.specs.Compact.{noLobe, lobesJoined, SoundLobe, SoundLobes}
+use Rattle.lobe_rows.specs.Joined.{lobeJoined, noLobe, lobesJoined}
+use Rattle.block_walk.specs.Compact.{SoundLobe, SoundLobes}
 use Rattle.openness.specs.Openness.{partialsOf, toneJoined}
 use Rattle.openness.specs.Scene.{lobesOf}
 use Rattle.openness.proofs.Partials.{first-bin, last-bin, center-log2}

@@ -11,8 +11,8 @@ use Rattle.block_walk.proofs.compact.raise_block.Tie as tie
 
 greatest-at-requires : tie.Need-greatest-at-requires
 greatest-at-requires c κs =
-    let s = c .before .before .before .before .before .before .before .before in
-    (s .pre .2, s .pre .4, λ p h. real-number binary32 (getD (s .args .bounds .now) p nan) (s .pre .17 p h .0 .is-real))
+    let s = c .before .before .before .before .before .before .before in
+    (s .pre .2, s .pre .4, λ p h. real-number binary32 (getD (s .args .bounds .now) p nan) (s .pre .16 p h .0 .is-real))
 
 mul-nothing-rises : tie.Need-mul-nothing-rises
 mul-nothing-rises c = search needs
@@ -20,14 +20,14 @@ mul-nothing-rises c = search needs
 shared-slice-read-nothing-rises : tie.Need-shared-slice-read-nothing-rises
 shared-slice-read-nothing-rises c =
     let g = c .before .before .before .before in
-    let s = g .before .before .before .before .before .before .before .before .before in
+    let s = g .before .before .before .before .before .before .before .before in
     omega (arith, g .greatest-at .ensures .0, s .pre .4)
 
 nothing-rises-requires : tie.Need-nothing-rises-requires
 nothing-rises-requires c κs =
     let g = c .before .before .before .before in
-    let s = g .before .before .before .before .before .before .before .before .before in
-    (s .pre .9, s .pre .13, s .pre .14, s .pre .17 (g .greatest-at .result) (g .greatest-at .ensures .0) .0, s .pre .15, s .pre .16)
+    let s = g .before .before .before .before .before .before .before .before in
+    (s .pre .7, s .pre .12, s .pre .13, s .pre .16 (g .greatest-at .result) (g .greatest-at .ensures .0) .0, s .pre .14, s .pre .15)
 
 same-length : tie.Need-same-length
 same-length c = search needs
@@ -42,36 +42,36 @@ returns : tie.Need-returns
 returns c =
     let n = c .before .before .before in
     let g = n .before .before .before .before .before in
-    let s = g .before .before .before .before .before .before .before .before .before in
-    let few : s .args .count ≤ length (s .args .lobes) = omega (arith, s .good .1 .1 .1 .1 .1 .1 .1 .1 .1 .1 .0 .1 .0 .1, s .pre .3) in
+    let s = g .before .before .before .before .before .before .before .before in
+    let few : s .args .count ≤ length (s .args .lobes) = omega (arith, s .good .1 .1 .1 .1 .1 .1 .1 .1 .1 .0 .1 .0 .1, s .pre .3) in
     let rises = n .nothing-rises .ensures (c .if1 .taken) in
-    let wide : s .args .end ≤ s .args .start + 64 = s .pre .10 in (
-      block-kept (s .args .grid) (s .args .table .now) (s .args .lobes) (s .args .count) (s .pre .1) few (s .args .bounds .now) (s .args .start) (s .args .end) (g .greatest-at .result) (s .pre .17) (g .greatest-at .ensures) (s .pre .15) (s .args .first .now) (s .pre .13)
+    let wide : s .args .end ≤ s .args .start + 64 = s .pre .9 in (
+      block-kept (s .args .grid) (s .args .table .now) (s .args .lobes) (s .args .count) (s .pre .1) few (s .args .bounds .now) (s .args .start) (s .args .end) (g .greatest-at .result) (s .pre .16) (g .greatest-at .ensures) (s .pre .14) (s .args .first .now) (s .pre .12)
           (λ bin p q l. rises .0 bin p (omega (arith, wide, q)) l),
-      block-kept (s .args .grid) (s .args .table .now) (s .args .lobes) (s .args .count) (s .pre .1) few (s .args .bounds .now) (s .args .start) (s .args .end) (g .greatest-at .result) (s .pre .17) (g .greatest-at .ensures) (s .pre .16) (s .args .second .now) (s .pre .14)
+      block-kept (s .args .grid) (s .args .table .now) (s .args .lobes) (s .args .count) (s .pre .1) few (s .args .bounds .now) (s .args .start) (s .args .end) (g .greatest-at .result) (s .pre .16) (g .greatest-at .ensures) (s .pre .15) (s .args .second .now) (s .pre .13)
           (λ bin p q l. rises .1 bin p (omega (arith, wide, q)) l),
     )
 
 raise-partials-requires : tie.Need-raise-partials-requires
 raise-partials-requires c κs =
-    let n = c .before .before .before .before .before .before .before in
+    let n = c .before .before .before .before .before .before in
     let g = n .before .before .before .before .before in
-    let s = g .before .before .before .before .before .before .before .before .before in
-    (s .pre .0, s .pre .1, s .pre .3, g .greatest-at .ensures .0, s .pre .4, s .pre .5, s .pre .6, s .pre .7, s .pre .8, omega (arith, n .nothing-rises .kept, s .pre .9), s .pre .10, s .pre .11, s .pre .12, s .pre .17)
+    let s = g .before .before .before .before .before .before .before .before in
+    (s .pre .0, s .pre .1, s .pre .3, g .greatest-at .ensures .0, s .pre .4, s .pre .5, s .pre .6, omega (arith, n .nothing-rises .kept, s .pre .7), s .pre .8, s .pre .9, s .pre .10, s .pre .11, s .pre .16)
 
 join-requires : tie.Need-join-requires
 join-requires c κs =
-    let r = c .before .before .before .before .before .before .before .before .before .before in
-    let n = r .before .before .before .before .before .before .before .before in
-    let s = n .before .before .before .before .before .before .before .before .before .before .before .before .before .before in
-    omega (arith, r .raise-partials .kept .0, s .pre .6, s .pre .10)
+    let r = c .before .before .before .before .before .before .before .before in
+    let n = r .before .before .before .before .before .before .before in
+    let s = n .before .before .before .before .before .before .before .before .before .before .before .before .before in
+    omega (arith, r .raise-partials .kept .0, s .pre .6, s .pre .9)
 
 join-requires-2 : tie.Need-join-requires-2
 join-requires-2 c κs =
-    let r = c .before .before .before .before .before .before .before .before .before .before .before .before .before .before .before in
-    let n = r .before .before .before .before .before .before .before .before in
-    let s = n .before .before .before .before .before .before .before .before .before .before .before .before .before .before in
-    omega (arith, r .raise-partials .kept .0, s .pre .6, s .pre .10)
+    let r = c .before .before .before .before .before .before .before .before .before .before .before .before .before in
+    let n = r .before .before .before .before .before .before .before in
+    let s = n .before .before .before .before .before .before .before .before .before .before .before .before .before in
+    omega (arith, r .raise-partials .kept .0, s .pre .6, s .pre .9)
 
 same-length-4 : tie.Need-same-length-4
 same-length-4 c = search needs
@@ -88,19 +88,16 @@ same-length-7 c = search needs
 same-length-8 : tie.Need-same-length-8
 same-length-8 c = search needs
 
-same-length-9 : tie.Need-same-length-9
-same-length-9 c = search needs
-
 returns-2 : tie.Need-returns-2
 returns-2 c =
     let j2 = c .before .before in
     let j1 = j2 .before .before .before .before .before in
-    let r = j1 .before .before .before .before .before .before .before .before .before .before .before in
-    let n = r .before .before .before .before .before .before .before .before in
-    let s = n .before .before .before .before .before .before .before .before .before .before .before .before .before .before in
-    let few : s .args .count ≤ length (s .args .lobes) = omega (arith, s .good .1 .1 .1 .1 .1 .1 .1 .1 .1 .1 .0 .1 .0 .1, s .pre .3) in (
-      block-joined (s .args .grid) (s .args .table .now) (s .args .lobes) (s .args .count) (s .pre .1) few (r .raise-partials .last .0) (s .args .start) (s .args .end) (s .pre .15) (r .raise-partials .ensures) (s .args .first .now) (s .pre .13) (j1 .join .ensures),
-      block-joined (s .args .grid) (s .args .table .now) (s .args .lobes) (s .args .count) (s .pre .1) few (r .raise-partials .last .0) (s .args .start) (s .args .end) (s .pre .16) (r .raise-partials .ensures) (s .args .second .now) (s .pre .14) (j2 .join2 .ensures),
+    let r = j1 .before .before .before .before .before .before .before .before .before in
+    let n = r .before .before .before .before .before .before .before in
+    let s = n .before .before .before .before .before .before .before .before .before .before .before .before .before in
+    let few : s .args .count ≤ length (s .args .lobes) = omega (arith, s .good .1 .1 .1 .1 .1 .1 .1 .1 .1 .0 .1 .0 .1, s .pre .3) in (
+      block-joined (s .args .grid) (s .args .table .now) (s .args .lobes) (s .args .count) (s .pre .1) few (r .raise-partials .last .0) (s .args .start) (s .args .end) (s .pre .14) (r .raise-partials .ensures) (s .args .first .now) (s .pre .12) (j1 .join .ensures),
+      block-joined (s .args .grid) (s .args .table .now) (s .args .lobes) (s .args .count) (s .pre .1) few (r .raise-partials .last .0) (s .args .start) (s .args .end) (s .pre .15) (r .raise-partials .ensures) (s .args .second .now) (s .pre .13) (j2 .join2 .ensures),
     )
 
 pub raise-block-spec : {M : Type 1} → statement M
@@ -123,5 +120,4 @@ raise-block-spec =
     same-length-6
     same-length-7
     same-length-8
-    same-length-9
     returns-2)

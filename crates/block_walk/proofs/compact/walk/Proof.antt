@@ -33,12 +33,9 @@ slice-aggregate-raise-blocks-4 c = search needs
 slice-aggregate-raise-blocks-5 : tie.Need-slice-aggregate-raise-blocks-5
 slice-aggregate-raise-blocks-5 c = search needs
 
-slice-aggregate-raise-blocks-6 : tie.Need-slice-aggregate-raise-blocks-6
-slice-aggregate-raise-blocks-6 c = search needs
-
 raise-blocks-requires : tie.Need-raise-blocks-requires
 raise-blocks-requires c κs =
-    let o = c .before .before .before .before .before .before .before .before .before .before .before .before .before in
+    let o = c .before .before .before .before .before .before .before .before .before .before .before .before in
     let s = o .before .before .before .before .before .before .before .before .before .before .before in
     let e = o .columns-of .ensures in (
       s .pre .0,
@@ -49,13 +46,7 @@ raise-blocks-requires c κs =
       refl,
       s .pre .4,
       s .pre .5,
-      refl,
-      s .pre .6 .last,
-      s .pre .6 .inside,
-      s .pre .6 .lows-long,
-      s .pre .6 .highs-long,
-      s .pre .6 .ends,
-      s .pre .6 .table-real,
+      s .pre .6,
       omega (arith, o .columns-of .kept .0, s .pre .3),
       omega (arith, o .columns-of .kept .1 .0, s .pre .3),
       omega (arith, o .columns-of .kept .1 .1, s .pre .3),
@@ -96,7 +87,6 @@ walk-spec =
     slice-aggregate-raise-blocks-3
     slice-aggregate-raise-blocks-4
     slice-aggregate-raise-blocks-5
-    slice-aggregate-raise-blocks-6
     raise-blocks-requires
     same-length
     same-length-2

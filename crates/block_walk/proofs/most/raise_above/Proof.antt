@@ -25,27 +25,27 @@ not-above bound least xs e u v w h k l =
 
 returns : tie.Need-returns
 returns c =
-    let s = c .before .before .before .before .before .before in
-    (s .pre .14 (c .if1 .taken), s .pre .11)
+    let s = c .before .before .before .before .before in
+    (s .pre .13 (c .if1 .taken), s .pre .10)
 
 returns-2 : tie.Need-returns-2
 returns-2 c =
-    let s = c .before .before .before .before .before .before .before in (
-      row-above (s .args .grid) (s .args .table .now) (s .args .lobe) (s .args .start) (s .args .end) (s .args .row .now) (s .pre .10) (s .pre .1 .measured) (s .args .bound) (s .pre .12) (s .pre .13)
-          (not-above (s .args .bound) (s .args .least) (s .args .row .now) (s .pre .3) (s .pre .12) (s .pre .10) (s .pre .11) (c .if2 .taken)),
-      s .pre .11,
+    let s = c .before .before .before .before .before .before in (
+      row-above (s .args .grid) (s .args .table .now) (s .args .lobe) (s .args .start) (s .args .end) (s .args .row .now) (s .pre .9) (s .pre .1 .measured) (s .args .bound) (s .pre .11) (s .pre .12)
+          (not-above (s .args .bound) (s .args .least) (s .args .row .now) (s .pre .3) (s .pre .11) (s .pre .9) (s .pre .10) (c .if2 .taken)),
+      s .pre .10,
     )
 
 raise-in-row-requires : tie.Need-raise-in-row-requires
 raise-in-row-requires c κs =
-    let s = c .before .before .before .before .before .before .before .before .before .before in
-    (s .pre .0, s .pre .1, s .pre .2, omega (arith, s .pre .3, s .pre .7), omega (arith, s .pre .4, s .pre .7), omega (arith, s .pre .5, s .pre .7), s .pre .8, s .pre .9)
+    let s = c .before .before .before .before .before .before .before .before .before in
+    (s .pre .0, s .pre .1, s .pre .2, omega (arith, s .pre .3, s .pre .6), omega (arith, s .pre .4, s .pre .6), omega (arith, s .pre .5, s .pre .6), s .pre .7, s .pre .8)
 
 least-from-requires : tie.Need-least-from-requires
 least-from-requires c κs =
     let r = c .before .before .before .before .before .before .before .before in
-    let s = r .before .before .before .before .before .before .before .before .before .before .before in
-    (s .pre .6, raised-numbers (s .args .grid) (s .args .table .now) (s .args .lobe) (s .args .start) (s .args .end) 0 64 (s .args .row .now) (r .raise-in-row .ensures) (s .pre .10) (s .pre .1 .measured))
+    let s = r .before .before .before .before .before .before .before .before .before .before in
+    (omega (arith, r .raise-in-row .kept .1 .0, s .pre .4), raised-numbers (s .args .grid) (s .args .table .now) (s .args .lobe) (s .args .start) (s .args .end) 0 64 (s .args .row .now) (r .raise-in-row .ensures) (s .pre .9) (s .pre .1 .measured))
 
 same-length : tie.Need-same-length
 same-length c = search needs
@@ -55,9 +55,6 @@ same-length-2 c = search needs
 
 same-length-3 : tie.Need-same-length-3
 same-length-3 c = search needs
-
-same-length-4 : tie.Need-same-length-4
-same-length-4 c = search needs
 
 returns-3 : tie.Need-returns-3
 returns-3 c = search needs
@@ -73,5 +70,4 @@ raise-above-spec =
     same-length
     same-length-2
     same-length-3
-    same-length-4
     returns-3)

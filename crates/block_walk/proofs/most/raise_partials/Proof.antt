@@ -13,18 +13,17 @@ use Rattle.block_walk.proofs.most.raise_partials.Statement.{statement}
 use Rattle.block_walk.proofs.most.raise_partials.Tie as tie
 
 abbrev Inv-loop : tie.InvT-loop
-Inv-loop row₀ chunk₀ indexes₀ scratch₀ gaussians table bounds grid count top start end lobes least₀ p₀ row chunk indexes scratch least p =
+Inv-loop row₀ chunk₀ indexes₀ gaussians table bounds grid count top start end lobes least₀ p₀ row chunk indexes least p =
     (length lobes ≡ 24)
     × (length row ≡ 64)
     × (length chunk ≡ 64)
     × (length indexes ≡ 64)
-    × (length scratch ≡ 64)
     × (p ≤ count)
     × Least least 0 64 row
     × ((sound : SoundLobes grid lobes count) (few : count ≤ length lobes) (inside : top < count) → Joining grid table lobes count sound few start end top inside p row)
 
 abbrev μ-loop : tie.MeasureT-loop
-μ-loop row₀ chunk₀ indexes₀ scratch₀ gaussians table bounds grid count top start end lobes least₀ p₀ row chunk indexes scratch least p =
+μ-loop row₀ chunk₀ indexes₀ gaussians table bounds grid count top start end lobes least₀ p₀ row chunk indexes least p =
     count - p
 
 fill-requires : tie.Need-fill-requires Inv-loop μ-loop
@@ -32,52 +31,51 @@ fill-requires c κs = search needs
 
 mul-first : tie.Need-mul-first Inv-loop μ-loop
 mul-first c =
-    let s = c .before .before .before .before .before .before .before .before .before .before in
+    let s = c .before .before .before .before .before .before .before .before .before in
     omega (arith, s .pre .2, s .pre .3)
 
 array-copy-out-first : tie.Need-array-copy-out-first Inv-loop μ-loop
 array-copy-out-first c =
-    let s = c .before .before .before .before .before .before .before .before .before .before in
+    let s = c .before .before .before .before .before .before .before .before .before in
     omega (arith, s .pre .2, s .pre .3)
 
 raise-in-row-requires : tie.Need-raise-in-row-requires Inv-loop μ-loop
 raise-in-row-requires c κs =
-    let s = c .before .before .before .before .before .before .before .before .before .before .before .before .before .before in
+    let s = c .before .before .before .before .before .before .before .before .before .before .before .before .before in
     let f = c .before .before .before .before .before .before in (
       s .pre .0,
       s .pre .1 (s .args .top) (s .pre .3),
       s .pre .5,
-      omega (arith, f .fill .kept, s .pre .6, s .pre .10),
-      omega (arith, s .pre .7, s .pre .10),
-      omega (arith, s .pre .8, s .pre .10),
+      omega (arith, f .fill .kept, s .pre .6, s .pre .9),
+      omega (arith, s .pre .7, s .pre .9),
+      omega (arith, s .pre .8, s .pre .9),
+      s .pre .10,
       s .pre .11,
-      s .pre .12,
     )
 
 least-from-requires : tie.Need-least-from-requires Inv-loop μ-loop
 least-from-requires c κs =
     let r = c .before .before .before .before .before .before .before .before in
     let f = r .before .before .before .before .before .before .before in
-    let s = f .before .before .before .before .before .before .before .before in
-    let l : length (s .args .t9) ≡ 24 = s .good .1 .1 .1 .1 .1 .1 .1 .1 .0 .1 .0 .1 in
-    let few : s .args .count ≤ length (s .args .t9) = omega (arith, l, s .pre .2) in
-    let j = joining-start (s .args .grid) (s .args .table .now) (s .args .t9) (s .args .count) (s .pre .1) few (s .args .start) (s .args .end) (s .args .top) (s .pre .3) _ _ (f .fill .ensures) (r .raise-in-row .ensures) in
-    (s .pre .9, joining-numbers (s .args .grid) (s .args .table .now) (s .args .t9) (s .args .count) (s .pre .1) few (s .args .start) (s .args .end) (s .args .top) (s .pre .3) 0 64 0 j)
+    let s = f .before .before .before .before .before .before .before in
+    let l : length (s .args .t8) ≡ 24 = s .good .1 .1 .1 .1 .1 .1 .1 .0 .1 .0 .1 in
+    let few : s .args .count ≤ length (s .args .t8) = omega (arith, l, s .pre .2) in
+    let j = joining-start (s .args .grid) (s .args .table .now) (s .args .t8) (s .args .count) (s .pre .1) few (s .args .start) (s .args .end) (s .args .top) (s .pre .3) _ _ (f .fill .ensures) (r .raise-in-row .ensures) in
+    (omega (arith, r .raise-in-row .kept .1 .0, s .pre .7), joining-numbers (s .args .grid) (s .args .table .now) (s .args .t8) (s .args .count) (s .pre .1) few (s .args .start) (s .args .end) (s .args .top) (s .pre .3) 0 64 0 j)
 
 loop-holds : tie.Need-loop-holds Inv-loop μ-loop
 loop-holds c =
     let n = c .before .before in
     let r = c .before .before .before .before .before .before .before .before .before .before .before in
     let f = r .before .before .before .before .before .before .before in
-    let s = f .before .before .before .before .before .before .before .before in (
-      s .good .1 .1 .1 .1 .1 .1 .1 .1 .0 .1 .0 .1,
+    let s = f .before .before .before .before .before .before .before in (
+      s .good .1 .1 .1 .1 .1 .1 .1 .0 .1 .0 .1,
       omega (arith, r .raise-in-row .kept .0, f .fill .kept, s .pre .6),
-      omega (arith, r .raise-in-row .kept .1 .0, s .pre .7),
+      omega (arith, n .least-from .kept, r .raise-in-row .kept .1 .0, s .pre .7),
       omega (arith, r .raise-in-row .kept .1 .1, s .pre .8),
-      omega (arith, n .least-from .kept, s .pre .9),
       omega arith,
       n .least-from .ensures .0,
-      λ sound few inside. joining-start (s .args .grid) (s .args .table .now) (s .args .t9) (s .args .count) sound few (s .args .start) (s .args .end) (s .args .top) inside _ _ (f .fill .ensures) (r .raise-in-row .ensures),
+      λ sound few inside. joining-start (s .args .grid) (s .args .table .now) (s .args .t8) (s .args .count) sound few (s .args .start) (s .args .end) (s .args .top) inside _ _ (f .fill .ensures) (r .raise-in-row .ensures),
     )
 
 mul-lobe : tie.Need-mul-lobe Inv-loop μ-loop
@@ -91,39 +89,38 @@ mul-raise-above c = search needs
 
 shared-slice-read-raise-above : tie.Need-shared-slice-read-raise-above Inv-loop μ-loop
 shared-slice-read-raise-above c =
-    let n = c .before .before .before .before .before .before in
-    let s = n .before .before .before .before .before .before .before .before .before .before .before .before .before .before .before .before .before .before .before .before .before .before .before .before .before .before .before .before in
+    let n = c .before .before .before .before .before in
+    let s = n .before .before .before .before .before .before .before .before .before .before .before .before .before .before .before .before .before .before .before .before .before .before .before .before .before .before .before in
     omega (arith, n .loop-test .taken, s .pre .4)
 
 raise-above-requires : tie.Need-raise-above-requires Inv-loop μ-loop
 raise-above-requires c κs =
-    let n = c .before .before .before .before .before .before in
+    let n = c .before .before .before .before .before in
     let a = n .before in
-    let s = a .before .before .before .before .before .before .before .before .before .before .before .before .before .before .before .before .before .before .before .before .before .before .before .before .before .before .before in
+    let s = a .before .before .before .before .before .before .before .before .before .before .before .before .before .before .before .before .before .before .before .before .before .before .before .before .before .before in
     let l = a .loop in
-    let few : s .args .count ≤ length (s .args .t9) = omega (arith, l .inv .0, s .pre .2) in
-    let j = l .inv .7 (s .pre .1) few (s .pre .3) in (
+    let few : s .args .count ≤ length (s .args .t8) = omega (arith, l .inv .0, s .pre .2) in
+    let j = l .inv .6 (s .pre .1) few (s .pre .3) in (
       s .pre .0,
       s .pre .1 (l .p) (n .loop-test .taken),
       s .pre .5,
       l .inv .1,
       l .inv .2,
       l .inv .3,
-      l .inv .4,
+      s .pre .9,
       s .pre .10,
       s .pre .11,
-      s .pre .12,
       j .opennesses,
-      l .inv .6,
-      s .pre .13 (l .p) (n .loop-test .taken) .0,
-      s .pre .13 (l .p) (n .loop-test .taken) .1,
-      λ e. joining-there (s .args .grid) (s .args .table .now) (s .args .t9) (s .args .count) (s .pre .1) few (s .args .start) (s .args .end) (s .args .top) (s .pre .3) (l .p) (l .row) (eqb→eq (l .p) (s .args .top) (subst T (sym e) tt)) j,
+      l .inv .5,
+      s .pre .12 (l .p) (n .loop-test .taken) .0,
+      s .pre .12 (l .p) (n .loop-test .taken) .1,
+      λ e. joining-there (s .args .grid) (s .args .table .now) (s .args .t8) (s .args .count) (s .pre .1) few (s .args .start) (s .args .end) (s .args .top) (s .pre .3) (l .p) (l .row) (eqb→eq (l .p) (s .args .top) (subst T (sym e) tt)) j,
     )
 
 add-p : tie.Need-add-p Inv-loop μ-loop
 add-p c =
-    let n = c .before .before .before .before .before .before .before .before .before .before .before .before .before .before .before in
-    let s = n .before .before .before .before .before .before .before .before .before .before .before .before .before .before .before .before .before .before .before .before .before .before .before .before .before .before .before .before in
+    let n = c .before .before .before .before .before .before .before .before .before .before .before .before in
+    let s = n .before .before .before .before .before .before .before .before .before .before .before .before .before .before .before .before .before .before .before .before .before .before .before .before .before .before .before in
     omega (arith, n .loop-test .taken, s .pre .2)
 
 loop-less : tie.Need-loop-less Inv-loop μ-loop
@@ -131,50 +128,44 @@ loop-less c = omega arith
 
 loop-again : tie.Need-loop-again Inv-loop μ-loop
 loop-again c =
-    let r = c .before .before .before .before .before .before .before .before in
-    let n = r .before .before .before .before .before .before .before in
+    let r = c .before .before .before .before .before .before in
+    let n = r .before .before .before .before .before .before in
     let a = n .before in
-    let s = a .before .before .before .before .before .before .before .before .before .before .before .before .before .before .before .before .before .before .before .before .before .before .before .before .before .before .before in
+    let s = a .before .before .before .before .before .before .before .before .before .before .before .before .before .before .before .before .before .before .before .before .before .before .before .before .before .before in
     let l = a .loop in (
       l .inv .0,
       omega (arith, r .raise-above .kept .0, l .inv .1),
       omega (arith, r .raise-above .kept .1 .0, l .inv .2),
-      omega (arith, r .raise-above .kept .1 .1 .0, l .inv .3),
-      omega (arith, r .raise-above .kept .1 .1 .1, l .inv .4),
+      omega (arith, r .raise-above .kept .1 .1, l .inv .3),
       omega (arith, n .loop-test .taken),
       r .raise-above .ensures .1,
-      λ sound few inside. joining-more (s .args .grid) (s .args .table .now) (s .args .t9) (s .args .count) sound few (s .args .start) (s .args .end) (s .args .top) inside (l .p) (l .row) (n .loop-test .taken) (l .inv .7 sound few inside) (r .raise-above .ensures .0),
+      λ sound few inside. joining-more (s .args .grid) (s .args .table .now) (s .args .t8) (s .args .count) sound few (s .args .start) (s .args .end) (s .args .top) inside (l .p) (l .row) (n .loop-test .taken) (l .inv .6 sound few inside) (r .raise-above .ensures .0),
     )
 
 same-length : tie.Need-same-length Inv-loop μ-loop
 same-length c =
-    let s = c .before .before .before .before .before .before .before .before .before .before .before .before .before .before .before .before .before .before .before .before .before .before .before .before .before .before .before .before in
+    let s = c .before .before .before .before .before .before .before .before .before .before .before .before .before .before .before .before .before .before .before .before .before .before .before .before .before .before .before in
     c .before .loop .inv .1 ∙ sym (s .pre .6)
 
 same-length-2 : tie.Need-same-length-2 Inv-loop μ-loop
 same-length-2 c =
-    let s = c .before .before .before .before .before .before .before .before .before .before .before .before .before .before .before .before .before .before .before .before .before .before .before .before .before .before .before .before in
+    let s = c .before .before .before .before .before .before .before .before .before .before .before .before .before .before .before .before .before .before .before .before .before .before .before .before .before .before .before in
     c .before .loop .inv .2 ∙ sym (s .pre .7)
 
 same-length-3 : tie.Need-same-length-3 Inv-loop μ-loop
 same-length-3 c =
-    let s = c .before .before .before .before .before .before .before .before .before .before .before .before .before .before .before .before .before .before .before .before .before .before .before .before .before .before .before .before in
+    let s = c .before .before .before .before .before .before .before .before .before .before .before .before .before .before .before .before .before .before .before .before .before .before .before .before .before .before .before in
     c .before .loop .inv .3 ∙ sym (s .pre .8)
-
-same-length-4 : tie.Need-same-length-4 Inv-loop μ-loop
-same-length-4 c =
-    let s = c .before .before .before .before .before .before .before .before .before .before .before .before .before .before .before .before .before .before .before .before .before .before .before .before .before .before .before .before in
-    c .before .loop .inv .4 ∙ sym (s .pre .9)
 
 returns : tie.Need-returns Inv-loop μ-loop
 returns c =
     let a = c .before in
-    let s = a .before .before .before .before .before .before .before .before .before .before .before .before .before .before .before .before .before .before .before .before .before .before .before .before .before .before .before in
+    let s = a .before .before .before .before .before .before .before .before .before .before .before .before .before .before .before .before .before .before .before .before .before .before .before .before .before .before in
     let l = a .loop in
-    let few : s .args .count ≤ length (s .args .t9) = omega (arith, l .inv .0, s .pre .2) in
-    let done : l .p ≡ s .args .count = omega (arith, l .inv .5, c .loop-test .left) in
-    let j = subst (λ (p : ℕ). Joining (s .args .grid) (s .args .table .now) (s .args .t9) (s .args .count) (s .pre .1) few (s .args .start) (s .args .end) (s .args .top) (s .pre .3) p (l .row)) done (l .inv .7 (s .pre .1) few (s .pre .3)) in
-    λ k h. joining-end (s .args .grid) (s .args .table .now) (s .args .t9) (s .args .count) (s .pre .1) few (s .args .start) (s .args .end) (s .args .top) (s .pre .3) (l .row) j k (omega (arith, h, l .inv .1, s .pre .10)) h
+    let few : s .args .count ≤ length (s .args .t8) = omega (arith, l .inv .0, s .pre .2) in
+    let done : l .p ≡ s .args .count = omega (arith, l .inv .4, c .loop-test .left) in
+    let j = subst (λ (p : ℕ). Joining (s .args .grid) (s .args .table .now) (s .args .t8) (s .args .count) (s .pre .1) few (s .args .start) (s .args .end) (s .args .top) (s .pre .3) p (l .row)) done (l .inv .6 (s .pre .1) few (s .pre .3)) in
+    λ k h. joining-end (s .args .grid) (s .args .table .now) (s .args .t8) (s .args .count) (s .pre .1) few (s .args .start) (s .args .end) (s .args .top) (s .pre .3) (l .row) j k (omega (arith, h, l .inv .1, s .pre .9)) h
 
 pub raise-partials-spec : {M : Type 1} → statement M
 raise-partials-spec =
@@ -199,5 +190,4 @@ raise-partials-spec =
     same-length
     same-length-2
     same-length-3
-    same-length-4
     returns)

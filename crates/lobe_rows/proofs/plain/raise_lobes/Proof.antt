@@ -5,11 +5,11 @@ use native.Mathlib.Omega.{arith}
 use lib.ListN.{length, take}
 use Rattle.lists.specs.Maps.{mapAt}
 use Rattle.lobes.specs.Distance.{logsOf}
-use Rattle.block_walk.specs.Compact.{lobesJoined}
-use Rattle.openness.proofs.Partials.{lobes-from, lobes-all, lobes-next, lobes-end}
+use Rattle.lobe_rows.specs.Joined.{lobesJoined}
+use Rattle.lobe_rows.proofs.EachLobe.{lobes-from, lobes-all, lobes-next, lobes-end}
 use borrow.Author.Needs.{needs}
-use Rattle.openness.proofs.raise.raise_lobes.Statement.{statement}
-use Rattle.openness.proofs.raise.raise_lobes.Tie as tie
+use Rattle.lobe_rows.proofs.plain.raise_lobes.Statement.{statement}
+use Rattle.lobe_rows.proofs.plain.raise_lobes.Tie as tie
 
 abbrev Inv-loop : tie.InvT-loop
 Inv-loop first₀ second₀ chunk₀ indexes₀ powers gaussians tabled table grid count gains lobes p₀ first second chunk indexes p =

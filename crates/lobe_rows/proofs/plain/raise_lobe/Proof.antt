@@ -6,10 +6,10 @@ use native.Mathlib.Omega.{arith}
 use lib.ListN.{length}
 use Rattle.lists.specs.Turned.{Turned, turned-none}
 use Rattle.lobes.specs.Distance.{logsOf}
-use Rattle.openness.proofs.Walk.{reached, chunk-joined, lobe-walked}
+use Rattle.lobe_rows.proofs.Walk.{reached, chunk-joined, lobe-walked}
 use borrow.Author.Needs.{needs}
-use Rattle.openness.proofs.raise.raise_lobe.Statement.{statement}
-use Rattle.openness.proofs.raise.raise_lobe.Tie as tie
+use Rattle.lobe_rows.proofs.plain.raise_lobe.Statement.{statement}
+use Rattle.lobe_rows.proofs.plain.raise_lobe.Tie as tie
 
 abbrev Inv-loop : tie.InvT-loop
 Inv-loop first₀ second₀ chunk₀ indexes₀ powers gaussians tabled table grid lobe gains end start₀ first second chunk indexes start =
