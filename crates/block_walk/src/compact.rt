@@ -55,7 +55,6 @@ fn nothing_rises(
 fn raise_block(
     first: &mut [f32],
     second: &mut [f32],
-    row: &mut [f32],
     chunk: &mut [f32],
     indexes: &mut [u32],
     gaussians: &GaussianTable,
@@ -68,15 +67,16 @@ fn raise_block(
     start: usize,
     end: usize,
 )
-    requires { ⌜ (now gaussians ≡ gaussianTable) × (SoundLobes grid lobes count) × (0 < count) × (count ≤ 24) × (count ≤ length (now bounds)) × (start ≤ end) × (length (now row) ≡ 64) × (length (now chunk) ≡ 64) × (length (now indexes) ≡ 64) × (end ≤ start + 64) × (end ≤ length (now table)) × (grid .«last_bin» ≤ 2 ^ 24) × (Opennesses (now first)) × (Opennesses (now second)) × (Upto binary32 3 (gains .first)) × (Upto binary32 3 (gains .second)) × (BoundedLobes grid (now table) lobes count (now bounds) start end) ⌝ }
+    requires { ⌜ (now gaussians ≡ gaussianTable) × (SoundLobes grid lobes count) × (0 < count) × (count ≤ 24) × (count ≤ length (now bounds)) × (start ≤ end) × (length (now chunk) ≡ 64) × (length (now indexes) ≡ 64) × (end ≤ start + 64) × (end ≤ length (now table)) × (grid .«last_bin» ≤ 2 ^ 24) × (Opennesses (now first)) × (Opennesses (now second)) × (Upto binary32 3 (gains .first)) × (Upto binary32 3 (gains .second)) × (BoundedLobes grid (now table) lobes count (now bounds) start end) ⌝ }
     ensures { λ _. ⌜ (now (first .exit) ≡ mapRange (lobesJoined grid (lent (now (table .entry))) (gains .first) (take count lobes)) start end (now (first .entry))) × (now (second .exit) ≡ mapRange (lobesJoined grid (lent (now (table .entry))) (gains .second) (take count lobes)) start end (now (second .entry))) ⌝ }
 {
     let top = greatest_at(bounds, count);
     if nothing_rises(first, second, chunk, bounds[top], gains, start) {
         return;
     }
+    let mut row = [0.0f32; 64];
     raise_partials(
-        row,
+        &mut row,
         chunk,
         indexes,
         gaussians,
@@ -89,18 +89,16 @@ fn raise_block(
         start,
         end,
     );
-    join(first, row, gains.first, start, end);
-    join(second, row, gains.second, start, end);
+    join(first, &row, gains.first, start, end);
+    join(second, &row, gains.second, start, end);
 }
 
 // Block by block, the bins that the lobes reach.
 fn raise_blocks(
     first: &mut [f32],
     second: &mut [f32],
-    row: &mut [f32],
     chunk: &mut [f32],
     indexes: &mut [u32],
-    bounds: &mut [f32],
     gaussians: &GaussianTable,
     table: &[f32],
     lows: &[f32],
@@ -114,15 +112,16 @@ fn raise_blocks(
     gains: Gains,
     span: Span,
 )
-    requires { ⌜ (now gaussians ≡ gaussianTable) × (SoundLobes grid lobes count) × (0 < count) × (count ≤ 24) × (count ≤ length (now bounds)) × (length (now row) ≡ 64) × (length (now chunk) ≡ 64) × (length (now indexes) ≡ 64) × (Ready grid (now table) (now lows) (now highs)) × (count ≤ length (now centers)) × (count ≤ length (now strengths)) × (count ≤ length (now peaks)) × (InColumns lobes count (now centers) (now strengths) (now peaks)) × (Opennesses (now first)) × (Opennesses (now second)) × (Upto binary32 3 (gains .first)) × (Upto binary32 3 (gains .second)) × (span .«last_bin» ≤ grid .«last_bin») × (Within lobes count (span .«first_bin») (span .«last_bin»)) ⌝ }
+    requires { ⌜ (now gaussians ≡ gaussianTable) × (SoundLobes grid lobes count) × (0 < count) × (count ≤ 24) × (length (now chunk) ≡ 64) × (length (now indexes) ≡ 64) × (Ready grid (now table) (now lows) (now highs)) × (count ≤ length (now centers)) × (count ≤ length (now strengths)) × (count ≤ length (now peaks)) × (InColumns lobes count (now centers) (now strengths) (now peaks)) × (Opennesses (now first)) × (Opennesses (now second)) × (Upto binary32 3 (gains .first)) × (Upto binary32 3 (gains .second)) × (span .«last_bin» ≤ grid .«last_bin») × (Within lobes count (span .«first_bin») (span .«last_bin»)) ⌝ }
     ensures { λ _. ⌜ (now (first .exit) ≡ mapAt (lobesJoined grid (lent (now (table .entry))) (gains .first) (take count lobes)) (now (first .entry))) × (now (second .exit) ≡ mapAt (lobesJoined grid (lent (now (table .entry))) (gains .second) (take count lobes)) (now (second .entry))) ⌝ }
 {
+    let mut bounds = [0.0f32; 24];
     let mut block = block_of(lesser(span.first_bin, span.last_bin));
     while block * BLOCK < span.last_bin {
         let start = 1 + block * BLOCK;
         let end = lesser(start + BLOCK, table.len());
         bounds_of(
-            bounds,
+            &mut bounds,
             gaussians,
             centers,
             strengths,
@@ -135,12 +134,11 @@ fn raise_blocks(
         raise_block(
             first,
             second,
-            row,
             chunk,
             indexes,
             gaussians,
             table,
-            bounds,
+            &bounds,
             grid,
             lobes,
             count,
@@ -164,7 +162,7 @@ fn compact_cost(span: Span, crowded: bool) -> usize
     6 * bins + 512
 }
 
-// The walk, with rows and columns of its own.
+// The walk, with columns of its own.
 fn walk(
     first: &mut [f32],
     second: &mut [f32],
@@ -183,8 +181,6 @@ fn walk(
     requires { ⌜ (now gaussians ≡ gaussianTable) × (SoundLobes grid lobes count) × (0 < count) × (count ≤ 24) × (length (now chunk) ≡ 64) × (length (now indexes) ≡ 64) × (Ready grid (now table) (now lows) (now highs)) × (Opennesses (now first)) × (Opennesses (now second)) × (Upto binary32 3 (gains .first)) × (Upto binary32 3 (gains .second)) × (span .«last_bin» ≤ grid .«last_bin») × (Within lobes count (span .«first_bin») (span .«last_bin»)) ⌝ }
     ensures { λ _. ⌜ (now (first .exit) ≡ mapAt (lobesJoined grid (lent (now (table .entry))) (gains .first) (take count lobes)) (now (first .entry))) × (now (second .exit) ≡ mapAt (lobesJoined grid (lent (now (table .entry))) (gains .second) (take count lobes)) (now (second .entry))) ⌝ }
 {
-    let mut row = [0.0f32; 64];
-    let mut bounds = [0.0f32; 24];
     let mut centers = [0.0f32; 24];
     let mut strengths = [0.0f32; 24];
     let mut peaks = [0.0f32; 24];
@@ -192,10 +188,8 @@ fn walk(
     raise_blocks(
         first,
         second,
-        &mut row,
         chunk,
         indexes,
-        &mut bounds,
         gaussians,
         table,
         lows,

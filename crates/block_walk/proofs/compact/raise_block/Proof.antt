@@ -1,4 +1,5 @@
 -- `raise_block` leaves a block where nothing rises, and else joins the most that one of the lobes opens to each side. Assumes nothing.
+use mathlib.Core.Path.{refl}
 use Prim.Native.Nat.{_+_, _≤_}
 use native.Mathlib.Omega.{arith}
 use lib.ListN.{length, getD}
@@ -11,8 +12,8 @@ use Rattle.block_walk.proofs.compact.raise_block.Tie as tie
 
 greatest-at-requires : tie.Need-greatest-at-requires
 greatest-at-requires c κs =
-    let s = c .before .before .before .before .before .before .before in
-    (s .pre .2, s .pre .4, λ p h. real-number binary32 (getD (s .args .bounds .now) p nan) (s .pre .16 p h .0 .is-real))
+    let s = c .before .before .before .before .before .before in
+    (s .pre .2, s .pre .4, λ p h. real-number binary32 (getD (s .args .bounds .now) p nan) (s .pre .15 p h .0 .is-real))
 
 mul-nothing-rises : tie.Need-mul-nothing-rises
 mul-nothing-rises c = search needs
@@ -20,14 +21,14 @@ mul-nothing-rises c = search needs
 shared-slice-read-nothing-rises : tie.Need-shared-slice-read-nothing-rises
 shared-slice-read-nothing-rises c =
     let g = c .before .before .before .before in
-    let s = g .before .before .before .before .before .before .before .before in
+    let s = g .before .before .before .before .before .before .before in
     omega (arith, g .greatest-at .ensures .0, s .pre .4)
 
 nothing-rises-requires : tie.Need-nothing-rises-requires
 nothing-rises-requires c κs =
     let g = c .before .before .before .before in
-    let s = g .before .before .before .before .before .before .before .before in
-    (s .pre .7, s .pre .12, s .pre .13, s .pre .16 (g .greatest-at .result) (g .greatest-at .ensures .0) .0, s .pre .14, s .pre .15)
+    let s = g .before .before .before .before .before .before .before in
+    (s .pre .6, s .pre .11, s .pre .12, s .pre .15 (g .greatest-at .result) (g .greatest-at .ensures .0) .0, s .pre .13, s .pre .14)
 
 same-length : tie.Need-same-length
 same-length c = search needs
@@ -42,36 +43,45 @@ returns : tie.Need-returns
 returns c =
     let n = c .before .before .before in
     let g = n .before .before .before .before .before in
-    let s = g .before .before .before .before .before .before .before .before in
-    let few : s .args .count ≤ length (s .args .lobes) = omega (arith, s .good .1 .1 .1 .1 .1 .1 .1 .1 .1 .0 .1 .0 .1, s .pre .3) in
+    let s = g .before .before .before .before .before .before .before in
+    let few : s .args .count ≤ length (s .args .lobes) = omega (arith, s .good .1 .1 .1 .1 .1 .1 .1 .1 .0 .1 .0 .1, s .pre .3) in
     let rises = n .nothing-rises .ensures (c .if1 .taken) in
-    let wide : s .args .end ≤ s .args .start + 64 = s .pre .9 in (
-      block-kept (s .args .grid) (s .args .table .now) (s .args .lobes) (s .args .count) (s .pre .1) few (s .args .bounds .now) (s .args .start) (s .args .end) (g .greatest-at .result) (s .pre .16) (g .greatest-at .ensures) (s .pre .14) (s .args .first .now) (s .pre .12)
+    let wide : s .args .end ≤ s .args .start + 64 = s .pre .8 in (
+      block-kept (s .args .grid) (s .args .table .now) (s .args .lobes) (s .args .count) (s .pre .1) few (s .args .bounds .now) (s .args .start) (s .args .end) (g .greatest-at .result) (s .pre .15) (g .greatest-at .ensures) (s .pre .13) (s .args .first .now) (s .pre .11)
           (λ bin p q l. rises .0 bin p (omega (arith, wide, q)) l),
-      block-kept (s .args .grid) (s .args .table .now) (s .args .lobes) (s .args .count) (s .pre .1) few (s .args .bounds .now) (s .args .start) (s .args .end) (g .greatest-at .result) (s .pre .16) (g .greatest-at .ensures) (s .pre .15) (s .args .second .now) (s .pre .13)
+      block-kept (s .args .grid) (s .args .table .now) (s .args .lobes) (s .args .count) (s .pre .1) few (s .args .bounds .now) (s .args .start) (s .args .end) (g .greatest-at .result) (s .pre .15) (g .greatest-at .ensures) (s .pre .14) (s .args .second .now) (s .pre .12)
           (λ bin p q l. rises .1 bin p (omega (arith, wide, q)) l),
     )
+
+slice-aggregate-raise-partials : tie.Need-slice-aggregate-raise-partials
+slice-aggregate-raise-partials c = search needs
 
 raise-partials-requires : tie.Need-raise-partials-requires
 raise-partials-requires c κs =
     let n = c .before .before .before .before .before .before in
     let g = n .before .before .before .before .before in
-    let s = g .before .before .before .before .before .before .before .before in
-    (s .pre .0, s .pre .1, s .pre .3, g .greatest-at .ensures .0, s .pre .4, s .pre .5, s .pre .6, omega (arith, n .nothing-rises .kept, s .pre .7), s .pre .8, s .pre .9, s .pre .10, s .pre .11, s .pre .16)
+    let s = g .before .before .before .before .before .before .before in
+    (s .pre .0, s .pre .1, s .pre .3, g .greatest-at .ensures .0, s .pre .4, s .pre .5, refl, omega (arith, n .nothing-rises .kept, s .pre .6), s .pre .7, s .pre .8, s .pre .9, s .pre .10, s .pre .15)
+
+slice-aggregate-join : tie.Need-slice-aggregate-join
+slice-aggregate-join c = search needs
 
 join-requires : tie.Need-join-requires
 join-requires c κs =
-    let r = c .before .before .before .before .before .before .before .before in
+    let r = c .before .before .before .before .before .before .before in
     let n = r .before .before .before .before .before .before .before in
-    let s = n .before .before .before .before .before .before .before .before .before .before .before .before .before in
-    omega (arith, r .raise-partials .kept .0, s .pre .6, s .pre .9)
+    let s = n .before .before .before .before .before .before .before .before .before .before .before .before in
+    omega (arith, r .raise-partials .kept .0, s .pre .8)
+
+slice-aggregate-join-2 : tie.Need-slice-aggregate-join-2
+slice-aggregate-join-2 c = search needs
 
 join-requires-2 : tie.Need-join-requires-2
 join-requires-2 c κs =
-    let r = c .before .before .before .before .before .before .before .before .before .before .before .before .before in
+    let r = c .before .before .before .before .before .before .before .before .before .before .before .before in
     let n = r .before .before .before .before .before .before .before in
-    let s = n .before .before .before .before .before .before .before .before .before .before .before .before .before in
-    omega (arith, r .raise-partials .kept .0, s .pre .6, s .pre .9)
+    let s = n .before .before .before .before .before .before .before .before .before .before .before .before in
+    omega (arith, r .raise-partials .kept .0, s .pre .8)
 
 same-length-4 : tie.Need-same-length-4
 same-length-4 c = search needs
@@ -85,19 +95,16 @@ same-length-6 c = search needs
 same-length-7 : tie.Need-same-length-7
 same-length-7 c = search needs
 
-same-length-8 : tie.Need-same-length-8
-same-length-8 c = search needs
-
 returns-2 : tie.Need-returns-2
 returns-2 c =
     let j2 = c .before .before in
     let j1 = j2 .before .before .before .before .before in
-    let r = j1 .before .before .before .before .before .before .before .before .before in
+    let r = j1 .before .before .before .before .before .before .before .before in
     let n = r .before .before .before .before .before .before .before in
-    let s = n .before .before .before .before .before .before .before .before .before .before .before .before .before in
-    let few : s .args .count ≤ length (s .args .lobes) = omega (arith, s .good .1 .1 .1 .1 .1 .1 .1 .1 .1 .0 .1 .0 .1, s .pre .3) in (
-      block-joined (s .args .grid) (s .args .table .now) (s .args .lobes) (s .args .count) (s .pre .1) few (r .raise-partials .last .0) (s .args .start) (s .args .end) (s .pre .14) (r .raise-partials .ensures) (s .args .first .now) (s .pre .12) (j1 .join .ensures),
-      block-joined (s .args .grid) (s .args .table .now) (s .args .lobes) (s .args .count) (s .pre .1) few (r .raise-partials .last .0) (s .args .start) (s .args .end) (s .pre .15) (r .raise-partials .ensures) (s .args .second .now) (s .pre .13) (j2 .join2 .ensures),
+    let s = n .before .before .before .before .before .before .before .before .before .before .before .before in
+    let few : s .args .count ≤ length (s .args .lobes) = omega (arith, s .good .1 .1 .1 .1 .1 .1 .1 .1 .0 .1 .0 .1, s .pre .3) in (
+      block-joined (s .args .grid) (s .args .table .now) (s .args .lobes) (s .args .count) (s .pre .1) few (r .raise-partials .last .0) (s .args .start) (s .args .end) (s .pre .13) (r .raise-partials .ensures) (s .args .first .now) (s .pre .11) (j1 .join .ensures),
+      block-joined (s .args .grid) (s .args .table .now) (s .args .lobes) (s .args .count) (s .pre .1) few (r .raise-partials .last .0) (s .args .start) (s .args .end) (s .pre .14) (r .raise-partials .ensures) (s .args .second .now) (s .pre .12) (j2 .join2 .ensures),
     )
 
 pub raise-block-spec : {M : Type 1} → statement M
@@ -112,12 +119,14 @@ raise-block-spec =
     same-length-2
     same-length-3
     returns
+    slice-aggregate-raise-partials
     raise-partials-requires
+    slice-aggregate-join
     join-requires
+    slice-aggregate-join-2
     join-requires-2
     same-length-4
     same-length-5
     same-length-6
     same-length-7
-    same-length-8
     returns-2)

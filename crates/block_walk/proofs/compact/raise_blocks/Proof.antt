@@ -13,12 +13,11 @@ use Rattle.block_walk.proofs.compact.raise_blocks.Statement.{statement}
 use Rattle.block_walk.proofs.compact.raise_blocks.Tie as tie
 
 abbrev Inv-loop : tie.InvT-loop
-Inv-loop first₀ second₀ row₀ chunk₀ indexes₀ bounds₀ gaussians table lows highs centers strengths peaks grid lobes count gains span block₀ first second row chunk indexes bounds block =
+Inv-loop first₀ second₀ chunk₀ indexes₀ gaussians table lows highs centers strengths peaks grid lobes count gains span bounds₀ block₀ first second chunk indexes bounds block =
     (block ≤ 128)
-    × (length row ≡ 64)
     × (length chunk ≡ 64)
     × (length indexes ≡ 64)
-    × (length bounds ≡ length bounds₀)
+    × (length bounds ≡ 24)
     × (length lobes ≡ 24)
     × Opennesses first
     × Opennesses second
@@ -26,7 +25,7 @@ Inv-loop first₀ second₀ row₀ chunk₀ indexes₀ bounds₀ gaussians table
     × Walked (lobesJoined grid (lent table) (gains .second) (take count lobes)) (1 + 64 * blockOf (min (span .«first_bin») (span .«last_bin»))) (length table) block second₀ second
 
 abbrev μ-loop : tie.MeasureT-loop
-μ-loop first₀ second₀ row₀ chunk₀ indexes₀ bounds₀ gaussians table lows highs centers strengths peaks grid lobes count gains span block₀ first second row chunk indexes bounds block =
+μ-loop first₀ second₀ chunk₀ indexes₀ gaussians table lows highs centers strengths peaks grid lobes count gains span bounds₀ block₀ first second chunk indexes bounds block =
     129 - block
 
 lesser-requires : tie.Need-lesser-requires Inv-loop μ-loop
@@ -41,18 +40,17 @@ begins first last block n e h l = (omega arith, omega arith)
 
 loop-holds : tie.Need-loop-holds Inv-loop μ-loop
 loop-holds c =
-    let s = c .before .before .before .before .before .before .before .before .before .before .before .before .before .before in
+    let s = c .before .before .before .before .before .before .before .before .before .before .before .before in
     let span = s .args .span in
     let e : c .block-of .result ≡ blockOf (min (span .«first_bin») (span .«last_bin»)) = rw (c .before .lesser .ensures) at (c .block-of .ensures) in
-    let b = begins (span .«first_bin») (span .«last_bin») (c .block-of .result) (length (s .args .table .now)) e (omega (arith, s .pre .8 .last, s .pre .17)) (omega (arith, s .pre .8 .inside, s .pre .17)) in (
+    let b = begins (span .«first_bin») (span .«last_bin») (c .block-of .result) (length (s .args .table .now)) e (omega (arith, s .pre .6 .last, s .pre .15)) (omega (arith, s .pre .6 .inside, s .pre .15)) in (
       b .0,
+      s .pre .4,
       s .pre .5,
-      s .pre .6,
-      s .pre .7,
       refl,
-      s .good .1 .1 .1 .1 .1 .1 .1 .1 .1 .1 .1 .1 .1 .1 .0 .1 .0 .1,
-      s .pre .13,
-      s .pre .14,
+      s .good .1 .1 .1 .1 .1 .1 .1 .1 .1 .1 .1 .1 .0 .1 .0 .1,
+      s .pre .11,
+      s .pre .12,
       walk-none _ _ _ (c .block-of .result) (s .args .first .now) (rw e refl) (b .1),
       walk-none _ _ _ (c .block-of .result) (s .args .second .now) (rw e refl) (b .1),
     )
@@ -72,6 +70,9 @@ add-lesser c = omega (arith, c .before .before .loop .inv .0)
 lesser-requires-2 : tie.Need-lesser-requires-2 Inv-loop μ-loop
 lesser-requires-2 c κs = search needs
 
+slice-aggregate-bounds-of : tie.Need-slice-aggregate-bounds-of Inv-loop μ-loop
+slice-aggregate-bounds-of c = search needs
+
 mul-bounds-of : tie.Need-mul-bounds-of Inv-loop μ-loop
 mul-bounds-of c = omega (arith, c .before .before .before .before .loop .inv .0)
 
@@ -83,8 +84,8 @@ shared-slice-read-bounds-of : tie.Need-shared-slice-read-bounds-of Inv-loop μ-l
 shared-slice-read-bounds-of c =
     let t = c .before .before .before in
     let a = t .before .before in
-    let s = a .before .before .before .before .before .before .before .before .before .before .before .before .before .before .before in
-    has-ends (a .loop .block) (s .args .span .«last_bin») (length (s .args .table .now)) (length (s .args .lows .now)) (t .if1 .taken) (omega (arith, s .pre .8 .inside, s .pre .17)) (s .pre .8 .lows-long)
+    let s = a .before .before .before .before .before .before .before .before .before .before .before .before .before in
+    has-ends (a .loop .block) (s .args .span .«last_bin») (length (s .args .table .now)) (length (s .args .lows .now)) (t .if1 .taken) (omega (arith, s .pre .6 .inside, s .pre .15)) (s .pre .6 .lows-long)
 
 mul-bounds-of-2 : tie.Need-mul-bounds-of-2 Inv-loop μ-loop
 mul-bounds-of-2 c = omega (arith, c .before .before .before .before .before .loop .inv .0)
@@ -93,112 +94,104 @@ shared-slice-read-bounds-of-2 : tie.Need-shared-slice-read-bounds-of-2 Inv-loop 
 shared-slice-read-bounds-of-2 c =
     let t = c .before .before .before .before in
     let a = t .before .before in
-    let s = a .before .before .before .before .before .before .before .before .before .before .before .before .before .before .before in
-    has-ends (a .loop .block) (s .args .span .«last_bin») (length (s .args .table .now)) (length (s .args .highs .now)) (t .if1 .taken) (omega (arith, s .pre .8 .inside, s .pre .17)) (s .pre .8 .highs-long)
+    let s = a .before .before .before .before .before .before .before .before .before .before .before .before .before in
+    has-ends (a .loop .block) (s .args .span .«last_bin») (length (s .args .table .now)) (length (s .args .highs .now)) (t .if1 .taken) (omega (arith, s .pre .6 .inside, s .pre .15)) (s .pre .6 .highs-long)
 
 bounds-of-requires : tie.Need-bounds-of-requires Inv-loop μ-loop
 bounds-of-requires c κs =
     let t = c .before .before .before .before in
     let a = t .before .before in
-    let s = a .before .before .before .before .before .before .before .before .before .before .before .before .before .before .before in
-    (s .pre .0, omega (arith, a .loop .inv .4, s .pre .4), s .pre .9, s .pre .10, s .pre .11)
+    let s = a .before .before .before .before .before .before .before .before .before .before .before .before .before in
+    (s .pre .0, omega (arith, a .loop .inv .3, s .pre .3), s .pre .7, s .pre .8, s .pre .9)
 
 -- the ends of a block's row
 row-ends : (block last n end : ℕ) → block * 64 < last → last < n → end ≡ min (1 + block * 64 + 64) n → (1 + block * 64 ≤ end) × (end ≤ 1 + block * 64 + 64) × (end ≤ n) × (end ≤ 65 + 64 * block)
 row-ends block last n end h l e = (omega arith, omega arith, omega arith, omega arith)
 
+slice-aggregate-raise-block : tie.Need-slice-aggregate-raise-block Inv-loop μ-loop
+slice-aggregate-raise-block c = search needs
+
 raise-block-requires : tie.Need-raise-block-requires Inv-loop μ-loop
 raise-block-requires c κs =
-    let o = c .before .before .before .before .before .before .before .before in
+    let o = c .before .before .before .before .before .before in
     let l = o .before .before .before .before in
     let t = l .before in
     let a = t .before .before in
-    let s = a .before .before .before .before .before .before .before .before .before .before .before .before .before .before .before in
+    let s = a .before .before .before .before .before .before .before .before .before .before .before .before .before in
     let i = a .loop .inv in
-    let e = row-ends (a .loop .block) (s .args .span .«last_bin») (length (s .args .table .now)) (l .lesser2 .result) (t .if1 .taken) (omega (arith, s .pre .8 .inside, s .pre .17)) (l .lesser2 .ensures) in
+    let e = row-ends (a .loop .block) (s .args .span .«last_bin») (length (s .args .table .now)) (l .lesser2 .result) (t .if1 .taken) (omega (arith, s .pre .6 .inside, s .pre .15)) (l .lesser2 .ensures) in
     let z : 1 + 64 * a .loop .block ≡ 1 + a .loop .block * 64 = omega arith in (
       s .pre .0,
       s .pre .1,
       s .pre .2,
       s .pre .3,
-      omega (arith, o .bounds-of .kept, i .4, s .pre .4),
+      omega (arith, o .bounds-of .kept, i .3, s .pre .3),
       e .0,
       i .1,
       i .2,
-      i .3,
       e .1,
       e .2,
-      omega (arith, s .pre .8 .last),
+      omega (arith, s .pre .6 .last),
+      i .5,
       i .6,
-      i .7,
-      s .pre .15,
-      s .pre .16,
-      rw z at (block-bounded (s .pre .8 .ends) (s .pre .8 .table-real) (a .loop .block) (s .args .grid) (s .args .lobes) (s .args .count) (s .args .centers .now) (s .args .strengths .now) (s .args .peaks .now) (a .loop .bounds) (s .pre .1) (s .pre .12) (omega (arith, i .4, s .pre .4)) (l .lesser2 .result) (e .3) (e .2) (o .bounds-of .ensures)),
+      s .pre .13,
+      s .pre .14,
+      rw z at (block-bounded (s .pre .6 .ends) (s .pre .6 .table-real) (a .loop .block) (s .args .grid) (s .args .lobes) (s .args .count) (s .args .centers .now) (s .args .strengths .now) (s .args .peaks .now) (a .loop .bounds) (s .pre .1) (s .pre .10) (omega (arith, i .3, s .pre .3)) (l .lesser2 .result) (e .3) (e .2) (o .bounds-of .ensures)),
     )
 
 add-block : tie.Need-add-block Inv-loop μ-loop
 add-block c =
-    let a = c .before .before .before .before .before .before .before .before .before .before .before .before .before .before .before .before .before .before .before .before .before .before .before .before .before .before in
+    let a = c .before .before .before .before .before .before .before .before .before .before .before .before .before .before .before .before .before .before .before .before .before .before in
     omega (arith, a .loop .inv .0)
 
 loop-less : tie.Need-loop-less Inv-loop μ-loop
 loop-less c =
-    let t = c .before .before .before .before .before .before .before .before .before .before .before .before .before .before .before .before .before .before .before .before .before .before .before .before in
+    let t = c .before .before .before .before .before .before .before .before .before .before .before .before .before .before .before .before .before .before .before .before in
     let a = t .before .before in
-    let s = a .before .before .before .before .before .before .before .before .before .before .before .before .before .before .before in
-    omega (arith, t .if1 .taken, s .pre .8 .last, s .pre .17)
+    let s = a .before .before .before .before .before .before .before .before .before .before .before .before .before in
+    omega (arith, t .if1 .taken, s .pre .6 .last, s .pre .15)
 
 loop-again : tie.Need-loop-again Inv-loop μ-loop
 loop-again c =
-    let r = c .before .before .before .before .before .before .before .before .before .before in
-    let o = r .before .before .before .before .before .before .before .before .before in
+    let r = c .before .before .before .before .before .before .before .before in
+    let o = r .before .before .before .before .before .before .before in
     let l = o .before .before .before .before in
     let t = l .before in
     let a = t .before .before in
-    let s = a .before .before .before .before .before .before .before .before .before .before .before .before .before .before .before in
+    let s = a .before .before .before .before .before .before .before .before .before .before .before .before .before in
     let i = a .loop .inv in
-    let last : s .args .span .«last_bin» < length (s .args .table .now) = omega (arith, s .pre .8 .inside, s .pre .17) in
-    let few : s .args .count ≤ length (s .args .lobes) = omega (arith, i .5, s .pre .3) in
+    let last : s .args .span .«last_bin» < length (s .args .table .now) = omega (arith, s .pre .6 .inside, s .pre .15) in
+    let few : s .args .count ≤ length (s .args .lobes) = omega (arith, i .4, s .pre .3) in
     let first = rw (l .lesser2 .ensures) at (r .raise-block .ensures .0) in
     let second = rw (l .lesser2 .ensures) at (r .raise-block .ensures .1) in (
-      omega (arith, t .if1 .taken, s .pre .8 .last, s .pre .17),
+      omega (arith, t .if1 .taken, s .pre .6 .last, s .pre .15),
       omega (arith, r .raise-block .kept .1 .1 .0, i .1),
-      omega (arith, r .raise-block .kept .1 .1 .1 .0, i .2),
-      omega (arith, r .raise-block .kept .1 .1 .1 .1, i .3),
-      omega (arith, o .bounds-of .kept, i .4),
-      i .5,
-      range-open (s .args .grid) (s .args .table .now) (s .args .lobes) (s .args .count) (s .pre .1) few (s .pre .15) _ _ (a .loop .first) (i .6) (r .raise-block .ensures .0),
-      range-open (s .args .grid) (s .args .table .now) (s .args .lobes) (s .args .count) (s .pre .1) few (s .pre .16) _ _ (a .loop .second) (i .7) (r .raise-block .ensures .1),
-      walk-next _ _ (length (s .args .table .now)) (a .loop .block) (i .8) (omega (arith, t .if1 .taken, last)) first,
-      walk-next _ _ (length (s .args .table .now)) (a .loop .block) (i .9) (omega (arith, t .if1 .taken, last)) second,
+      omega (arith, r .raise-block .kept .1 .1 .1, i .2),
+      omega (arith, o .bounds-of .kept, i .3),
+      i .4,
+      range-open (s .args .grid) (s .args .table .now) (s .args .lobes) (s .args .count) (s .pre .1) few (s .pre .13) _ _ (a .loop .first) (i .5) (r .raise-block .ensures .0),
+      range-open (s .args .grid) (s .args .table .now) (s .args .lobes) (s .args .count) (s .pre .1) few (s .pre .14) _ _ (a .loop .second) (i .6) (r .raise-block .ensures .1),
+      walk-next _ _ (length (s .args .table .now)) (a .loop .block) (i .7) (omega (arith, t .if1 .taken, last)) first,
+      walk-next _ _ (length (s .args .table .now)) (a .loop .block) (i .8) (omega (arith, t .if1 .taken, last)) second,
     )
 
 same-length : tie.Need-same-length Inv-loop μ-loop
-same-length c = c .before .before .loop .inv .8 .len
+same-length c = c .before .before .loop .inv .7 .len
 
 same-length-2 : tie.Need-same-length-2 Inv-loop μ-loop
-same-length-2 c = c .before .before .loop .inv .9 .len
+same-length-2 c = c .before .before .loop .inv .8 .len
 
 same-length-3 : tie.Need-same-length-3 Inv-loop μ-loop
 same-length-3 c =
     let a = c .before .before in
-    let s = a .before .before .before .before .before .before .before .before .before .before .before .before .before .before .before in
-    a .loop .inv .1 ∙ sym (s .pre .5)
+    let s = a .before .before .before .before .before .before .before .before .before .before .before .before .before in
+    a .loop .inv .1 ∙ sym (s .pre .4)
 
 same-length-4 : tie.Need-same-length-4 Inv-loop μ-loop
 same-length-4 c =
     let a = c .before .before in
-    let s = a .before .before .before .before .before .before .before .before .before .before .before .before .before .before .before in
-    a .loop .inv .2 ∙ sym (s .pre .6)
-
-same-length-5 : tie.Need-same-length-5 Inv-loop μ-loop
-same-length-5 c =
-    let a = c .before .before in
-    let s = a .before .before .before .before .before .before .before .before .before .before .before .before .before .before .before in
-    a .loop .inv .3 ∙ sym (s .pre .7)
-
-same-length-6 : tie.Need-same-length-6 Inv-loop μ-loop
-same-length-6 c = c .before .before .loop .inv .4
+    let s = a .before .before .before .before .before .before .before .before .before .before .before .before .before in
+    a .loop .inv .2 ∙ sym (s .pre .5)
 
 -- the walk ends above the last bin, and began at or below the first
 passes : (first last block n : ℕ) → last ≤ block * 64 → last < n → (1 + 64 * blockOf (min first last) ≤ max first 1) × (last < min (1 + 64 * block) n)
@@ -207,14 +200,14 @@ passes first last block n h l = (omega arith, omega arith)
 returns : tie.Need-returns Inv-loop μ-loop
 returns c =
     let a = c .before .before in
-    let s = a .before .before .before .before .before .before .before .before .before .before .before .before .before .before .before in
+    let s = a .before .before .before .before .before .before .before .before .before .before .before .before .before in
     let i = a .loop .inv in
     let span = s .args .span in
-    let few : s .args .count ≤ length (s .args .lobes) = omega (arith, i .5, s .pre .3) in
-    let p = passes (span .«first_bin») (span .«last_bin») (a .loop .block) (length (s .args .table .now)) (c .if1 .left) (omega (arith, s .pre .8 .inside, s .pre .17)) in
-    let within = from-first (s .args .grid) (s .args .lobes) (s .args .count) (s .pre .1) (s .pre .18) in (
-      i .8 .is ∙ walked (s .args .grid) (lent (s .args .table .now)) (s .args .gains .first) (s .args .lobes) (s .args .count) few within _ _ (s .args .first .now) (p .0) (p .1),
-      i .9 .is ∙ walked (s .args .grid) (lent (s .args .table .now)) (s .args .gains .second) (s .args .lobes) (s .args .count) few within _ _ (s .args .second .now) (p .0) (p .1),
+    let few : s .args .count ≤ length (s .args .lobes) = omega (arith, i .4, s .pre .3) in
+    let p = passes (span .«first_bin») (span .«last_bin») (a .loop .block) (length (s .args .table .now)) (c .if1 .left) (omega (arith, s .pre .6 .inside, s .pre .15)) in
+    let within = from-first (s .args .grid) (s .args .lobes) (s .args .count) (s .pre .1) (s .pre .16) in (
+      i .7 .is ∙ walked (s .args .grid) (lent (s .args .table .now)) (s .args .gains .first) (s .args .lobes) (s .args .count) few within _ _ (s .args .first .now) (p .0) (p .1),
+      i .8 .is ∙ walked (s .args .grid) (lent (s .args .table .now)) (s .args .gains .second) (s .args .lobes) (s .args .count) few within _ _ (s .args .second .now) (p .0) (p .1),
     )
 
 pub raise-blocks-spec : {M : Type 1} → statement M
@@ -231,11 +224,13 @@ raise-blocks-spec =
     add-start
     add-lesser
     lesser-requires-2
+    slice-aggregate-bounds-of
     mul-bounds-of
     shared-slice-read-bounds-of
     mul-bounds-of-2
     shared-slice-read-bounds-of-2
     bounds-of-requires
+    slice-aggregate-raise-block
     raise-block-requires
     add-block
     loop-less
@@ -244,6 +239,4 @@ raise-blocks-spec =
     same-length-2
     same-length-3
     same-length-4
-    same-length-5
-    same-length-6
     returns)

@@ -1,5 +1,4 @@
--- `walk` lends the walk its rows and columns. Assumes nothing.
-use mathlib.Core.Path.{refl}
+-- `walk` lends the walk its columns. Assumes nothing.
 use native.Mathlib.Omega.{arith}
 use Rattle.block_walk.proofs.BlockWalk.{column-at}
 use borrow.Author.Needs.{needs}
@@ -27,23 +26,15 @@ slice-aggregate-raise-blocks-2 c = search needs
 slice-aggregate-raise-blocks-3 : tie.Need-slice-aggregate-raise-blocks-3
 slice-aggregate-raise-blocks-3 c = search needs
 
-slice-aggregate-raise-blocks-4 : tie.Need-slice-aggregate-raise-blocks-4
-slice-aggregate-raise-blocks-4 c = search needs
-
-slice-aggregate-raise-blocks-5 : tie.Need-slice-aggregate-raise-blocks-5
-slice-aggregate-raise-blocks-5 c = search needs
-
 raise-blocks-requires : tie.Need-raise-blocks-requires
 raise-blocks-requires c κs =
-    let o = c .before .before .before .before .before .before .before .before .before .before .before .before in
+    let o = c .before .before .before .before .before .before .before .before .before .before in
     let s = o .before .before .before .before .before .before .before .before .before .before .before in
     let e = o .columns-of .ensures in (
       s .pre .0,
       s .pre .1,
       s .pre .2,
       s .pre .3,
-      s .pre .3,
-      refl,
       s .pre .4,
       s .pre .5,
       s .pre .6,
@@ -85,8 +76,6 @@ walk-spec =
     slice-aggregate-raise-blocks
     slice-aggregate-raise-blocks-2
     slice-aggregate-raise-blocks-3
-    slice-aggregate-raise-blocks-4
-    slice-aggregate-raise-blocks-5
     raise-blocks-requires
     same-length
     same-length-2
