@@ -1,4 +1,5 @@
-// The most that the lobes of a tone open over a block of bins, worked out in a row: each lobe only where it can count.
+// The most that the lobes of a tone open over a block of bins, worked out in a row: each lobe only where it can count. The chunk has the openings of one lobe until they
+// are joined, and is then the room in which the least of the row is found.
 ghost use mathlib.Core.Path.{_≡_};
 ghost use mathlib.Core.Bool.{true};
 ghost use Prim.Native.Nat.{_+_, _-_, _^_, _≤_, _<_};
