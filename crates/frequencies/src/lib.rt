@@ -1,4 +1,6 @@
 // The frequencies of the bins of a spectrum, and the table of their logarithms.
+pub mod rows;
+
 ghost use mathlib.Core.Path.{_≡_};
 ghost use Prim.Native.Nat.{_^_, _≤_};
 ghost use lib.ListN.{length};

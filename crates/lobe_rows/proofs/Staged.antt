@@ -5,21 +5,24 @@ use Prim.Native.Nat.{ℕ, _+_, _≤_, _<_}
 use native.Mathlib.Nat.{le-trans, le-of-eq, min-le-right}
 use native.Mathlib.Omega.{arith}
 use lib.ListN.{length, getD}
-use lib.Ieee.{Float, nan, binary32, sub}
+use lib.Ieee.{Float, nan, binary32, sub, mul, div}
 use lib.Ieee.Fits.{sub-fits}
 use Rattle.lists.specs.Maps.{mapRange, between-in, getD-mapRange}
 use Rattle.lists.specs.Runs.{range-range, range-same}
+use Rattle.lists.specs.Stages.{stages, stage-same}
 use Rattle.float32.specs.Counts.{floorCount}
 use Rattle.float32.specs.Powers.{square}
 use Rattle.power.specs.Log.{L2}
+use Rattle.power.specs.Decimal.{exp}
+use Rattle.frequencies.specs.Frequency.{hertz}
 use Rattle.gaussian.specs.Bell.{Place, indexOf, partOf, line, between}
 use Rattle.gaussian.proofs.InUnit.{place-of}
 use Rattle.lobes.specs.declared.Grid.{Grid}
 use Rattle.lobes.specs.declared.Lobe.{Lobe}
-use Rattle.lobes.specs.Distance.{lent, inWidths}
+use Rattle.lobes.specs.Distance.{lent, none, MINUS-HALF, inWidths, distance}
 use Rattle.lobes.specs.Lobe.{opening}
 use Rattle.lobes.proofs.Raised.{from-zero}
-use Rattle.lobe_rows.specs.Stages.{relativeTo, placeOf, openedBy, opening-lent}
+use Rattle.lobe_rows.specs.Stages.{relativeTo, placeOf, openedBy, opening-lent, opening-none}
 
 -- what is taken from a distance, NaN too, is a place of the table: a maximum with 0 is a number
 pub in-table : (peak distance : Float) → Place (placeOf peak distance)
@@ -76,3 +79,28 @@ module _ (grid : Grid) (lobe : Lobe) (table : List Float) (center : Float) (star
       range-range (λ k bell. openedBy (lobe .strength) bell) (λ k x. between (place k)) 0 count xs
       ∙ range-same (λ k x. openedBy (lobe .strength) (between (place k))) (λ k held. opening grid (lent table) lobe (start + k)) 0 count xs
       (λ k held p q. rw e (sym (opening-lent grid lobe (start + k) table)))
+
+-- ---- and by the bins' own frequencies: ratios, octaves, exponents and bells
+module _ (grid : Grid) (lobe : Lobe) (start count : ℕ) where
+  abbrev ratio : ℕ → Float
+  ratio k = div binary32 (hertz (grid .«bin_hz») (start + k)) (lobe .center)
+
+  abbrev exponent : Float → Float
+  exponent octaves = mul binary32 MINUS-HALF (relativeTo (lobe .«peak_squared») (inWidths (grid .width) octaves))
+
+  abbrev all : (ℕ → Float → Float) → List Float → List Float
+  all f = mapRange f 0 count
+
+  opened : (k : ℕ) → openedBy (lobe .strength) (exp (exponent (L2 (ratio k)))) ≡ opening grid none lobe (start + k)
+  unfolding distance
+  opened k = sym (opening-none grid lobe (start + k))
+
+  pub staged-by-frequency : (xs : List Float)
+      → all (λ k bell. openedBy (lobe .strength) bell) (all (λ k y. exp y) (all (λ k octaves. exponent octaves) (all (λ k r. L2 r) (all (λ k held. ratio k) xs))))
+      ≡ all (λ k held. opening grid none lobe (start + k)) xs
+  staged-by-frequency xs =
+      ap (λ (l : List Float). all (λ k bell. openedBy (lobe .strength) bell) (all (λ k y. exp y) (all (λ k octaves. exponent octaves) l))) (stages (λ k r. L2 r) (λ k held. ratio k) 0 count xs)
+      ∙ ap (λ (l : List Float). all (λ k bell. openedBy (lobe .strength) bell) (all (λ k y. exp y) l)) (stages (λ k octaves. exponent octaves) (λ k held. L2 (ratio k)) 0 count xs)
+      ∙ ap (all (λ k bell. openedBy (lobe .strength) bell)) (stages (λ k y. exp y) (λ k held. exponent (L2 (ratio k))) 0 count xs)
+      ∙ stages (λ k bell. openedBy (lobe .strength) bell) (λ k held. exp (exponent (L2 (ratio k)))) 0 count xs
+      ∙ stage-same (λ k held. openedBy (lobe .strength) (exp (exponent (L2 (ratio k))))) (λ k held. opening grid none lobe (start + k)) 0 count xs (λ k held p q. opened k)

@@ -12,21 +12,19 @@ ghost use Rattle.power.specs.Table.{powerTable};
 ghost use Rattle.power.specs.Log.{L2};
 ghost use Rattle.gaussian.specs.Table.{gaussianTable};
 ghost use Rattle.gaussian.specs.Bell.{Place, indexOf, partOf, line, between};
-ghost use Rattle.lobes.specs.Distance.{lent, none, logsOf, inWidths};
+ghost use Rattle.lobes.specs.Distance.{lent, logsOf, inWidths};
 ghost use Rattle.lobes.specs.Lobe.{opening};
 ghost use Rattle.lobe_rows.specs.Stages.{relativeTo, placeOf, openedBy};
+use crate::by_frequency::openings_by_frequency;
 use gaussian::GaussianTable;
 use gaussian::step_of;
 use lobes::Grid;
 use lobes::Lobe;
-use lobes::distances::distance_by_hertz;
 use lobes::distances::distance_by_table;
 use power::table::PowerTable;
 
-const MINUS_HALF: f32 = -0.5;
-
 // The square of a distance in widths, less that of the peak bin.
-fn relative_square(peak_squared: f32, distance: f32) -> f32
+pub(crate) fn relative_square(peak_squared: f32, distance: f32) -> f32
     ensures { λ r. ⌜ r ≡ relativeTo «peak_squared» distance ⌝ }
 {
     float32::order::max(float32::powers::powi2(distance) - peak_squared, 0.0)
@@ -114,44 +112,13 @@ pub fn bells(
 }
 
 // What a lobe of a strength opens under each bell.
-fn openings_of_bells(chunk: &mut [f32], count: usize, strength: f32)
+pub(crate) fn openings_of_bells(chunk: &mut [f32], count: usize, strength: f32)
     requires { ⌜ count ≤ length (now chunk) ⌝ }
     ensures { λ _. ⌜ now (chunk .exit) ≡ mapRange (λ k bell. openedBy strength bell) 0 count (now (chunk .entry)) ⌝ }
 {
     let mut k: usize = 0;
     while k < count {
         chunk[k] = opened_by(strength, chunk[k]);
-        k += 1;
-    }
-}
-
-// What the lobe opens at a bin, by the bin's own frequency.
-fn opening_by_frequency(powers: &PowerTable, grid: Grid, lobe: Lobe, bin: usize) -> f32
-    requires { ⌜ (now powers ≡ powerTable) × (bin ≤ 2 ^ 24) ⌝ }
-    ensures { λ r. ⌜ r ≡ opening grid none lobe bin ⌝ }
-{
-    let distance = distance_by_hertz(powers, grid, lobe.center, bin);
-    let square = relative_square(lobe.peak_squared, distance);
-    opened_by(
-        lobe.strength,
-        power::decimal::exp(powers, MINUS_HALF * square),
-    )
-}
-
-fn openings_by_frequency(
-    chunk: &mut [f32],
-    powers: &PowerTable,
-    grid: Grid,
-    lobe: Lobe,
-    start: usize,
-    count: usize,
-)
-    requires { ⌜ (now powers ≡ powerTable) × (count ≤ length (now chunk)) × (start + count ≤ 2 ^ 24 + 1) ⌝ }
-    ensures { λ _. ⌜ now (chunk .exit) ≡ mapRange (λ k held. opening grid none lobe (start + k)) 0 count (now (chunk .entry)) ⌝ }
-{
-    let mut k: usize = 0;
-    while k < count {
-        chunk[k] = opening_by_frequency(powers, grid, lobe, start + k);
         k += 1;
     }
 }

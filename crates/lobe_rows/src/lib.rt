@@ -1,5 +1,6 @@
 // Lobes over rows of at most 64 bins: what a lobe opens at each bin of a row, how that is joined to what the bins hold, and the plain way of raising lobes, one after the other.
 
+mod by_frequency;
 pub mod chunk;
 pub mod joins;
 pub mod plain;

@@ -1,0 +1,78 @@
+// What a lobe opens at a few bins in a row, by the bins' own frequencies, where no table was lent.
+//
+// Method. As by a table, one short loop after the other over the same few numbers: the bins' frequencies over the lobe's centre, their octaves, the exponents of the bells there, the bells,
+// and what the lobe opens under them.
+ghost use mathlib.Core.Path.{_≡_};
+ghost use Prim.Native.Nat.{_+_, _^_, _≤_};
+ghost use lib.ListN.{length};
+ghost use lib.Ieee.{binary32, mul};
+ghost use Rattle.lists.specs.Maps.{mapRange};
+ghost use Rattle.power.specs.Table.{powerTable};
+ghost use Rattle.power.specs.Log.{L2};
+ghost use Rattle.power.specs.Decimal as decimal;
+ghost use Rattle.lobes.specs.Distance.{none, MINUS-HALF, inWidths};
+ghost use Rattle.lobes.specs.Lobe.{opening};
+ghost use Rattle.lobe_rows.specs.Stages.{relativeTo};
+use crate::chunk::openings_of_bells;
+use crate::chunk::relative_square;
+use frequencies::rows::ratios;
+use lobes::Grid;
+use lobes::Lobe;
+use lobes::distances::in_widths;
+use power::decimal::exp;
+use power::log2::log2;
+use power::table::PowerTable;
+
+const MINUS_HALF: f32 = -0.5;
+
+fn octaves(chunk: &mut [f32], powers: &PowerTable, count: usize)
+    requires { ⌜ (now powers ≡ powerTable) × (count ≤ length (now chunk)) ⌝ }
+    ensures { λ _. ⌜ now (chunk .exit) ≡ mapRange (λ k ratio. L2 ratio) 0 count (now (chunk .entry)) ⌝ }
+{
+    let mut k: usize = 0;
+    while k < count {
+        chunk[k] = log2(powers, chunk[k]);
+        k += 1;
+    }
+}
+
+// A bell is e to the power of minus half the relative square.
+fn exponents(chunk: &mut [f32], count: usize, width: f32, peak_squared: f32)
+    requires { ⌜ count ≤ length (now chunk) ⌝ }
+    ensures { λ _. ⌜ now (chunk .exit) ≡ mapRange (λ k octaves. mul binary32 MINUS-HALF (relativeTo «peak_squared» (inWidths width octaves))) 0 count (now (chunk .entry)) ⌝ }
+{
+    let mut k: usize = 0;
+    while k < count {
+        chunk[k] = MINUS_HALF * relative_square(peak_squared, in_widths(width, chunk[k]));
+        k += 1;
+    }
+}
+
+fn exponentials(chunk: &mut [f32], powers: &PowerTable, count: usize)
+    requires { ⌜ (now powers ≡ powerTable) × (count ≤ length (now chunk)) ⌝ }
+    ensures { λ _. ⌜ now (chunk .exit) ≡ mapRange (λ k y. decimal.exp y) 0 count (now (chunk .entry)) ⌝ }
+{
+    let mut k: usize = 0;
+    while k < count {
+        chunk[k] = exp(powers, chunk[k]);
+        k += 1;
+    }
+}
+
+pub fn openings_by_frequency(
+    chunk: &mut [f32],
+    powers: &PowerTable,
+    grid: Grid,
+    lobe: Lobe,
+    start: usize,
+    count: usize,
+)
+    requires { ⌜ (now powers ≡ powerTable) × (count ≤ length (now chunk)) × (start + count ≤ 2 ^ 24 + 1) ⌝ }
+    ensures { λ _. ⌜ now (chunk .exit) ≡ mapRange (λ k held. opening grid none lobe (start + k)) 0 count (now (chunk .entry)) ⌝ }
+{
+    ratios(chunk, grid.bin_hz, lobe.center, start, count);
+    octaves(chunk, powers, count);
+    exponents(chunk, count, grid.width, lobe.peak_squared);
+    exponentials(chunk, powers, count);
+    openings_of_bells(chunk, count, lobe.strength);
+}
