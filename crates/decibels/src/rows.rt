@@ -1,15 +1,20 @@
-// The gains of a row of decibels, one short loop after the other: the loop of the quotients is done for several entries at once.
+// The gains of a row of decibels, one short loop after the other: the loop of the quotients is done for several entries at once. A row that is level, as that of a curve with nothing drawn or
+// of a field that is open, has its gain worked out once.
 ghost use mathlib.Core.Path.{_≡_};
-ghost use Prim.Native.Nat.{_≤_};
-ghost use lib.ListN.{length};
-ghost use lib.Ieee.{binary32, div};
+ghost use mathlib.Core.Bool.{true, false};
+ghost use Prim.Native.Nat.{ℕ, _≤_, _<_};
+ghost use lib.Dec.{T};
+ghost use lib.ListN.{length, getD};
+ghost use lib.Ieee.{nan, binary32, div, eq};
 ghost use Rattle.lists.specs.Maps.{mapRange};
 ghost use Rattle.power.specs.Table.{powerTable};
 ghost use Rattle.power.specs.Decimal.{pow10};
 ghost use Rattle.decibels.specs.Gain.{DECIBELS-PER-DECADE, gainOf};
 use crate::DECIBELS_PER_DECADE;
+use crate::gain;
 use power::decimal::pow10;
 use power::table::PowerTable;
+use slices::fill_first;
 
 fn decades(row: &mut [f32], count: usize)
     requires { ⌜ count ≤ length (now row) ⌝ }
@@ -33,11 +38,44 @@ fn powers_of_ten(row: &mut [f32], powers: &PowerTable, count: usize)
     }
 }
 
+// Whether one of the first `count` entries is not the number at the start of the row.
+fn differs(row: &[f32], first: f32, count: usize) -> bool
+    requires { ⌜ count ≤ length (now row) ⌝ }
+    ensures { λ r. ⌜ (r ≡ false → (k : ℕ) → k < count → T (eq (getD (now (row .entry)) k nan) first)) ⌝ }
+{
+    let mut other = false;
+    let mut k: usize = 0;
+    while k < count {
+        other = other | (row[k] != first);
+        k += 1;
+    }
+    other
+}
+
+// Whether the first `count` entries are one number. A drawn row is mostly told by its ends.
+fn is_level(row: &[f32], count: usize) -> bool
+    requires { ⌜ count ≤ length (now row) ⌝ }
+    ensures { λ r. ⌜ (r ≡ true → (0 < count) × ((k : ℕ) → k < count → T (eq (getD (now (row .entry)) k nan) (getD (now (row .entry)) 0 nan)))) ⌝ }
+{
+    if count == 0 {
+        return false;
+    }
+    if row[0] != row[count - 1] {
+        return false;
+    }
+    !differs(row, row[0], count)
+}
+
 // The first `count` entries of the row, which are decibels, as gains.
 pub fn gains(row: &mut [f32], powers: &PowerTable, count: usize)
     requires { ⌜ (now powers ≡ powerTable) × (count ≤ length (now row)) ⌝ }
     ensures { λ _. ⌜ now (row .exit) ≡ mapRange (λ k db. gainOf db) 0 count (now (row .entry)) ⌝ }
 {
+    if is_level(row, count) {
+        let level = gain(powers, row[0]);
+        fill_first(row, level, count);
+        return;
+    }
     decades(row, count);
     powers_of_ten(row, powers, count);
 }
