@@ -190,7 +190,7 @@ fn both_records() {
     let records = [
         ("crates/scene/src/lib.rt", "MaskVoice", "DovetableVoice"),
         (
-            "crates/spectral_dsp_c/src/builders.rt",
+            "crates/crossing/src/settings.rt",
             "Settings",
             "DovetableSettings",
         ),

@@ -1,70 +1,20 @@
 // The mask builders. The voices cross as a slice of records and the settings as one record by value, each laid out as in C.
 ghost use mathlib.Core.Path.{_≡_};
-ghost use mathlib.Core.Bool.{cond};
 ghost use Prim.Native.Nat.{_*_};
 ghost use lib.ListN.{length, take, drop};
-ghost use Rattle.answer.specs.Reply.{ofOutcome, refused};
 ghost use Rattle.answer.specs.Written.{written};
-ghost use Rattle.scene.specs.Accepted.{sizeAccepted};
 ghost use Rattle.lobes.specs.Distance.{lent, none};
 ghost use Rattle.lobes.specs.Pan as side;
 ghost use Rattle.mask_builder.specs.Levels.{voicesOf};
 ghost use Rattle.mask_builder.specs.Mask.{maskOf};
 ghost use Rattle.spectral_dsp.specs.Masks.{maskReply, voicesMaskReply, tabledMaskReply, stereoReply};
-ghost use Rattle.spectral_dsp_c.specs.Given.{Given};
-ghost use Rattle.spectral_dsp_c.specs.MaskSettings.{configOf, withSettings};
-use crate::answers::give_outcome;
-use crate::spectral::motion_of;
-use answer::Outcome;
-use scene::MaskConfig;
+ghost use Rattle.crossing.specs.Given.{Given};
+ghost use Rattle.crossing.specs.MaskSettings.{configOf, withSettings};
+use crossing::answers::give_outcome;
+use crossing::settings::Settings;
+use crossing::settings::config_of;
+use crossing::settings::shape_refused;
 use scene::MaskVoice;
-
-// A mask's settings, its motion's among them. The shape is a number, 0..7 in the Rust's order.
-#[repr(C)]
-pub struct Settings {
-    pub sample_rate: f32,
-    pub fft_size: usize,
-    pub note_depth_db: f32,
-    pub note_layer_enabled: bool,
-    pub width_cents: f32,
-    pub partials: usize,
-    pub harmonic_rolloff_db_per_octave: f32,
-    pub motion_shape: u32,
-    pub motion_depth_db: f32,
-    pub motion_phase: f32,
-    pub motion_size_octaves: f32,
-}
-
-fn config_of(settings: Settings) -> MaskConfig
-    ensures { λ r. ⌜ r ≡ configOf settings ⌝ }
-{
-    let motion = motion_of(
-        settings.motion_shape,
-        settings.motion_depth_db,
-        settings.motion_phase,
-        settings.motion_size_octaves,
-    );
-    MaskConfig {
-        sample_rate: settings.sample_rate,
-        fft_size: settings.fft_size,
-        note_depth_db: settings.note_depth_db,
-        note_layer_enabled: settings.note_layer_enabled,
-        width_cents: settings.width_cents,
-        partials: settings.partials,
-        harmonic_rolloff_db_per_octave: settings.harmonic_rolloff_db_per_octave,
-        motion: motion,
-    }
-}
-
-// Another shape than 0..7 is refusal 2, where there is no refusal 1.
-fn shape_refused(config: MaskConfig) -> Outcome
-    ensures { λ r. ⌜ ofOutcome r ≡ cond (sizeAccepted config) (refused 2 0) (refused 1 0) ⌝ }
-{
-    if scene::size_accepted(config) {
-        return Outcome::Refused(2, 0);
-    }
-    Outcome::Refused(1, 0)
-}
 
 fn mono(
     output: &mut [f32],

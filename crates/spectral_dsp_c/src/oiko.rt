@@ -1,7 +1,7 @@
 // The open calls of oiko-dsp.
 ghost use Rattle.oiko_dsp.specs.Calls.{dbToGain, noteFrequency, noteFrequencyWithTuning};
-ghost use Rattle.spectral_dsp_c.specs.Given.{GivenValue};
-use crate::answers::give_answer;
+ghost use Rattle.crossing.specs.Given.{GivenValue};
+use crossing::answers::give_answer;
 
 #[no_mangle]
 pub extern "C" fn dovetable_db_to_gain(db: f32, gain: &mut f32, place: &mut usize) -> u32

@@ -6,9 +6,9 @@ ghost use Rattle.windows.specs.Windows.{dualOf};
 ghost use Rattle.smoothing.specs.Smoothing.{softenedOf, smoothedOf};
 ghost use Rattle.prepared_spectrum.specs.Block.{blockOf};
 ghost use Rattle.spectral_dsp.specs.Processing.{dualReply, softenReply, smoothReply, preparedReply};
-ghost use Rattle.spectral_dsp_c.specs.Given.{Given, GivenValues};
-use crate::answers::give_outcome;
-use crate::answers::give_prepared;
+ghost use Rattle.crossing.specs.Given.{Given, GivenValues};
+use crossing::answers::give_outcome;
+use crossing::answers::give_prepared;
 use spectral_dsp::processing::PreparedSpectrum;
 
 #[no_mangle]

@@ -2,20 +2,19 @@
 ghost use mathlib.Core.Path.{_≡_};
 ghost use lib.ListN.{length};
 ghost use Rattle.lists.specs.Maps.{tabulate};
-ghost use Rattle.answer.specs.Reply.{ofOutcome};
 ghost use Rattle.answer.specs.Written.{written};
 ghost use Rattle.envelopes.specs.Envelope.{advanced};
 ghost use Rattle.frequencies.specs.Frequency.{prepared};
 ghost use Rattle.spectral_dsp.specs.Gates.{noteEmphasisGain, noteGateGain, manualGainAtBin};
 ghost use Rattle.spectral_dsp.specs.Motion.{opennessReply, attenuationReply, compensationReply};
 ghost use Rattle.spectral_dsp.specs.Prepared.{prepareReply};
-ghost use Rattle.spectral_dsp_c.specs.Given.{Given, GivenValue};
-ghost use Rattle.spectral_dsp_c.specs.Settings.{motionOf, withShape, bankReply};
-use crate::answers::give_answer;
-use crate::answers::give_outcome;
+ghost use Rattle.crossing.specs.Given.{Given, GivenValue};
+ghost use Rattle.crossing.specs.Settings.{motionOf, withShape, bankReply};
 use answer::Answer;
-use answer::Outcome;
-use scene::MotionConfig;
+use crossing::answers::give_answer;
+use crossing::answers::give_outcome;
+use crossing::bank::advance_bank;
+use crossing::settings::motion_of;
 
 #[no_mangle]
 pub extern "C" fn dovetable_note_emphasis_gain(
@@ -60,17 +59,6 @@ pub extern "C" fn dovetable_manual_gain_at_bin(
         gain,
         place,
     )
-}
-
-pub fn motion_of(shape: u32, depth_db: f32, phase: f32, size_octaves: f32) -> MotionConfig
-    ensures { λ r. ⌜ r ≡ motionOf shape «depth_db» phase «size_octaves» ⌝ }
-{
-    MotionConfig {
-        shape: scene::shape_of(shape),
-        depth_db: depth_db,
-        phase: phase,
-        size_octaves: size_octaves,
-    }
 }
 
 #[no_mangle]
@@ -150,63 +138,6 @@ pub extern "C" fn dovetable_prepare(
 {
     let outcome = spectral_dsp::MaskWorkspace::prepare(table, sample_rate, fft_size);
     give_outcome(outcome, place)
-}
-
-fn bank_of(levels: &[f32]) -> [f32; 128]
-    requires { ⌜ length (now levels) ≡ 128 ⌝ }
-    ensures { λ r. ⌜ r ≡ now (levels .entry) ⌝ }
-{
-    let mut bank = [0.0f32; 128];
-    slices::copy(levels, &mut bank);
-    bank
-}
-
-fn held_of(held: &[u8]) -> [u8; 16]
-    requires { ⌜ length (now held) ≡ 16 ⌝ }
-    ensures { λ r. ⌜ r ≡ now (held .entry) ⌝ }
-{
-    [
-        held[0],
-        held[1],
-        held[2],
-        held[3],
-        held[4],
-        held[5],
-        held[6],
-        held[7],
-        held[8],
-        held[9],
-        held[10],
-        held[11],
-        held[12],
-        held[13],
-        held[14],
-        held[15],
-    ]
-}
-
-fn advance_bank(levels: &mut [f32], held: &[u8], elapsed_seconds: f32, fade_ms: f32) -> Outcome
-    ensures { λ r. ⌜ ofOutcome r ≡ bankReply (now (levels .entry)) (now (held .entry)) «elapsed_seconds» «fade_ms» ⌝ }
-    ensures { λ r. ⌜ now (levels .exit) ≡ written (ofOutcome r) (advanced (now (held .entry)) «elapsed_seconds» «fade_ms» (now (levels .entry))) (now (levels .entry)) ⌝ }
-{
-    if !limits::elapsed(elapsed_seconds) {
-        return Outcome::Refused(2, 0);
-    }
-    if !limits::fade(fade_ms) {
-        return Outcome::Refused(2, 0);
-    }
-    if levels.len() != 128 {
-        return Outcome::Refused(4, 0);
-    }
-    if held.len() != 16 {
-        return Outcome::Refused(4, 0);
-    }
-    let bank = bank_of(levels);
-    let bytes = held_of(held);
-    let next = spectral_dsp::advance_note_envelopes(bank, bytes, elapsed_seconds, fade_ms);
-    let after = next.levels;
-    slices::copy(&after, levels);
-    next.outcome
 }
 
 // The bank is changed in place.

@@ -1,6 +1,6 @@
 -- `spectral_dsp_c::oiko::dovetable_db_to_gain` gives what the open call answers. Assumes nothing.
 use borrow.Author.Needs.{needs}
-use Rattle.spectral_dsp_c.proofs.Replies.{given-value}
+use Rattle.crossing.proofs.Replies.{given-value}
 use Rattle.spectral_dsp_c.proofs.oiko.dovetable_db_to_gain.Statement.{statement}
 use Rattle.spectral_dsp_c.proofs.oiko.dovetable_db_to_gain.Tie as tie
 

@@ -1,6 +1,6 @@
 -- `spectral_dsp_c::processing::dovetable_build_dual_synthesis_window` gives what the call answers, and leaves the synthesis window as that leaves it. Assumes nothing.
 use borrow.Author.Needs.{needs}
-use Rattle.spectral_dsp_c.proofs.Replies.{given, left}
+use Rattle.crossing.proofs.Replies.{given, left}
 use Rattle.spectral_dsp_c.proofs.processing.dovetable_build_dual_synthesis_window.Statement.{statement}
 use Rattle.spectral_dsp_c.proofs.processing.dovetable_build_dual_synthesis_window.Tie as tie
 

@@ -1,6 +1,6 @@
 -- `spectral_dsp_c::spectral::dovetable_advance_note_envelopes` gives what the call answers, and leaves the levels as that leaves it. Assumes nothing.
 use borrow.Author.Needs.{needs}
-use Rattle.spectral_dsp_c.proofs.Replies.{given, left}
+use Rattle.crossing.proofs.Replies.{given, left}
 use Rattle.spectral_dsp_c.proofs.spectral.dovetable_advance_note_envelopes.Statement.{statement}
 use Rattle.spectral_dsp_c.proofs.spectral.dovetable_advance_note_envelopes.Tie as tie
 

@@ -2,8 +2,8 @@
 use mathlib.Core.Path.{sym, ap, _∙_}
 use borrow.Author.Needs.{needs}
 use Rattle.spectral_dsp.specs.Motion.{attenuationReply}
-use Rattle.spectral_dsp_c.proofs.Replies.{given-value}
-use Rattle.spectral_dsp_c.proofs.Shapes.{with-known, with-unknown}
+use Rattle.crossing.proofs.Replies.{given-value}
+use Rattle.crossing.proofs.Shapes.{with-known, with-unknown}
 use Rattle.spectral_dsp_c.proofs.spectral.dovetable_motion_attenuation_db.Statement.{statement}
 use Rattle.spectral_dsp_c.proofs.spectral.dovetable_motion_attenuation_db.Tie as tie
 

@@ -1,6 +1,6 @@
 -- `spectral_dsp_c::spectral::dovetable_prepare` gives what the call answers, and leaves the table as that leaves it. Assumes nothing.
 use borrow.Author.Needs.{needs}
-use Rattle.spectral_dsp_c.proofs.Replies.{given, left}
+use Rattle.crossing.proofs.Replies.{given, left}
 use Rattle.spectral_dsp_c.proofs.spectral.dovetable_prepare.Statement.{statement}
 use Rattle.spectral_dsp_c.proofs.spectral.dovetable_prepare.Tie as tie
 

@@ -11,8 +11,8 @@ use Rattle.scene.specs.declared.MaskConfig.{MaskConfig}
 use Rattle.scene.specs.Accepted.{sizeAccepted}
 use Rattle.answer.specs.Written.{written}
 use Rattle.refusals.proofs.MaskAccepted.{Done}
-use Rattle.spectral_dsp_c.specs.declared.builders.Settings.{Settings}
-use Rattle.spectral_dsp_c.specs.MaskSettings.{configOf, withSettings}
+use Rattle.crossing.specs.declared.settings.Settings.{Settings}
+use Rattle.crossing.specs.MaskSettings.{configOf, withSettings}
 
 refused-left : (b : Bool) (new old : List Float) → old ≡ written (cond b (refused 2 0) (refused 1 0)) new old
 refused-left true new old = refl

@@ -4,8 +4,8 @@ use lib.Dec.{leb}
 use Rattle.answer.specs.Reply.{Reply, refused}
 use Rattle.scene.specs.declared.MaskConfig.{MaskConfig}
 use Rattle.scene.specs.Accepted.{sizeAccepted}
-use Rattle.spectral_dsp_c.specs.Settings.{motionOf}
-use Rattle.spectral_dsp_c.specs.declared.builders.Settings.{Settings}
+use Rattle.crossing.specs.Settings.{motionOf}
+use Rattle.crossing.specs.declared.settings.Settings.{Settings}
 
 abbrev pub configOf : Settings → MaskConfig
 configOf settings =

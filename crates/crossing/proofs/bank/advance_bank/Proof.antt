@@ -1,14 +1,14 @@
--- `spectral_dsp_c::spectral::advance_bank` meets its contract, test by test; then the bank that the open call hands back is copied to the slice. Assumes nothing.
+-- `crossing::bank::advance_bank` meets its contract, test by test; then the bank that the open call hands back is copied to the slice. Assumes nothing.
 use mathlib.Core.Path.{_≡_, refl, subst, _∙_}
 use mathlib.Core.Bool.{Bool, false, not}
 use native.Mathlib.Omega.{arith}
 use borrow.Author.Needs.{needs}
 use borrow.Author.Tests.{eq-eqb, ne-eqb}
 use lib.ListN.{length}
-use Rattle.spectral_dsp_c.specs.Settings.{bankReply}
-use Rattle.spectral_dsp_c.proofs.Banks.{bank-reply, bank-left, lent}
-use Rattle.spectral_dsp_c.proofs.spectral.advance_bank.Statement.{statement}
-use Rattle.spectral_dsp_c.proofs.spectral.advance_bank.Tie as tie
+use Rattle.crossing.specs.Settings.{bankReply}
+use Rattle.crossing.proofs.Banks.{bank-reply, bank-left, lent}
+use Rattle.crossing.proofs.bank.advance_bank.Statement.{statement}
+use Rattle.crossing.proofs.bank.advance_bank.Tie as tie
 
 elapsed-requires : tie.Need-elapsed-requires
 elapsed-requires c κs = search needs

@@ -1,10 +1,10 @@
--- `spectral_dsp_c::spectral::held_of` gives the bytes of a slice of 16, entry by entry. Assumes nothing.
+-- `crossing::bank::held_of` gives the bytes of a slice of 16, entry by entry. Assumes nothing.
 use mathlib.Core.Path.{sym}
 use borrow.Author.Needs.{needs}
 use Rattle.lists.specs.Maps as maps
-use Rattle.spectral_dsp_c.proofs.Banks.{sixteen}
-use Rattle.spectral_dsp_c.proofs.spectral.held_of.Statement.{statement}
-use Rattle.spectral_dsp_c.proofs.spectral.held_of.Tie as tie
+use Rattle.crossing.proofs.Banks.{sixteen}
+use Rattle.crossing.proofs.bank.held_of.Statement.{statement}
+use Rattle.crossing.proofs.bank.held_of.Tie as tie
 
 shared-slice-read-t3 : tie.Need-shared-slice-read-t3
 shared-slice-read-t3 c = search needs

@@ -1,6 +1,6 @@
 // An open call's answer, given to a C caller: the number comes back, the values or the place are written.
 ghost use Rattle.answer.specs.Reply.{ofAnswer, ofOutcome, ofPrepared};
-ghost use Rattle.spectral_dsp_c.specs.Given.{Given, GivenValue, GivenValues};
+ghost use Rattle.crossing.specs.Given.{Given, GivenValue, GivenValues};
 use answer::Answer;
 use answer::Outcome;
 use answer::Prepared;

@@ -1,7 +1,7 @@
--- `spectral_dsp_c::spectral::motion_of` meets its contract: the shape is the one of its number. Assumes nothing.
+-- `crossing::settings::motion_of` meets its contract: the shape is the one of its number. Assumes nothing.
 use borrow.Author.Needs.{needs}
-use Rattle.spectral_dsp_c.proofs.spectral.motion_of.Statement.{statement}
-use Rattle.spectral_dsp_c.proofs.spectral.motion_of.Tie as tie
+use Rattle.crossing.proofs.settings.motion_of.Statement.{statement}
+use Rattle.crossing.proofs.settings.motion_of.Tie as tie
 
 shape-of-requires : tie.Need-shape-of-requires
 shape-of-requires c κs = search needs

@@ -1,7 +1,7 @@
--- `spectral_dsp_c::builders::shape_refused` meets its contract. Assumes nothing.
+-- `crossing::settings::shape_refused` meets its contract. Assumes nothing.
 use borrow.Author.Needs.{needs}
-use Rattle.spectral_dsp_c.proofs.builders.shape_refused.Statement.{statement}
-use Rattle.spectral_dsp_c.proofs.builders.shape_refused.Tie as tie
+use Rattle.crossing.proofs.settings.shape_refused.Statement.{statement}
+use Rattle.crossing.proofs.settings.shape_refused.Tie as tie
 
 size-accepted-requires : tie.Need-size-accepted-requires
 size-accepted-requires c κs = search needs

@@ -1,7 +1,7 @@
--- `spectral_dsp_c::builders::config_of` meets its contract. Assumes nothing.
+-- `crossing::settings::config_of` meets its contract. Assumes nothing.
 use borrow.Author.Needs.{needs}
-use Rattle.spectral_dsp_c.proofs.builders.config_of.Statement.{statement}
-use Rattle.spectral_dsp_c.proofs.builders.config_of.Tie as tie
+use Rattle.crossing.proofs.settings.config_of.Statement.{statement}
+use Rattle.crossing.proofs.settings.config_of.Tie as tie
 
 motion-of-requires : tie.Need-motion-of-requires
 motion-of-requires c κs = search needs

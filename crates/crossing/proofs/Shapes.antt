@@ -3,7 +3,7 @@ use mathlib.Core.Path.{_≡_}
 use Prim.Native.Nat.{ℕ, _≤_, _<_}
 use borrow.Author.Tests.{le-leb, lt-leb}
 use Rattle.answer.specs.Reply.{Reply, refused}
-use Rattle.spectral_dsp_c.specs.Settings.{withShape}
+use Rattle.crossing.specs.Settings.{withShape}
 
 pub with-unknown : (n : ℕ) (reply : Reply) → 7 < n → withShape n reply ≡ refused 2 0
 with-unknown n reply h = rw (lt-leb n 7 h)

@@ -14,7 +14,7 @@ use Rattle.limits.specs.Limits as limits
 use Rattle.envelopes.specs.Envelope.{advanced}
 use Rattle.spectral_dsp.specs.Advanced.{Advance, ofEnvelopes, advanceOf, advanceReply}
 use Rattle.answer.specs.Written.{written}
-use Rattle.spectral_dsp_c.specs.Settings.{bankReply}
+use Rattle.crossing.specs.Settings.{bankReply}
 
 module _ (levels : List Float) (held : List ℕ) (elapsed fade : Float) where
   tested : not (limits.elapsed elapsed) ≡ false → not (limits.fade fade) ≡ false → length levels ≡ 128 → length held ≡ 16

@@ -5,7 +5,7 @@ use Prim.Native.Nat.{ℕ}
 use lib.Ieee.{Float}
 use Rattle.answer.specs.Reply.{Reply}
 use Rattle.answer.specs.Written.{written}
-use Rattle.spectral_dsp_c.specs.Given.{Given, GivenValue, GivenValues}
+use Rattle.crossing.specs.Given.{Given, GivenValue, GivenValues}
 
 pub given : {a b : Reply} {r p q : ℕ} → a ≡ b → Given a r p q → Given b r p q
 given {a} {b} {r} {p} {q} e g = subst (λ reply. Given reply r p q) e g

@@ -1,0 +1,68 @@
+// The settings of a motion and of a mask, from plain numbers.
+ghost use mathlib.Core.Path.{_≡_};
+ghost use mathlib.Core.Bool.{cond};
+ghost use Rattle.answer.specs.Reply.{ofOutcome, refused};
+ghost use Rattle.scene.specs.Accepted.{sizeAccepted};
+ghost use Rattle.crossing.specs.Settings.{motionOf};
+ghost use Rattle.crossing.specs.MaskSettings.{configOf};
+use answer::Outcome;
+use scene::MaskConfig;
+use scene::MotionConfig;
+
+pub fn motion_of(shape: u32, depth_db: f32, phase: f32, size_octaves: f32) -> MotionConfig
+    ensures { λ r. ⌜ r ≡ motionOf shape «depth_db» phase «size_octaves» ⌝ }
+{
+    MotionConfig {
+        shape: scene::shape_of(shape),
+        depth_db: depth_db,
+        phase: phase,
+        size_octaves: size_octaves,
+    }
+}
+
+// A mask's settings, its motion's among them. The shape is a number, 0..7 in the Rust's order.
+#[repr(C)]
+pub struct Settings {
+    pub sample_rate: f32,
+    pub fft_size: usize,
+    pub note_depth_db: f32,
+    pub note_layer_enabled: bool,
+    pub width_cents: f32,
+    pub partials: usize,
+    pub harmonic_rolloff_db_per_octave: f32,
+    pub motion_shape: u32,
+    pub motion_depth_db: f32,
+    pub motion_phase: f32,
+    pub motion_size_octaves: f32,
+}
+
+pub fn config_of(settings: Settings) -> MaskConfig
+    ensures { λ r. ⌜ r ≡ configOf settings ⌝ }
+{
+    let motion = motion_of(
+        settings.motion_shape,
+        settings.motion_depth_db,
+        settings.motion_phase,
+        settings.motion_size_octaves,
+    );
+    MaskConfig {
+        sample_rate: settings.sample_rate,
+        fft_size: settings.fft_size,
+        note_depth_db: settings.note_depth_db,
+        note_layer_enabled: settings.note_layer_enabled,
+        width_cents: settings.width_cents,
+        partials: settings.partials,
+        harmonic_rolloff_db_per_octave: settings.harmonic_rolloff_db_per_octave,
+        motion: motion,
+    }
+}
+
+// Another shape than 0..7 is refusal 2, where there is no refusal 1.
+pub fn shape_refused(config: MaskConfig) -> Outcome
+    ensures { λ r. ⌜ ofOutcome r ≡ cond (sizeAccepted config) (refused 2 0) (refused 1 0) ⌝ }
+{
+    if scene::size_accepted(config) {
+        return Outcome::Refused(2, 0);
+    }
+    Outcome::Refused(1, 0)
+}
