@@ -43,15 +43,27 @@ pub fn value(function: Function, powers: &PowerTable, sines: &SineTable, x: f32)
     }
 }
 
+fn each(function: Function, powers: &PowerTable, sines: &SineTable, xs: &mut [f32])
+    requires { ⌜ (now powers ≡ powerTable) × (now sines ≡ sineTable) ⌝ }
+    ensures { λ _. ⌜ now (xs .exit) ≡ mapAt (λ k x. valueOf function x) (now (xs .entry)) ⌝ }
+{
+    let mut i: usize = 0;
+    while i < xs.len() {
+        xs[i] = value(function, powers, sines, xs[i]);
+        i += 1;
+    }
+}
+
 // The function's value at each entry, in the entry's place.
 pub fn apply(function: Function, xs: &mut [f32])
     ensures { λ _. ⌜ now (xs .exit) ≡ mapAt (λ k x. valueOf function x) (now (xs .entry)) ⌝ }
 {
     let powers = power::table::power_table();
-    let sines = sine::table::sine_table();
-    let mut i: usize = 0;
-    while i < xs.len() {
-        xs[i] = value(function, &powers, &sines, xs[i]);
-        i += 1;
+    if let Function::Log2 = function {
+        let count = xs.len();
+        power::rows::log2_row(xs, &powers, count);
+        return;
     }
+    let sines = sine::table::sine_table();
+    each(function, &powers, &sines, xs);
 }

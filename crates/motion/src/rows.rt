@@ -9,14 +9,13 @@ ghost use lib.Ieee.{binary32, div, lt};
 ghost use Rattle.lists.specs.Maps.{mapRange};
 ghost use Rattle.float32.specs.Remainder.{one};
 ghost use Rattle.power.specs.Table.{powerTable};
-ghost use Rattle.power.specs.Log.{L2};
 ghost use Rattle.sine.specs.Table.{sineTable};
 ghost use Rattle.motion.specs.Field.{MIN-DISPLAY-FREQUENCY-HZ};
 ghost use Rattle.motion.specs.Rows.{frequencyOf, madeOfEvents, openAt, lowered, gainLeft};
 use crate::field::MIN_DISPLAY_FREQUENCY_HZ;
 use crate::shape_rows::ones;
 use crate::shape_rows::shape_row;
-use power::log2::log2;
+use power::rows::log2_row;
 use power::table::PowerTable;
 use scene::MotionConfig;
 use scene::MotionShape;
@@ -45,17 +44,6 @@ fn ratios(row: &mut [f32], bin_hz: f32, start: usize, count: usize)
     let mut k: usize = 0;
     while k < count {
         row[k] = (start + k) as f32 * bin_hz / MIN_DISPLAY_FREQUENCY_HZ;
-        k += 1;
-    }
-}
-
-fn octaves(row: &mut [f32], powers: &PowerTable, count: usize)
-    requires { ⌜ (now powers ≡ powerTable) × (count ≤ length (now row)) ⌝ }
-    ensures { λ _. ⌜ now (row .exit) ≡ mapRange (λ k ratio. L2 ratio) 0 count (now (row .entry)) ⌝ }
-{
-    let mut k: usize = 0;
-    while k < count {
-        row[k] = log2(powers, row[k]);
         k += 1;
     }
 }
@@ -100,7 +88,7 @@ fn openings(
         return;
     }
     ratios(row, bin_hz, start, count);
-    octaves(row, powers, count);
+    log2_row(row, powers, count);
     shape_row(row, powers, sines, field, count);
     open_below(row, bin_hz, start, count);
 }

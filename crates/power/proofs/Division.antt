@@ -54,7 +54,7 @@ module _ {k w : ℕ} {p : ℕ → ℕ} (R : Roots k w p) (t h : ℕ) (H : h < 2 
       below : (z y : ℕ) → 0 < z → z - 1 < y → z ≤ y
       below z y a b = omega arith
 
-  F-lt : F < 2 ^ 24
+  pub F-lt : h * 2 ^ w + ((t - p h + 1) * 2 ^ w - 1) / (p (h + 1) - p h) < 2 ^ 24
   F-lt = lt-of-lt-of-le (digits-lt H r-lt) (le-of-eq (sym (pow-add 2 k w) ∙ ap (λ (x : ℕ). 2 ^ x) (R .bits)))
 
   F-fits : interp w p F ≤ t

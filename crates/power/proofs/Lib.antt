@@ -9,7 +9,7 @@ pub mod Range
 pub mod Greatest
 pub mod Division
 pub mod Search
-pub mod Reciprocal
+pub mod Quotient
 pub mod Guess
 pub mod Normal
 pub mod Logs
@@ -17,5 +17,6 @@ pub mod LogParts
 pub mod LogMade
 pub mod LogRising
 pub mod LogRange
+pub mod Ready
 pub mod LogComputed
 pub mod Bases

@@ -44,11 +44,17 @@ both : (a b : Bool) → b ≡ false → (a && b) ≡ false
 both true b e = e
 both false b e = refl
 
+pub too-low : (v : Float) → not (le (ofBits binary32 8388608) v) ≡ true → positiveNormal v ≡ false
+too-low v e = rw (sym least-is, not-true (le (ofBits binary32 8388608) v) e)
+
+pub too-high : (v : Float) → not (le v (ofBits binary32 2139095039)) ≡ true → positiveNormal v ≡ false
+too-high v e = both (le leastNormal v) (le v largest) (rw most-is at (not-true (le v (ofBits binary32 2139095039)) e))
+
 pub log-low : (v : Float) → not (le (ofBits binary32 8388608) v) ≡ true → ofBits binary32 0 ≡ L2 v
-log-low v e = zero v (rw (sym least-is, not-true (le (ofBits binary32 8388608) v) e))
+log-low v e = zero v (too-low v e)
 
 pub log-high : (v : Float) → not (le v (ofBits binary32 2139095039)) ≡ true → ofBits binary32 0 ≡ L2 v
-log-high v e = zero v (both (le leastNormal v) (le v largest) (rw most-is at (not-true (le v (ofBits binary32 2139095039)) e)))
+log-high v e = zero v (too-high v e)
 
 pub normal-tests : (v : Float) → not (le (ofBits binary32 8388608) v) ≡ false → not (le v (ofBits binary32 2139095039)) ≡ false → T (positiveNormal v)
 normal-tests v d e =

@@ -3,8 +3,8 @@
 use mathlib.Core.Path.{_≡_, refl, sym, ap, _∙_, subst}
 use mathlib.Core.Logic.{inl, inr}
 use mathlib.Core.Bool.{Bool, true, false, not, cond}
-use Prim.Native.Nat.{ℕ, suc, _-_, _/_, _%_, _^_, _≤_, _<_}
-use native.Mathlib.Nat.{mod-lt}
+use Prim.Native.Nat.{ℕ, suc, _+_, _-_, _*_, _/_, _%_, _^_, _≤_, _<_}
+use native.Mathlib.Nat.{add-comm, mod-lt, mod-eq-of-lt}
 use native.Mathlib.Omega.{arith}
 use lib.Dec.{T, eqb, ltb, ltb→lt, nltb→le, lt→ltb, le→leb, lit<}
 use lib.Bits.{bitAnd, bitOr, and-mask, or-shifted-r}
@@ -20,6 +20,7 @@ use Rattle.lists.specs.Interpolation.{here-or-on}
 use Rattle.float32.specs.Value.{Decoded}
 use Rattle.float32.proofs.Fields.{decoded-low, decoded-high}
 use Rattle.power.specs.Log.{positiveNormal}
+use Rattle.power.specs.Stages.{digitsOf}
 use Rattle.power.proofs.Normal.{nan-not, negative-parts, subnormal-parts, infinite-parts}
 
 clash : (v : Float) {A : Type 0} → T (positiveNormal v) → positiveNormal v ≡ false → A
@@ -30,6 +31,18 @@ unfolding isNan
 no-nan nan t = clash nan t nan-not
 no-nan (inf s) t = tt
 no-nan (fin s m e) t = tt
+
+-- the digits of the bit pattern below the leading one, with that
+leading-digit : (v : Float) → bitOr (bitAnd (toBits binary32 v) 8388607) 8388608 ≡ toBits binary32 v % 2 ^ 23 + 2 ^ 23
+leading-digit v =
+    ap (λ (t : ℕ). bitOr t 8388608) (and-mask (toBits binary32 v) 23) ∙ or-shifted-r 1 23 (toBits binary32 v % 8388608) (mod-lt (toBits binary32 v) (lit< tt))
+    ∙ add-comm (1 * 2 ^ 23) (toBits binary32 v % 8388608)
+
+pub digits-in : (v : Float) → (2 ^ 30 ≤ digitsOf v) × (digitsOf v < 2 ^ 31)
+digits-in v = let l : toBits binary32 v % 2 ^ 23 < 2 ^ 23 = mod-lt (toBits binary32 v) (lit< tt) in (omega arith, omega arith)
+
+pub shifted-digits : (v : Float) → bitOr (bitAnd (toBits binary32 v) 8388607) 8388608 * 128 % 2 ^ 32 ≡ digitsOf v
+shifted-digits v = ap (λ (z : ℕ). z * 128 % 2 ^ 32) (leading-digit v) ∙ mod-eq-of-lt (let l = digits-in v .1 in omega arith)
 
 module _ (v : Float) (h : T (fits binary32 v)) (t : T (positiveNormal v)) where
   abbrev bits : ℕ
@@ -43,6 +56,9 @@ module _ (v : Float) (h : T (fits binary32 v)) (t : T (positiveNormal v)) where
 
   f : T (not (isNan v))
   f = no-nan v t
+
+  pub digits-mant : digitsOf v ≡ mant * 128
+  digits-mant = ap (λ (z : ℕ). z * 128) (sym (leading-digit v))
 
   pub record Parts : Type 0 where
     pub parts : Decoded v false mant (field - 1)

@@ -3,16 +3,16 @@
 use mathlib.Core.Path.{_≡_, refl, subst}
 use mathlib.Core.Logic.{inl, inr}
 use Prim.Native.Nat.{ℕ, suc, _+_, _-_, _*_, _/_, _%_, _^_, _≤_, _<_}
-use native.Mathlib.Nat.{div-le-self, eq-zero-or-pos, eq-or-lt-of-le, le-trans, le-of-lt, lt-of-le-of-lt, not-le-of-lt}
+use native.Mathlib.Nat.{eq-zero-or-pos, eq-or-lt-of-le, le-trans, le-of-lt, lt-of-le-of-lt, not-le-of-lt}
 use native.Mathlib.Omega.{arith}
 use lib.Pow.{pow-pos}
 use Rattle.lists.specs.Interpolation.{here-or-on}
 use Rattle.power.specs.Table.{highBits, lowBits, powerTable, P, I}
 use Rattle.power.specs.Rules.{P-rule}
 use Rattle.power.specs.Log.{greatest}
-use Rattle.power.proofs.Interpolated.{p-mono}
+use Rattle.power.proofs.Interpolated.{p-mono, p-top}
 use Rattle.power.proofs.Greatest.{Greatest, is-greatest, greatest-unique}
-use Rattle.power.proofs.Division.{found-by-division}
+use Rattle.power.proofs.Division.{F-lt, found-by-division}
 
 P-first : P 0 ≡ 2 ^ 30
 unfolding powerTable
@@ -82,7 +82,7 @@ module _ {t h a b : ℕ} (s : Between t h a b) where
   pub a-lt-b : a < b
   a-lt-b = lt-of-le-of-lt a-le (rw (s .right) (s .step .to))
 
-  high-bits : h * 2 ^ lowBits % 2 ^ 64 ≡ h * 2 ^ lowBits
+  high-bits : h * 2 ^ lowBits % 2 ^ 32 ≡ h * 2 ^ lowBits
   high-bits = let u = s .step .within in omega arith
 
   pub place-some : 0 < t - a + 1
@@ -91,11 +91,19 @@ module _ {t h a b : ℕ} (s : Between t h a b) where
   pub place-inside : t - a + 1 ≤ b - a
   place-inside = let u : t < b = rw (s .right) (s .step .to) in let l = a-le in omega arith
 
-  pub place-wide : b - a ≡ P (h + 1) - P h
-  place-wide = rw (s .left, s .right) refl
+  -- the table goes from 2 ^ 30 to 2 ^ 31
+  pub place-wide : b - a ≤ 2 ^ 30
+  place-wide =
+      let l = s .step .within in
+      let u : a ≡ P h = s .left in
+      let v : b ≡ P (h + 1) = s .right in
+      let x = p-mono P-rule 0 h (omega arith) (le-of-lt l) in
+      let y = p-top P-rule (h + 1) (omega arith) in
+      let z = P-first in
+      omega arith
 
-  pub sum-fits : h * 2 ^ lowBits % 2 ^ 64 + ((t - a + 1) * 2 ^ lowBits - 1) / (b - a) < 2 ^ 64
-  sum-fits = rw high-bits (let u = div-le-self ((t - a + 1) * 2 ^ lowBits - 1) (b - a) in let v = s .small in let w = s .step .within in omega arith)
+  pub sum-fits : h * 2 ^ lowBits % 2 ^ 32 + ((t - a + 1) * 2 ^ lowBits - 1) / (b - a) < 2 ^ 24
+  sum-fits = rw (high-bits, s .left, s .right) (F-lt P-rule t h (s .step .within) (s .step .from) (s .step .to))
 
-  pub is-found : h * 2 ^ lowBits % 2 ^ 64 + ((t - a + 1) * 2 ^ lowBits - 1) / (b - a) ≡ greatest I t (2 ^ 24)
+  pub is-found : h * 2 ^ lowBits % 2 ^ 32 + ((t - a + 1) * 2 ^ lowBits - 1) / (b - a) ≡ greatest I t (2 ^ 24)
   is-found = rw (high-bits, s .left, s .right) (found-by-division P-rule t h (s .step .within) (s .step .from) (s .step .to))

@@ -2,4 +2,5 @@ pub mod Table
 pub mod Rules
 pub mod Power
 pub mod Log
+pub mod Stages
 pub mod Decimal

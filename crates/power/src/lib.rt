@@ -2,4 +2,5 @@
 pub mod decimal;
 pub mod exp2;
 pub mod log2;
+pub mod rows;
 pub mod table;

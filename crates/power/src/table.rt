@@ -18,11 +18,18 @@ pub fn power_table() -> PowerTable
 }
 
 // P[j]
+pub(crate) fn entry(powers: &PowerTable, j: usize) -> u32
+    requires { ⌜ (now powers ≡ powerTable) × (j ≤ 2 ^ highBits) ⌝ }
+    ensures { λ r. ⌜ r ≡ P j ⌝ }
+{
+    powers[j]
+}
+
 pub(crate) fn power(powers: &PowerTable, j: usize) -> u64
     requires { ⌜ (now powers ≡ powerTable) × (j ≤ 2 ^ highBits) ⌝ }
     ensures { λ r. ⌜ r ≡ P j ⌝ }
 {
-    powers[j] as u64
+    entry(powers, j) as u64
 }
 
 // I(F): the line between two entries that stand side by side, rounded down.

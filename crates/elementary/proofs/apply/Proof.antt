@@ -1,79 +1,60 @@
--- `elementary::apply` meets its contract: after i turns the first i entries are done, and the others are as they were. Assumes nothing.
-use Prim.Native.Nat.{_≤_, _<_, _-_}
+-- `apply` meets its contract: a row of logarithms is worked out in stages, and any other function entry by entry. Assumes nothing.
+use mathlib.Core.Path.{_≡_, refl, _∙_}
+use mathlib.Core.List.{List}
+use native.Mathlib.Nat.{le-refl}
 use native.Mathlib.Omega.{arith}
-use mathlib.Core.Path.{_∙_}
 use lib.ListN.{length}
-use lib.Ieee.{nan}
+use lib.Ieee.{Float}
 use borrow.Author.Needs.{needs}
-use Rattle.lists.specs.Turned.{Turned, turned-none, turned-read, turned-more, turned-all}
-use Rattle.elementary.specs.Functions.{valueOf}
+use Rattle.lists.specs.Maps.{mapAt, mapRange, length-mapRange}
+use Rattle.lists.specs.Turned.{turned-all}
+use Rattle.power.specs.Log.{L2}
 use Rattle.elementary.proofs.apply.Statement.{statement}
 use Rattle.elementary.proofs.apply.Tie as tie
 
-abbrev Inv-loop : tie.InvT-loop
-Inv-loop function xs₀ powers sines i₀ xs i = Turned (λ k x. valueOf function x) 0 xs₀ xs i × (i ≤ length xs₀)
-
-abbrev μ-loop : tie.MeasureT-loop
-μ-loop function xs₀ powers sines i₀ xs i = length xs₀ - i
-
-power-table-requires : tie.Need-power-table-requires Inv-loop μ-loop
+power-table-requires : tie.Need-power-table-requires
 power-table-requires c κs = search needs
 
-sine-table-requires : tie.Need-sine-table-requires Inv-loop μ-loop
+enum-told : tie.Need-enum-told
+enum-told c = search needs
+
+log2-row-requires : tie.Need-log2-row-requires
+log2-row-requires c κs = search needs
+
+same-length : tie.Need-same-length
+same-length c = search needs
+
+whole : (xs : List Float) → mapRange (λ k v. L2 v) 0 (length xs) xs ≡ mapAt (λ k v. L2 v) xs
+whole xs = turned-all record { len = length-mapRange (λ k v. L2 v) 0 (length xs) xs; low = omega arith; is = refl } (le-refl (length xs))
+
+returns : tie.Need-returns
+returns c =
+    let r = c .before .before in
+    let e = r .before .before .before in
+    rw (e .enum-told .given .1) (r .log2-row .ensures ∙ whole (e .before .before .before .before .args .xs .now))
+
+sine-table-requires : tie.Need-sine-table-requires
 sine-table-requires c κs = search needs
 
-loop-holds : tie.Need-loop-holds Inv-loop μ-loop
-loop-holds c = (turned-none _ 0 _, omega arith)
+each-requires : tie.Need-each-requires
+each-requires c κs = search needs
 
-mul-value : tie.Need-mul-value Inv-loop μ-loop
-mul-value c = omega arith
+same-length-2 : tie.Need-same-length-2
+same-length-2 c = search needs
 
-slice-read-value : tie.Need-slice-read-value Inv-loop μ-loop
-slice-read-value c = omega arith
-
-value-requires : tie.Need-value-requires Inv-loop μ-loop
-value-requires c κs = (c .before .before .before .before .before .before .power-table .ensures, c .before .before .before .before .before .sine-table .ensures)
-
-mul-xs : tie.Need-mul-xs Inv-loop μ-loop
-mul-xs c = omega arith
-
-slice-write-xs : tie.Need-slice-write-xs Inv-loop μ-loop
-slice-write-xs c = omega arith
-
-add-i : tie.Need-add-i Inv-loop μ-loop
-add-i c = omega arith
-
-loop-less : tie.Need-loop-less Inv-loop μ-loop
-loop-less c = omega arith
-
-loop-again : tie.Need-loop-again Inv-loop μ-loop
-loop-again c =
-    let t = c .before .before .before .before .before .loop .inv .0 in
-    let h : c .before .before .before .before .before .loop .i < length (c .before .before .before .before .before .before .before .before .before .args .xs .now) = omega arith in
-    (turned-more nan t h (c .value .ensures ∙ cc (turned-read nan t h)), omega arith)
-
-same-length : tie.Need-same-length Inv-loop μ-loop
-same-length c = c .before .loop .inv .0 .len
-
-returns : tie.Need-returns Inv-loop μ-loop
-returns c = turned-all (c .before .loop .inv .0) (omega arith)
+returns-2 : tie.Need-returns-2
+returns-2 c = search needs
 
 pub apply-spec : {M : Type 1} → statement M
 apply-spec =
     tie.close
     (tie.spec
-    Inv-loop
-    μ-loop
     power-table-requires
-    sine-table-requires
-    loop-holds
-    mul-value
-    slice-read-value
-    value-requires
-    mul-xs
-    slice-write-xs
-    add-i
-    loop-less
-    loop-again
+    enum-told
+    log2-row-requires
     same-length
-    returns)
+    returns
+    sine-table-requires
+    each-requires
+    same-length-2
+    returns-2)

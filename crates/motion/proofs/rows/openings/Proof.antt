@@ -24,8 +24,8 @@ returns c =
 ratios-requires : tie.Need-ratios-requires
 ratios-requires c κs = search needs
 
-octaves-requires : tie.Need-octaves-requires
-octaves-requires c κs = search needs
+log2-row-requires : tie.Need-log2-row-requires
+log2-row-requires c κs = search needs
 
 shape-row-requires : tie.Need-shape-row-requires
 shape-row-requires c κs = search needs
@@ -43,7 +43,7 @@ returns-2 c =
     let o = s .before .before .before .before in
     let r = o .before .before .before .before in
     let a = r .before .before .before .before .before .args in
-    let e = rw (s .shape-row .ensures, o .octaves .ensures, r .ratios .ensures) at (b .open-below .ensures) in
+    let e = rw (s .shape-row .ensures, o .log2-row .ensures, r .ratios .ensures) at (b .open-below .ensures) in
     e ∙ openings-staged (a .field) (a .bin-hz) (a .start) (a .count) (a .row .now)
 
 pub openings-spec : {M : Type 1} → statement M
@@ -55,7 +55,7 @@ openings-spec =
     same-length
     returns
     ratios-requires
-    octaves-requires
+    log2-row-requires
     shape-row-requires
     open-below-requires
     same-length-2

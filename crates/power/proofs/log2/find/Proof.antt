@@ -2,29 +2,34 @@
 use mathlib.Core.Path.{ap, _∙_, sym, subst}
 use Prim.Native.Nat.{ℕ, _+_, _*_, _%_, _^_, _<_}
 use borrow.Author.Needs.{needs}
+use native.Mathlib.Nat.{lt-trans}
 use native.Mathlib.Omega.{arith}
+use lib.Dec.{lit<}
 use Rattle.power.specs.Table.{lowBits}
 use Rattle.power.proofs.Search.{Step, Between, step-is, a-le, a-lt-b, place-some, place-inside, place-wide, sum-fits, is-found}
 use Rattle.power.proofs.log2.find.Statement.{statement}
 use Rattle.power.proofs.log2.find.Tie as tie
 
-step-of-requires : tie.Need-step-of-requires
-step-of-requires c κs = search needs
+step : (c : tie.Start) → Step (c .args .t) (c .args .h)
+step c = step-is (c .args .t) (c .args .h) (c .pre .1) (c .pre .2) (c .pre .3)
 
-step : (c : tie.After-step-of) → Step (c .before .args .t) (c .step-of .result)
-step c = step-is (c .before .args .t) (c .step-of .result) (c .before .pre .1) (c .before .pre .2) (c .step-of .ensures)
+entry-requires : tie.Need-entry-requires
+entry-requires c κs = let s = step c in (c .pre .0, omega arith)
 
-power-requires : tie.Need-power-requires
-power-requires c κs = let s = step c in (c .before .pre .0, omega arith)
+add-entry : tie.Need-add-entry
+add-entry c = search needs
 
-add-power : tie.Need-add-power
-add-power c = let s = step (c .before) in omega arith
+entry-requires-2 : tie.Need-entry-requires-2
+entry-requires-2 c κs = let s = step (c .before) in (c .before .pre .0, omega arith)
 
-power-requires-2 : tie.Need-power-requires-2
-power-requires-2 c κs = let s = step (c .before) in (c .before .before .pre .0, omega arith)
+between : (c : tie.After-entry2) → Between (c .before .before .args .t) (c .before .before .args .h) (c .before .entry .result) (c .entry2 .result)
+between c = record { small = c .before .before .pre .2; step = step (c .before .before); left = c .before .entry .ensures; right = c .entry2 .ensures }
 
-between : (c : tie.After-power2) → Between (c .before .before .before .args .t) (c .before .before .step-of .result) (c .before .power .result) (c .power2 .result)
-between c = record { small = c .before .before .before .pre .2; step = step (c .before .before); left = c .before .power .ensures; right = c .power2 .ensures }
+cast-result : tie.Need-cast-result
+cast-result c = search needs
+
+shl-result : tie.Need-shl-result
+shl-result c = search needs
 
 sub-place : tie.Need-sub-place
 sub-place c = a-le (between c)
@@ -36,13 +41,13 @@ sub-place-2 : tie.Need-sub-place-2
 sub-place-2 c = omega (arith, a-lt-b (between c))
 
 place-requires : tie.Need-place-requires
-place-requires c κs = (c .before .before .before .pre .0, step (c .before .before) .within, place-wide (between c), place-some (between c), place-inside (between c))
+place-requires c κs = (place-some (between c), place-inside (between c), place-wide (between c))
 
 abbrev high : tie.After-place → ℕ
-high c = c .before .before .before .step-of .result * 2 ^ lowBits % 2 ^ 64
+high c = c .before .before .before .args .h * 2 ^ lowBits % 2 ^ 32
 
 add-result : tie.Need-add-result
-add-result c = record { fits = subst (λ (r : ℕ). high c + r < 2 ^ 64) (sym (c .place .ensures)) (sum-fits (between (c .before))) }
+add-result c = record { fits = subst (λ (r : ℕ). high c + r < 2 ^ 32) (sym (c .place .ensures)) (lt-trans (sum-fits (between (c .before))) (lit< tt)) }
 
 returns : tie.Need-returns
 returns c = ap (λ (r : ℕ). high c + r) (c .place .ensures) ∙ is-found (between (c .before))
@@ -51,10 +56,11 @@ pub find-spec : {M : Type 1} → statement M
 find-spec =
     tie.close
     (tie.spec
-    step-of-requires
-    power-requires
-    add-power
-    power-requires-2
+    entry-requires
+    add-entry
+    entry-requires-2
+    cast-result
+    shl-result
     sub-place
     add-place
     sub-place-2
