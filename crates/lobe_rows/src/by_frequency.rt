@@ -8,7 +8,6 @@ ghost use lib.ListN.{length};
 ghost use lib.Ieee.{binary32, mul};
 ghost use Rattle.lists.specs.Maps.{mapRange};
 ghost use Rattle.power.specs.Table.{powerTable};
-ghost use Rattle.power.specs.Log.{L2};
 ghost use Rattle.power.specs.Decimal as decimal;
 ghost use Rattle.lobes.specs.Distance.{none, MINUS-HALF, inWidths};
 ghost use Rattle.lobes.specs.Lobe.{opening};
@@ -20,21 +19,10 @@ use lobes::Grid;
 use lobes::Lobe;
 use lobes::distances::in_widths;
 use power::decimal::exp;
-use power::log2::log2;
+use power::rows::log2_row;
 use power::table::PowerTable;
 
 const MINUS_HALF: f32 = -0.5;
-
-fn octaves(chunk: &mut [f32], powers: &PowerTable, count: usize)
-    requires { ⌜ (now powers ≡ powerTable) × (count ≤ length (now chunk)) ⌝ }
-    ensures { λ _. ⌜ now (chunk .exit) ≡ mapRange (λ k ratio. L2 ratio) 0 count (now (chunk .entry)) ⌝ }
-{
-    let mut k: usize = 0;
-    while k < count {
-        chunk[k] = log2(powers, chunk[k]);
-        k += 1;
-    }
-}
 
 // A bell is e to the power of minus half the relative square.
 fn exponents(chunk: &mut [f32], count: usize, width: f32, peak_squared: f32)
@@ -71,7 +59,7 @@ pub fn openings_by_frequency(
     ensures { λ _. ⌜ now (chunk .exit) ≡ mapRange (λ k held. opening grid none lobe (start + k)) 0 count (now (chunk .entry)) ⌝ }
 {
     ratios(chunk, grid.bin_hz, lobe.center, start, count);
-    octaves(chunk, powers, count);
+    log2_row(chunk, powers, count);
     exponents(chunk, count, grid.width, lobe.peak_squared);
     exponentials(chunk, powers, count);
     openings_of_bells(chunk, count, lobe.strength);

@@ -8,8 +8,8 @@ use Rattle.lobe_rows.proofs.by_frequency.openings_by_frequency.Tie as t
 ratios-requires : tie.Need-ratios-requires
 ratios-requires c κs = search needs
 
-octaves-requires : tie.Need-octaves-requires
-octaves-requires c κs = search needs
+log2-row-requires : tie.Need-log2-row-requires
+log2-row-requires c κs = search needs
 
 exponents-requires : tie.Need-exponents-requires
 exponents-requires c κs = search needs
@@ -31,7 +31,7 @@ returns c =
     let o = x .before .before .before .before in
     let r = o .before .before .before .before in
     let a = r .before .before .before .args in
-    let w = rw (e .exponentials .ensures, x .exponents .ensures, o .octaves .ensures, r .ratios .ensures) at (b .openings-of-bells .ensures) in
+    let w = rw (e .exponentials .ensures, x .exponents .ensures, o .log2-row .ensures, r .ratios .ensures) at (b .openings-of-bells .ensures) in
     w ∙ staged-by-frequency (a .grid) (a .lobe) (a .start) (a .count) (a .chunk .now)
 
 pub openings-by-frequency-spec : {M : Type 1} → statement M
@@ -39,7 +39,7 @@ openings-by-frequency-spec =
     tie.close
     (tie.spec
     ratios-requires
-    octaves-requires
+    log2-row-requires
     exponents-requires
     exponentials-requires
     openings-of-bells-requires
