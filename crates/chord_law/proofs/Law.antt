@@ -24,7 +24,8 @@ use Rattle.lobes.specs.Pan.{Side, left, right}
 use Rattle.lobes.specs.Distance.{lent}
 use Rattle.openness.proofs.RaisedVoices.{RaisedIn}
 use Rattle.mask_builder.specs.Mask.{maskAt}
-use Rattle.mask_builder.proofs.Rising.{manual-rises, mask-rises}
+use Rattle.bin_gains.proofs.Rising.{manual-rises}
+use Rattle.mask_builder.proofs.Rising.{mask-rises}
 use Rattle.mask_builder.proofs.ZeroSigns.{mask-same}
 use Rattle.chord_law.specs.Calls.{Call, Accepted, F32Call, given, maskOn}
 use Rattle.chord_law.specs.Curves.{NoNan}

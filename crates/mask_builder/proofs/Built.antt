@@ -17,7 +17,8 @@ use Rattle.lobes.specs.Pan.{Side, mono}
 use Rattle.lobes.specs.Distance.{Logs}
 use Rattle.openness.specs.Openness.{openness}
 use Rattle.mask_builder.specs.Centered.{allCentered}
-use Rattle.mask_builder.specs.Mask.{opennessAt, gainAt, maskAt, maskOf}
+use Rattle.bin_gains.specs.Gains.{gainAt}
+use Rattle.mask_builder.specs.Mask.{opennessAt, maskAt, maskOf}
 use Rattle.mask_builder.proofs.OneSide.{one-side}
 
 -- ---- what a call of the crate below needs of the grid

@@ -14,15 +14,16 @@ use Rattle.scene.specs.declared.MaskConfig.{MaskConfig}
 use Rattle.frequencies.specs.Frequency.{binHz, hertz}
 use Rattle.masks.specs.Gates.{floorGain}
 use Rattle.motion.specs.Field.{RESTING-DEPTH-DB, motionGain}
-use Rattle.motion.specs.Compensation.{compensation}
-use Rattle.motion.proofs.ZeroSigns.{one-or-resting, motion-gain-same, compensation-same}
+use Rattle.motion_compensation.specs.Compensation.{compensation}
+use Rattle.motion_compensation.proofs.ZeroSigns.{one-or-resting, motion-gain-same, compensation-same}
 use Rattle.lobes.specs.Grid.{gridOf}
 use Rattle.lobes.specs.Pan.{Side}
 use Rattle.lobes.specs.Distance.{lent}
 use Rattle.lobes.proofs.ZeroSigns.{SameGrid, SameTable, gain-alone}
 use Rattle.openness.specs.Openness.{openness}
 use Rattle.openness.proofs.ZeroSigns.{openness-same}
-use Rattle.mask_builder.specs.Mask.{motionAt, gateAt, opennessAt, ceilingAt, maskAt}
+use Rattle.bin_gains.specs.Gains.{motionAt, gateAt, ceilingAt}
+use Rattle.mask_builder.specs.Mask.{opennessAt, maskAt}
 
 -- rate and width are above 0, so that equal ones are the same
 pub record SameConfig (a b : MaskConfig) : Type 0 where

@@ -1,4 +1,3 @@
 pub mod Mask
-pub mod Shared
 pub mod Centered
 pub mod Levels

@@ -1,44 +1,21 @@
--- The mask of a scene: "A bin's gain is manual · motion · gate", products left to right. Everything of a bin is a function of the bin. Assumes nothing.
+-- The mask of a scene: each bin's gain, from how far the voices open the bin. Everything of a bin is a function of the bin. Assumes nothing.
 use mathlib.Core.Bool.{cond}
 use mathlib.Core.List.{List}
 use Prim.Native.Nat.{ℕ, _+_, _/_}
-use lib.Ieee.{Float, binary32, mul, lt}
+use lib.Ieee.{Float}
 use Rattle.lists.specs.Maps.{tabulate}
-use Rattle.float32.specs.Remainder.{zero, one}
+use Rattle.float32.specs.Remainder.{zero}
 use Rattle.scene.specs.declared.MaskVoice.{MaskVoice}
 use Rattle.scene.specs.declared.MaskConfig.{MaskConfig}
-use Rattle.frequencies.specs.Frequency.{binHz, hertz}
-use Rattle.masks.specs.Gates.{emphasisGain, floorGain, gateGain}
-use Rattle.masks.specs.Manual.{manualGain}
-use Rattle.motion.specs.Field.{RESTING-DEPTH-DB, motionGain}
-use Rattle.motion.specs.Compensation.{compensation}
+use Rattle.bin_gains.specs.Gains.{gainAt}
 use Rattle.lobes.specs.Grid.{gridOf}
 use Rattle.lobes.specs.Pan.{Side}
 use Rattle.lobes.specs.Distance.{Logs}
 use Rattle.openness.specs.Openness.{openness}
 
--- what the moving field gives a bin, made up for; 1 where it rests
-unfoldable pub motionAt : MaskConfig → ℕ → Float
-motionAt config bin =
-    cond (lt RESTING-DEPTH-DB (config .motion .«depth_db»))
-    (mul binary32 (motionGain (hertz (binHz (config .«sample_rate») (config .«fft_size»)) bin) (config .motion)) (compensation (config .motion)))
-    one
-
--- the gate at an openness, which is not limited to 1; 1 with the note layer off
-unfoldable pub gateAt : MaskConfig → Float → Float
-gateAt config opened = cond (config .«note_layer_enabled») (gateGain (floorGain (config .«note_depth_db»)) (emphasisGain (config .«width_cents»)) opened) one
-
 -- the number that a bin holds before the gate is applied: 0 with the note layer off
 unfoldable pub opennessAt : MaskConfig → Logs → Side → List MaskVoice → ℕ → Float
 opennessAt config logs side voices bin = cond (config .«note_layer_enabled») (openness (gridOf config) logs side voices bin) zero
-
--- the drawn curve's gain times the moving field's: what a bin gets at most where the gate is 1
-unfoldable pub ceilingAt : List Float → MaskConfig → ℕ → Float
-ceilingAt curve config bin = mul binary32 (manualGain curve bin (config .«fft_size»)) (motionAt config bin)
-
--- the gain of a bin, from its openness
-abbrev pub gainAt : List Float → MaskConfig → ℕ → Float → Float
-gainAt curve config bin opened = mul binary32 (ceilingAt curve config bin) (gateAt config opened)
 
 unfoldable pub maskAt : List Float → MaskConfig → Logs → Side → List MaskVoice → ℕ → Float
 maskAt curve config logs side voices bin = gainAt curve config bin (opennessAt config logs side voices bin)

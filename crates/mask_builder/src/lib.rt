@@ -1,6 +1,5 @@
 // The masks of a scene: the gain of every bin.
 pub mod centers;
-pub mod gains;
 pub mod levels;
 
 ghost use mathlib.Core.Path.{_≡_};
@@ -105,7 +104,7 @@ pub fn build_one(
     let powers = power::table::power_table();
     let sines = sine::table::sine_table();
     open_mono(&powers, &sines, out, voices, count, config, tabled, table);
-    gains::finish_one(&powers, &sines, out, curve, config);
+    bin_gains::finish_one(&powers, &sines, out, curve, config);
 }
 
 // Both masks of a stereo pair. Where every voice stands at the centre the two are one, and the right is copied from the left.
@@ -130,5 +129,5 @@ pub fn build_two(
     let powers = power::table::power_table();
     let sines = sine::table::sine_table();
     open_sides(&powers, &sines, left, right, voices, count, config, table);
-    gains::finish_two(&powers, &sines, left, right, curve, config);
+    bin_gains::finish_two(&powers, &sines, left, right, curve, config);
 }

@@ -27,7 +27,7 @@ use Rattle.lobe_rows.proofs.Entries.{all-places}
 use Rattle.lobes.specs.Grid.{gridOf}
 use Rattle.lobes.proofs.Bounded.{grid-width}
 use Rattle.openness.specs.Scene.{SoundScene}
-use Rattle.mask_builder.proofs.Rising.{RealSettings}
+use Rattle.bin_gains.proofs.Rising.{RealSettings}
 use Rattle.mask_builder.proofs.Built.{grid-partials}
 use Rattle.refusals.specs.Masks.{MOST-VOICES, bins, first, settingsReply, voicesReply, tableReply, voicesMaskReply, tabledMaskReply, stereoReply}
 use Rattle.refusals.proofs.MaskAccepted.{Done, both-done, settings-done, voices-done, voice-done, entry-done}

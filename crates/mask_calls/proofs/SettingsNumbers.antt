@@ -12,7 +12,7 @@ use Rattle.limits.specs.Limits.{LEAST-RATE, MOST-RATE, LEAST-NOTE-DEPTH, MOST-N
 use Rattle.scene.specs.declared.MaskConfig.{MaskConfig}
 use Rattle.scene.specs.Accepted.{sizeAccepted, settingsAccepted, motionAccepted}
 use Rattle.scene.proofs.Settings.{depth-real, phase-real, size-real}
-use Rattle.mask_builder.proofs.Rising.{RealSettings}
+use Rattle.bin_gains.proofs.Rising.{RealSettings}
 use Rattle.mask_calls.specs.F32.{F32Settings}
 
 module _ (config : MaskConfig) (s : T (sizeAccepted config)) (t : T (settingsAccepted config)) (f : F32Settings config) where

@@ -1,5 +1,2 @@
 pub mod Shapes
 pub mod Field
-pub mod Compensation
-pub mod Octaves
-pub mod Rows

@@ -22,7 +22,7 @@ pub const MIN_DISPLAY_FREQUENCY_HZ: f32 = 20.0;
 // Up to this depth the field rests, open everywhere.
 pub const RESTING_DEPTH_DB: f32 = 0.001;
 
-pub(crate) const MIN_SIZE_OCTAVES: f32 = 0.05;
+pub const MIN_SIZE_OCTAVES: f32 = 0.05;
 
 // The shape's openness x octaves above the lowest frequency shown. Sprinkle and Cloud are made of events and have no field, so theirs is open.
 pub(crate) fn shape_at(

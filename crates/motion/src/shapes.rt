@@ -43,7 +43,7 @@ pub(crate) fn harmonic(sines: &SineTable, x: f32, size: f32, phase: f32) -> f32
 
 // Three waves. Whole multiples of the phase keep the field continuous where the phase begins anew, and the unrelated
 // sizes keep the waves from looking like one repeating comb.
-pub(crate) fn drift(sines: &SineTable, x: f32, size: f32, phase: f32) -> f32
+pub fn drift(sines: &SineTable, x: f32, size: f32, phase: f32) -> f32
     requires { ⌜ now sines ≡ sineTable ⌝ }
     ensures { λ r. ⌜ r ≡ drift x size phase ⌝ }
 {
@@ -61,7 +61,7 @@ pub(crate) fn window(powers: &PowerTable, x: f32, size: f32, phase: f32) -> f32
     exp(powers, window_exponent(x, size, phase))
 }
 
-pub(crate) fn window_exponent(x: f32, size: f32, phase: f32) -> f32
+pub fn window_exponent(x: f32, size: f32, phase: f32) -> f32
     ensures { λ r. ⌜ r ≡ windowExponent x size phase ⌝ }
 {
     let center = phase * DISPLAY_OCTAVES;
@@ -71,7 +71,7 @@ pub(crate) fn window_exponent(x: f32, size: f32, phase: f32) -> f32
 }
 
 // A straight rise, and a smooth fall in the last tenth of the cycle.
-pub(crate) fn saw(x: f32, size: f32, phase: f32) -> f32
+pub fn saw(x: f32, size: f32, phase: f32) -> f32
     ensures { λ r. ⌜ r ≡ saw x size phase ⌝ }
 {
     let cycle = rem_euclid_one(x / size - phase);

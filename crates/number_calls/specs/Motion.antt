@@ -7,7 +7,7 @@ use Rattle.limits.specs.Limits as limits
 use Rattle.scene.specs.declared.MotionConfig.{MotionConfig}
 use Rattle.scene.specs.Accepted.{motionAccepted}
 use Rattle.motion.specs.Field.{openness, attenuation}
-use Rattle.motion.specs.Compensation.{compensation}
+use Rattle.motion_compensation.specs.Compensation.{compensation}
 
 abbrev pub opennessReply : Float → MotionConfig → Reply
 opennessReply frequency config =

@@ -92,5 +92,5 @@ pub fn motion_compensation_gain(config: MotionConfig) -> Answer
     }
     let powers = power::table::power_table();
     let sines = sine::table::sine_table();
-    Answer::Gain(motion::compensation::compensation_gain(&powers, &sines, config))
+    Answer::Gain(motion_compensation::compensation_gain(&powers, &sines, config))
 }

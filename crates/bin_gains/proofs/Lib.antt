@@ -1,0 +1,2 @@
+pub mod RowCeilings
+pub mod Rising

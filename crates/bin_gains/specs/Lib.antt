@@ -1,0 +1,2 @@
+pub mod Gains
+pub mod Shared

@@ -1,0 +1,2 @@
+pub mod Compensation
+pub mod Octaves

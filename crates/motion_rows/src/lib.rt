@@ -1,0 +1,146 @@
+// What the moving field leaves at a row of bins.
+//
+// Method. One short loop after the other over the same few numbers: the frequencies over the lowest shown, their octaves, the openness there, the decibels, the gains.
+pub mod shapes;
+
+ghost use mathlib.Core.Path.{_≡_};
+ghost use mathlib.Core.Bool.{cond};
+ghost use Prim.Native.Nat.{_+_, _^_, _≤_};
+ghost use lib.ListN.{length};
+ghost use lib.Ieee.{binary32, div, lt};
+ghost use Rattle.lists.specs.Maps.{mapRange};
+ghost use Rattle.float32.specs.Remainder.{one};
+ghost use Rattle.power.specs.Table.{powerTable};
+ghost use Rattle.sine.specs.Table.{sineTable};
+ghost use Rattle.motion.specs.Field.{MIN-DISPLAY-FREQUENCY-HZ};
+ghost use Rattle.motion_rows.specs.Settled.{settled};
+ghost use Rattle.motion_rows.specs.Rows.{frequencyOf, madeOfEvents, openAt, lowered, gainLeft};
+use crate::shapes::ones;
+use crate::shapes::shape_row;
+use float32::order::max;
+use float32::remainder::rem_euclid_one;
+use motion::field::MIN_DISPLAY_FREQUENCY_HZ;
+use motion::field::MIN_SIZE_OCTAVES;
+use power::rows::log2_row;
+use power::table::PowerTable;
+use scene::MotionConfig;
+use scene::MotionShape;
+use sine::table::SineTable;
+
+// The settings as the shapes take them, which is the same at every sample and every bin.
+pub fn settled(config: MotionConfig) -> MotionConfig
+    ensures { λ r. ⌜ r ≡ settled config ⌝ }
+{
+    let depth_db = max(config.depth_db, 0.0);
+    let size_octaves = max(config.size_octaves, MIN_SIZE_OCTAVES);
+    let phase = rem_euclid_one(config.phase);
+    let shape = config.shape;
+    MotionConfig {
+        shape,
+        depth_db,
+        phase,
+        size_octaves,
+    }
+}
+
+fn made_of_events(shape: MotionShape) -> bool
+    ensures { λ r. ⌜ r ≡ madeOfEvents shape ⌝ }
+{
+    match shape {
+        MotionShape::Ripple => false,
+        MotionShape::Harmonic => false,
+        MotionShape::Drift => false,
+        MotionShape::Scan => false,
+        MotionShape::Notch => false,
+        MotionShape::Saw => false,
+        MotionShape::Sprinkle => true,
+        MotionShape::Cloud => true,
+    }
+}
+
+// The bins' frequencies over the lowest shown.
+fn ratios(row: &mut [f32], bin_hz: f32, start: usize, count: usize)
+    requires { ⌜ (count ≤ length (now row)) × (start + count ≤ 2 ^ 24 + 1) ⌝ }
+    ensures { λ _. ⌜ now (row .exit) ≡ mapRange (λ k held. div binary32 (frequencyOf «bin_hz» (start + k)) MIN-DISPLAY-FREQUENCY-HZ) 0 count (now (row .entry)) ⌝ }
+{
+    let mut k: usize = 0;
+    while k < count {
+        row[k] = (start + k) as f32 * bin_hz / MIN_DISPLAY_FREQUENCY_HZ;
+        k += 1;
+    }
+}
+
+// The openness of a bin whose place has one: below the lowest frequency shown the field is open.
+fn shown(frequency: f32, opened: f32) -> f32
+    ensures { λ r. ⌜ r ≡ cond (lt frequency MIN-DISPLAY-FREQUENCY-HZ) one opened ⌝ }
+{
+    if frequency < MIN_DISPLAY_FREQUENCY_HZ {
+        return 1.0;
+    }
+    opened
+}
+
+fn open_below(row: &mut [f32], bin_hz: f32, start: usize, count: usize)
+    requires { ⌜ (count ≤ length (now row)) × (start + count ≤ 2 ^ 24 + 1) ⌝ }
+    ensures { λ _. ⌜ now (row .exit) ≡ mapRange (λ k opened. cond (lt (frequencyOf «bin_hz» (start + k)) MIN-DISPLAY-FREQUENCY-HZ) one opened) 0 count (now (row .entry)) ⌝ }
+{
+    let mut k: usize = 0;
+    while k < count {
+        row[k] = shown((start + k) as f32 * bin_hz, row[k]);
+        k += 1;
+    }
+}
+
+// How open the field is at the bins from `start` on. Where it is made of events it is open, and the octaves need not be known.
+fn openings(
+    row: &mut [f32],
+    powers: &PowerTable,
+    sines: &SineTable,
+    field: MotionConfig,
+    bin_hz: f32,
+    start: usize,
+    count: usize,
+)
+    requires { ⌜ (now powers ≡ powerTable) × (now sines ≡ sineTable) × (count ≤ length (now row)) × (start + count ≤ 2 ^ 24 + 1) ⌝ }
+    ensures { λ _. ⌜ now (row .exit) ≡ mapRange (λ k held. openAt field (frequencyOf «bin_hz» (start + k))) 0 count (now (row .entry)) ⌝ }
+{
+    let shape = field.shape;
+    if made_of_events(shape) {
+        ones(row, count);
+        return;
+    }
+    ratios(row, bin_hz, start, count);
+    log2_row(row, powers, count);
+    shape_row(row, powers, sines, field, count);
+    open_below(row, bin_hz, start, count);
+}
+
+// By how much each openness lowers its bin.
+pub fn lowerings(row: &mut [f32], depth_db: f32, count: usize)
+    requires { ⌜ count ≤ length (now row) ⌝ }
+    ensures { λ _. ⌜ now (row .exit) ≡ mapRange (λ k opened. lowered «depth_db» opened) 0 count (now (row .entry)) ⌝ }
+{
+    let mut k: usize = 0;
+    while k < count {
+        row[k] = -(depth_db * (1.0 - row[k]));
+        k += 1;
+    }
+}
+
+// What a field that does not rest leaves of the bins from `start` on, by its settings as the shapes take them.
+pub fn motion_gains(
+    row: &mut [f32],
+    powers: &PowerTable,
+    sines: &SineTable,
+    field: MotionConfig,
+    bin_hz: f32,
+    start: usize,
+    count: usize,
+)
+    requires { ⌜ (now powers ≡ powerTable) × (now sines ≡ sineTable) × (count ≤ length (now row)) × (start + count ≤ 2 ^ 24 + 1) ⌝ }
+    ensures { λ _. ⌜ now (row .exit) ≡ mapRange (λ k held. gainLeft field (frequencyOf «bin_hz» (start + k))) 0 count (now (row .entry)) ⌝ }
+{
+    openings(row, powers, sines, field, bin_hz, start, count);
+    lowerings(row, field.depth_db, count);
+    decibels::rows::gains(row, powers, count);
+}
