@@ -19,7 +19,8 @@ use Rattle.scene.specs.declared.MotionShape.the-variants.{Ripple, Harmonic, Dri
 use Rattle.scene.specs.declared.MotionConfig.{MotionConfig}
 use Rattle.motion.specs.Field.{MIN-DISPLAY-FREQUENCY-HZ, RESTING-DEPTH-DB, shapeAt, openness, attenuation, motionGain}
 use Rattle.motion_rows.specs.Settled.{settled}
-use Rattle.motion_rows.specs.Rows.{frequencyOf, madeOfEvents, shaped, openAt, lowered, gainThere, gainLeft}
+use Rattle.frequencies.specs.Frequency.{hertz}
+use Rattle.motion_rows.specs.Rows.{madeOfEvents, shaped, openAt, lowered, gainThere, gainLeft}
 
 -- ---- shapes that are made of events
 events-open : (shape : MotionShape) (x size phase : Float) → T (madeOfEvents shape) → shapeAt shape x size phase ≡ one
@@ -38,7 +39,7 @@ either false = refl
 
 module _ (field : MotionConfig) (spacing : Float) (start count : ℕ) where
   abbrev f : ℕ → Float
-  f k = frequencyOf spacing (start + k)
+  f k = hertz spacing (start + k)
 
   -- an entry's openness
   abbrev pub opening : ℕ → Float → Float

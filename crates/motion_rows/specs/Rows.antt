@@ -1,9 +1,7 @@
 -- The field at the bins of a spectrum, by the settings as its shape takes them: how open it is, and what it leaves. Of a field that does not rest this is the field's own gain (proofs/StagedField.antt).
 -- Assumes nothing.
 use mathlib.Core.Bool.{Bool, true, false, cond}
-use Prim.Native.Nat.{ℕ}
-use lib.IntN.{pos}
-use lib.Ieee.{Float, binary32, neg, sub, mul, div, lt, ofInt}
+use lib.Ieee.{Float, binary32, neg, sub, mul, div, lt}
 use Rattle.float32.specs.Remainder.{one}
 use Rattle.power.specs.Log.{L2}
 use Rattle.decibels.specs.Gain.{gainOf}
@@ -11,10 +9,6 @@ use Rattle.scene.specs.declared.MotionShape.{MotionShape}
 use Rattle.scene.specs.declared.MotionShape.the-variants.{Ripple, Harmonic, Drift, Scan, Notch, Saw, Sprinkle, Cloud}
 use Rattle.scene.specs.declared.MotionConfig.{MotionConfig}
 use Rattle.motion.specs.Field.{MIN-DISPLAY-FREQUENCY-HZ, shapeAt}
-
--- the frequency of a bin, from the hertz between two bins
-abbrev pub frequencyOf : Float → ℕ → Float
-frequencyOf spacing bin = mul binary32 (ofInt binary32 (pos bin)) spacing
 
 -- the shapes that are made of events and have no field of their own
 abbrev pub madeOfEvents : MotionShape → Bool

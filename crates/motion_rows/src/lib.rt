@@ -7,18 +7,20 @@ ghost use mathlib.Core.Path.{_≡_};
 ghost use mathlib.Core.Bool.{cond};
 ghost use Prim.Native.Nat.{_+_, _^_, _≤_};
 ghost use lib.ListN.{length};
-ghost use lib.Ieee.{binary32, div, lt};
+ghost use lib.Ieee.{lt};
 ghost use Rattle.lists.specs.Maps.{mapRange};
 ghost use Rattle.float32.specs.Remainder.{one};
 ghost use Rattle.power.specs.Table.{powerTable};
 ghost use Rattle.sine.specs.Table.{sineTable};
+ghost use Rattle.frequencies.specs.Frequency.{hertz};
 ghost use Rattle.motion.specs.Field.{MIN-DISPLAY-FREQUENCY-HZ};
 ghost use Rattle.motion_rows.specs.Settled.{settled};
-ghost use Rattle.motion_rows.specs.Rows.{frequencyOf, madeOfEvents, openAt, lowered, gainLeft};
+ghost use Rattle.motion_rows.specs.Rows.{madeOfEvents, openAt, lowered, gainLeft};
 use crate::shapes::ones;
 use crate::shapes::shape_row;
 use float32::order::max;
 use float32::remainder::rem_euclid_one;
+use frequencies::rows::ratios;
 use motion::field::MIN_DISPLAY_FREQUENCY_HZ;
 use motion::field::MIN_SIZE_OCTAVES;
 use power::rows::log2_row;
@@ -58,18 +60,6 @@ fn made_of_events(shape: MotionShape) -> bool
     }
 }
 
-// The bins' frequencies over the lowest shown.
-fn ratios(row: &mut [f32], bin_hz: f32, start: usize, count: usize)
-    requires { ⌜ (count ≤ length (now row)) × (start + count ≤ 2 ^ 24 + 1) ⌝ }
-    ensures { λ _. ⌜ now (row .exit) ≡ mapRange (λ k held. div binary32 (frequencyOf «bin_hz» (start + k)) MIN-DISPLAY-FREQUENCY-HZ) 0 count (now (row .entry)) ⌝ }
-{
-    let mut k: usize = 0;
-    while k < count {
-        row[k] = (start + k) as f32 * bin_hz / MIN_DISPLAY_FREQUENCY_HZ;
-        k += 1;
-    }
-}
-
 // The openness of a bin whose place has one: below the lowest frequency shown the field is open.
 fn shown(frequency: f32, opened: f32) -> f32
     ensures { λ r. ⌜ r ≡ cond (lt frequency MIN-DISPLAY-FREQUENCY-HZ) one opened ⌝ }
@@ -82,7 +72,7 @@ fn shown(frequency: f32, opened: f32) -> f32
 
 fn open_below(row: &mut [f32], bin_hz: f32, start: usize, count: usize)
     requires { ⌜ (count ≤ length (now row)) × (start + count ≤ 2 ^ 24 + 1) ⌝ }
-    ensures { λ _. ⌜ now (row .exit) ≡ mapRange (λ k opened. cond (lt (frequencyOf «bin_hz» (start + k)) MIN-DISPLAY-FREQUENCY-HZ) one opened) 0 count (now (row .entry)) ⌝ }
+    ensures { λ _. ⌜ now (row .exit) ≡ mapRange (λ k opened. cond (lt (hertz «bin_hz» (start + k)) MIN-DISPLAY-FREQUENCY-HZ) one opened) 0 count (now (row .entry)) ⌝ }
 {
     let mut k: usize = 0;
     while k < count {
@@ -102,14 +92,14 @@ fn openings(
     count: usize,
 )
     requires { ⌜ (now powers ≡ powerTable) × (now sines ≡ sineTable) × (count ≤ length (now row)) × (start + count ≤ 2 ^ 24 + 1) ⌝ }
-    ensures { λ _. ⌜ now (row .exit) ≡ mapRange (λ k held. openAt field (frequencyOf «bin_hz» (start + k))) 0 count (now (row .entry)) ⌝ }
+    ensures { λ _. ⌜ now (row .exit) ≡ mapRange (λ k held. openAt field (hertz «bin_hz» (start + k))) 0 count (now (row .entry)) ⌝ }
 {
     let shape = field.shape;
     if made_of_events(shape) {
         ones(row, count);
         return;
     }
-    ratios(row, bin_hz, start, count);
+    ratios(row, bin_hz, MIN_DISPLAY_FREQUENCY_HZ, start, count);
     log2_row(row, powers, count);
     shape_row(row, powers, sines, field, count);
     open_below(row, bin_hz, start, count);
@@ -138,7 +128,7 @@ pub fn motion_gains(
     count: usize,
 )
     requires { ⌜ (now powers ≡ powerTable) × (now sines ≡ sineTable) × (count ≤ length (now row)) × (start + count ≤ 2 ^ 24 + 1) ⌝ }
-    ensures { λ _. ⌜ now (row .exit) ≡ mapRange (λ k held. gainLeft field (frequencyOf «bin_hz» (start + k))) 0 count (now (row .entry)) ⌝ }
+    ensures { λ _. ⌜ now (row .exit) ≡ mapRange (λ k held. gainLeft field (hertz «bin_hz» (start + k))) 0 count (now (row .entry)) ⌝ }
 {
     openings(row, powers, sines, field, bin_hz, start, count);
     lowerings(row, field.depth_db, count);

@@ -167,11 +167,7 @@ pub(crate) fn ones(row: &mut [f32], count: usize)
     requires { ⌜ count ≤ length (now row) ⌝ }
     ensures { λ _. ⌜ now (row .exit) ≡ mapRange (λ k held. one) 0 count (now (row .entry)) ⌝ }
 {
-    let mut k: usize = 0;
-    while k < count {
-        row[k] = 1.0;
-        k += 1;
-    }
+    slices::fill_first(row, 1.0, count);
 }
 
 // The shape's openness at each of the first `count` places of the row.

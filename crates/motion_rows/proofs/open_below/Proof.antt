@@ -9,13 +9,13 @@ use mathlib.Core.Bool.{cond}
 use Rattle.float32.specs.Remainder.{one}
 use Rattle.float32.proofs.Sums.{in-float}
 use Rattle.motion.specs.Field.{MIN-DISPLAY-FREQUENCY-HZ}
-use Rattle.motion_rows.specs.Rows.{frequencyOf}
+use Rattle.frequencies.specs.Frequency.{hertz}
 use borrow.Author.Needs.{needs}
 use Rattle.motion_rows.proofs.open_below.Statement.{statement}
 use Rattle.motion_rows.proofs.open_below.Tie as tie
 
 abbrev Inv-loop : tie.InvT-loop
-Inv-loop row₀ bin-hz start count k₀ row k = Turned (λ k opened. cond (lt (frequencyOf bin-hz (start + k)) MIN-DISPLAY-FREQUENCY-HZ) one opened) 0 row₀ row k × (k ≤ count)
+Inv-loop row₀ bin-hz start count k₀ row k = Turned (λ k opened. cond (lt (hertz bin-hz (start + k)) MIN-DISPLAY-FREQUENCY-HZ) one opened) 0 row₀ row k × (k ≤ count)
 
 abbrev μ-loop : tie.MeasureT-loop
 μ-loop row₀ bin-hz start count k₀ row k = count - k
