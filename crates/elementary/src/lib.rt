@@ -43,15 +43,27 @@ pub fn value(function: Function, powers: &PowerTable, sines: &SineTable, x: f32)
     }
 }
 
-// The function's value at each entry, in the entry's place.
+fn apply_one_by_one(function: Function, powers: &PowerTable, sines: &SineTable, xs: &mut [f32])
+    requires { ⌜ (now powers ≡ powerTable) × (now sines ≡ sineTable) ⌝ }
+    ensures { λ _. ⌜ now (xs .exit) ≡ mapAt (λ k x. valueOf function x) (now (xs .entry)) ⌝ }
+{
+    let mut i: usize = 0;
+    while i < xs.len() {
+        xs[i] = value(function, powers, sines, xs[i]);
+        i += 1;
+    }
+}
+
+// The function's value at each entry, in the entry's place: by rows, where the function has them.
 pub fn apply(function: Function, xs: &mut [f32])
     ensures { λ _. ⌜ now (xs .exit) ≡ mapAt (λ k x. valueOf function x) (now (xs .entry)) ⌝ }
 {
     let powers = power::table::power_table();
     let sines = sine::table::sine_table();
-    let mut i: usize = 0;
-    while i < xs.len() {
-        xs[i] = value(function, &powers, &sines, xs[i]);
-        i += 1;
+    let count = xs.len();
+    match function {
+        Function::Sin => sine::rows::sin_row(xs, &sines, count),
+        Function::Cos => sine::rows::cos_row(xs, &sines, count),
+        _ => apply_one_by_one(function, &powers, &sines, xs),
     }
 }

@@ -1,79 +1,78 @@
--- `elementary::apply` meets its contract: after i turns the first i entries are done, and the others are as they were. Assumes nothing.
-use Prim.Native.Nat.{_≤_, _<_, _-_}
+-- `elementary::apply` meets its contract: each arm does what the function names over the whole list. Assumes nothing.
+use mathlib.Core.Path.{_≡_, _∙_}
+use mathlib.Core.List.{List}
+use Prim.Native.Nat.{ℕ}
 use native.Mathlib.Omega.{arith}
-use mathlib.Core.Path.{_∙_}
 use lib.ListN.{length}
-use lib.Ieee.{nan}
+use lib.Ieee.{Float}
+use Rattle.lists.specs.Maps.{mapAt, mapRange, between, between-in}
+use Rattle.lists.specs.Runs.{map-same}
+use Rattle.sine.specs.Sine.{sinOf, cosOf}
 use borrow.Author.Needs.{needs}
-use Rattle.lists.specs.Turned.{Turned, turned-none, turned-read, turned-more, turned-all}
-use Rattle.elementary.specs.Functions.{valueOf}
 use Rattle.elementary.proofs.apply.Statement.{statement}
 use Rattle.elementary.proofs.apply.Tie as tie
 
-abbrev Inv-loop : tie.InvT-loop
-Inv-loop function xs₀ powers sines i₀ xs i = Turned (λ k x. valueOf function x) 0 xs₀ xs i × (i ≤ length xs₀)
+-- a row of all entries
+whole : (g : ℕ → Float → Float) (xs : List Float) → mapRange g 0 (length xs) xs ≡ mapAt g xs
+whole g xs = map-same (between 0 (length xs) g) g xs (λ k x h. between-in g 0 (length xs) k x (omega arith) h)
 
-abbrev μ-loop : tie.MeasureT-loop
-μ-loop function xs₀ powers sines i₀ xs i = length xs₀ - i
-
-power-table-requires : tie.Need-power-table-requires Inv-loop μ-loop
+power-table-requires : tie.Need-power-table-requires
 power-table-requires c κs = search needs
 
-sine-table-requires : tie.Need-sine-table-requires Inv-loop μ-loop
+sine-table-requires : tie.Need-sine-table-requires
 sine-table-requires c κs = search needs
 
-loop-holds : tie.Need-loop-holds Inv-loop μ-loop
-loop-holds c = (turned-none _ 0 _, omega arith)
+enum-told : tie.Need-enum-told
+enum-told c = search needs
 
-mul-value : tie.Need-mul-value Inv-loop μ-loop
-mul-value c = omega arith
+sin-row-requires : tie.Need-sin-row-requires
+sin-row-requires c κs = search needs
 
-slice-read-value : tie.Need-slice-read-value Inv-loop μ-loop
-slice-read-value c = omega arith
+enum-told-2 : tie.Need-enum-told-2
+enum-told-2 c = search needs
 
-value-requires : tie.Need-value-requires Inv-loop μ-loop
-value-requires c κs = (c .before .before .before .before .before .before .power-table .ensures, c .before .before .before .before .before .sine-table .ensures)
+cos-row-requires : tie.Need-cos-row-requires
+cos-row-requires c κs = search needs
 
-mul-xs : tie.Need-mul-xs Inv-loop μ-loop
-mul-xs c = omega arith
+apply-one-by-one-requires : tie.Need-apply-one-by-one-requires
+apply-one-by-one-requires c κs = search needs
 
-slice-write-xs : tie.Need-slice-write-xs Inv-loop μ-loop
-slice-write-xs c = omega arith
+same-length : tie.Need-same-length
+same-length c = search needs
 
-add-i : tie.Need-add-i Inv-loop μ-loop
-add-i c = omega arith
+returns : tie.Need-returns
+returns c =
+    let r = c .before .before in
+    rw (r .before .before .before .enum-told .given .1) (r .sin-row .ensures ∙ whole (λ k x. sinOf x) _)
 
-loop-less : tie.Need-loop-less Inv-loop μ-loop
-loop-less c = omega arith
+same-length-2 : tie.Need-same-length-2
+same-length-2 c = search needs
 
-loop-again : tie.Need-loop-again Inv-loop μ-loop
-loop-again c =
-    let t = c .before .before .before .before .before .loop .inv .0 in
-    let h : c .before .before .before .before .before .loop .i < length (c .before .before .before .before .before .before .before .before .before .args .xs .now) = omega arith in
-    (turned-more nan t h (c .value .ensures ∙ cc (turned-read nan t h)), omega arith)
+returns-2 : tie.Need-returns-2
+returns-2 c =
+    let r = c .before .before in
+    rw (r .before .before .before .enum-told2 .given .1) (r .cos-row .ensures ∙ whole (λ k x. cosOf x) _)
 
-same-length : tie.Need-same-length Inv-loop μ-loop
-same-length c = c .before .loop .inv .0 .len
+same-length-3 : tie.Need-same-length-3
+same-length-3 c = search needs
 
-returns : tie.Need-returns Inv-loop μ-loop
-returns c = turned-all (c .before .loop .inv .0) (omega arith)
+returns-3 : tie.Need-returns-3
+returns-3 c = c .before .before .apply-one-by-one .ensures
 
 pub apply-spec : {M : Type 1} → statement M
 apply-spec =
     tie.close
     (tie.spec
-    Inv-loop
-    μ-loop
     power-table-requires
     sine-table-requires
-    loop-holds
-    mul-value
-    slice-read-value
-    value-requires
-    mul-xs
-    slice-write-xs
-    add-i
-    loop-less
-    loop-again
+    enum-told
+    sin-row-requires
+    enum-told-2
+    cos-row-requires
+    apply-one-by-one-requires
     same-length
-    returns)
+    returns
+    same-length-2
+    returns-2
+    same-length-3
+    returns-3)
