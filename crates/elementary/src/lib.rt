@@ -43,7 +43,7 @@ pub fn value(function: Function, powers: &PowerTable, sines: &SineTable, x: f32)
     }
 }
 
-fn each(function: Function, powers: &PowerTable, sines: &SineTable, xs: &mut [f32])
+fn apply_one_by_one(function: Function, powers: &PowerTable, sines: &SineTable, xs: &mut [f32])
     requires { ⌜ (now powers ≡ powerTable) × (now sines ≡ sineTable) ⌝ }
     ensures { λ _. ⌜ now (xs .exit) ≡ mapAt (λ k x. valueOf function x) (now (xs .entry)) ⌝ }
 {
@@ -54,16 +54,17 @@ fn each(function: Function, powers: &PowerTable, sines: &SineTable, xs: &mut [f3
     }
 }
 
-// The function's value at each entry, in the entry's place.
+// The function's value at each entry, in the entry's place: by rows, where the function has them.
 pub fn apply(function: Function, xs: &mut [f32])
     ensures { λ _. ⌜ now (xs .exit) ≡ mapAt (λ k x. valueOf function x) (now (xs .entry)) ⌝ }
 {
     let powers = power::table::power_table();
-    if let Function::Log2 = function {
-        let count = xs.len();
-        power::rows::log2_row(xs, &powers, count);
-        return;
-    }
     let sines = sine::table::sine_table();
-    each(function, &powers, &sines, xs);
+    let count = xs.len();
+    match function {
+        Function::Log2 => power::rows::log2_row(xs, &powers, count),
+        Function::Sin => sine::rows::sin_row(xs, &sines, count),
+        Function::Cos => sine::rows::cos_row(xs, &sines, count),
+        _ => apply_one_by_one(function, &powers, &sines, xs),
+    }
 }

@@ -3,6 +3,8 @@ pub mod Places
 pub mod WholeTurns
 pub mod Waves
 pub mod Signed
+pub mod Stepped
+pub mod StagedWaves
 pub mod Chord
 pub mod Circle
 pub mod Range

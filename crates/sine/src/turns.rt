@@ -3,7 +3,14 @@
 // Method. The angle times 0.15915494, rounded once, is u, the angle in turns. Its floor in units of 2^-24 of a turn is one sum with whole turns (float32::fixed), which makes a negative
 // u too a matter of whole numbers, and a mask takes the turns away again. From 2^23 turns on every u is a whole number of turns, and the place is 0.
 ghost use mathlib.Core.Path.{_≡_};
+ghost use Prim.Native.Nat.{_%_, _^_, _≤_};
+ghost use lib.Dec.{T};
+ghost use lib.Ieee.{binary32, fits, neg};
+ghost use Rattle.float32.specs.Value.{moved};
+ghost use Rattle.float32.specs.Order.{within};
+ghost use Rattle.float32.specs.Fixed.{farthest};
 ghost use Rattle.sine.specs.Sine.{U};
+ghost use Rattle.sine.specs.Rows.{placeAhead};
 use float32::fixed::LEAST;
 use float32::fixed::far_steps;
 use float32::fixed::near_steps;
@@ -41,4 +48,23 @@ pub fn place_in_turn(angle: f32) -> u64
         return far_steps(u) & IN_TURN;
     }
     0
+}
+
+// The same, `ahead` of the angle and without a branch, so that a loop over angles is done for several at once.
+pub(crate) fn place_ahead(angle: f32, ahead: u64) -> u32
+    requires { ⌜ ahead ≤ 2 ^ 22 ⌝ }
+    ensures { λ r. ⌜ r ≡ placeAhead ahead angle ⌝ }
+{
+    (((far_steps(near_turns(angle)) & IN_TURN) + ahead) & IN_TURN) as u32
+}
+
+// The angle in turns; or 0, which has the same place, where `far_steps` does not take them.
+fn near_turns(angle: f32) -> f32
+    ensures { λ r. ⌜ T (fits binary32 r) × T (within (neg farthest) farthest r) × (moved (2 ^ 128) r % 2 ^ 24 ≡ U angle) ⌝ }
+{
+    let u = angle * TURNS_PER_RADIAN;
+    if in_range(u, FARTHEST_BACK, FARTHEST) {
+        return u;
+    }
+    0.0
 }

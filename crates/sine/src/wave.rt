@@ -10,6 +10,7 @@ ghost use lib.IntN.{pos, negℤ};
 ghost use Rattle.lists.specs.Interpolation.{interp};
 ghost use Rattle.sine.specs.Table.{sineTable, R};
 ghost use Rattle.sine.specs.Sine.{turned, wave};
+ghost use Rattle.sine.specs.Rows.{levelAt};
 use super::table::SineTable;
 use super::turns::QUARTER;
 
@@ -17,7 +18,7 @@ use super::turns::QUARTER;
 const LAST_ENTRY: u64 = 1073741824;
 
 // R[j]
-fn entry(sines: &SineTable, j: usize) -> u64
+pub(crate) fn entry(sines: &SineTable, j: usize) -> u64
     requires { ⌜ (now sines ≡ sineTable) × (j < 257) ⌝ }
     ensures { λ r. ⌜ r ≡ R j ⌝ }
 {
@@ -62,11 +63,18 @@ fn signed(negative: bool, w: u32) -> i32
     v
 }
 
-// Negative in the quarters 2 and 3, but for zero.
+// w / 2^24, negative in the quarters 2 and 3, but for zero.
+pub(crate) fn level(place: u32, w: u32) -> f32
+    requires { ⌜ w ≤ 16777216 ⌝ }
+    ensures { λ r. ⌜ r ≡ levelAt place w ⌝ }
+{
+    (signed(1 < place >> 22, w) as f32) / 16777216.0
+}
+
 pub fn wave_at(sines: &SineTable, place: u64) -> f32
     requires { ⌜ (now sines ≡ sineTable) × (place < 2 ^ 24) ⌝ }
     ensures { λ r. ⌜ r ≡ wave place ⌝ }
 {
     let w = (interpolated(sines, turned_place(place)) >> 6) as u32;
-    (signed(1 < place >> 22, w) as f32) / 16777216.0
+    level(place as u32, w)
 }

@@ -1,19 +1,27 @@
--- `apply` meets its contract: a row of logarithms is worked out in stages, and any other function entry by entry. Assumes nothing.
-use mathlib.Core.Path.{_≡_, refl, _∙_}
+-- `elementary::apply` meets its contract: each arm does what the function names over the whole list. Assumes nothing.
+use mathlib.Core.Path.{_≡_, _∙_}
 use mathlib.Core.List.{List}
-use native.Mathlib.Nat.{le-refl}
+use Prim.Native.Nat.{ℕ}
 use native.Mathlib.Omega.{arith}
 use lib.ListN.{length}
 use lib.Ieee.{Float}
-use borrow.Author.Needs.{needs}
-use Rattle.lists.specs.Maps.{mapAt, mapRange, length-mapRange}
-use Rattle.lists.specs.Turned.{turned-all}
+use Rattle.lists.specs.Maps.{mapAt, mapRange, between, between-in}
+use Rattle.lists.specs.Runs.{map-same}
 use Rattle.power.specs.Log.{L2}
+use Rattle.sine.specs.Sine.{sinOf, cosOf}
+use borrow.Author.Needs.{needs}
 use Rattle.elementary.proofs.apply.Statement.{statement}
 use Rattle.elementary.proofs.apply.Tie as tie
 
+-- a row of all entries
+whole : (g : ℕ → Float → Float) (xs : List Float) → mapRange g 0 (length xs) xs ≡ mapAt g xs
+whole g xs = map-same (between 0 (length xs) g) g xs (λ k x h. between-in g 0 (length xs) k x (omega arith) h)
+
 power-table-requires : tie.Need-power-table-requires
 power-table-requires c κs = search needs
+
+sine-table-requires : tie.Need-sine-table-requires
+sine-table-requires c κs = search needs
 
 enum-told : tie.Need-enum-told
 enum-told c = search needs
@@ -21,40 +29,69 @@ enum-told c = search needs
 log2-row-requires : tie.Need-log2-row-requires
 log2-row-requires c κs = search needs
 
+enum-told-2 : tie.Need-enum-told-2
+enum-told-2 c = search needs
+
+sin-row-requires : tie.Need-sin-row-requires
+sin-row-requires c κs = search needs
+
+enum-told-3 : tie.Need-enum-told-3
+enum-told-3 c = search needs
+
+cos-row-requires : tie.Need-cos-row-requires
+cos-row-requires c κs = search needs
+
+apply-one-by-one-requires : tie.Need-apply-one-by-one-requires
+apply-one-by-one-requires c κs = search needs
+
 same-length : tie.Need-same-length
 same-length c = search needs
-
-whole : (xs : List Float) → mapRange (λ k v. L2 v) 0 (length xs) xs ≡ mapAt (λ k v. L2 v) xs
-whole xs = turned-all record { len = length-mapRange (λ k v. L2 v) 0 (length xs) xs; low = omega arith; is = refl } (le-refl (length xs))
 
 returns : tie.Need-returns
 returns c =
     let r = c .before .before in
-    let e = r .before .before .before in
-    rw (e .enum-told .given .1) (r .log2-row .ensures ∙ whole (e .before .before .before .before .args .xs .now))
-
-sine-table-requires : tie.Need-sine-table-requires
-sine-table-requires c κs = search needs
-
-each-requires : tie.Need-each-requires
-each-requires c κs = search needs
+    rw (r .before .before .before .enum-told .given .1) (r .log2-row .ensures ∙ whole (λ k v. L2 v) _)
 
 same-length-2 : tie.Need-same-length-2
 same-length-2 c = search needs
 
 returns-2 : tie.Need-returns-2
-returns-2 c = search needs
+returns-2 c =
+    let r = c .before .before in
+    rw (r .before .before .before .enum-told2 .given .1) (r .sin-row .ensures ∙ whole (λ k x. sinOf x) _)
+
+same-length-3 : tie.Need-same-length-3
+same-length-3 c = search needs
+
+returns-3 : tie.Need-returns-3
+returns-3 c =
+    let r = c .before .before in
+    rw (r .before .before .before .enum-told3 .given .1) (r .cos-row .ensures ∙ whole (λ k x. cosOf x) _)
+
+same-length-4 : tie.Need-same-length-4
+same-length-4 c = search needs
+
+returns-4 : tie.Need-returns-4
+returns-4 c = c .before .before .apply-one-by-one .ensures
 
 pub apply-spec : {M : Type 1} → statement M
 apply-spec =
     tie.close
     (tie.spec
     power-table-requires
+    sine-table-requires
     enum-told
     log2-row-requires
+    enum-told-2
+    sin-row-requires
+    enum-told-3
+    cos-row-requires
+    apply-one-by-one-requires
     same-length
     returns
-    sine-table-requires
-    each-requires
     same-length-2
-    returns-2)
+    returns-2
+    same-length-3
+    returns-3
+    same-length-4
+    returns-4)

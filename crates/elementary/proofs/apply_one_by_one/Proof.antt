@@ -1,15 +1,14 @@
--- `each` meets its contract: after i turns the first i entries are done, and the others are as they were. Assumes nothing.
-use Prim.Native.Nat.{_≤_, _<_, _-_}
+-- `elementary::apply_one_by_one` meets its contract: after i turns the first i entries are done, and the others are as they were. Assumes nothing.
+use Prim.Native.Nat.{_≤_, _-_}
 use native.Mathlib.Omega.{arith}
-use mathlib.Core.Path.{_∙_}
 use lib.ListN.{length}
 use lib.Ieee.{nan}
 use borrow.Author.Needs.{needs}
 use Rattle.lists.specs.Turned.{Turned, turned-none, turned-all}
-use Rattle.lists.specs.Stages.{turned-held}
+use Rattle.lists.specs.Runs.{turned-next}
 use Rattle.elementary.specs.Functions.{valueOf}
-use Rattle.elementary.proofs.each.Statement.{statement}
-use Rattle.elementary.proofs.each.Tie as tie
+use Rattle.elementary.proofs.apply_one_by_one.Statement.{statement}
+use Rattle.elementary.proofs.apply_one_by_one.Tie as tie
 
 abbrev Inv-loop : tie.InvT-loop
 Inv-loop function powers sines xs₀ i₀ xs i = Turned (λ k x. valueOf function x) 0 xs₀ xs i × (i ≤ length xs₀)
@@ -42,7 +41,7 @@ loop-less : tie.Need-loop-less Inv-loop μ-loop
 loop-less c = omega arith
 
 loop-again : tie.Need-loop-again Inv-loop μ-loop
-loop-again c = (turned-held nan (c .before .before .before .loop .inv .0) (omega arith) (c .value .ensures), omega arith)
+loop-again c = (turned-next nan (c .before .before .before .loop .inv .0) (omega arith) (c .value .ensures), omega arith)
 
 same-length : tie.Need-same-length Inv-loop μ-loop
 same-length c = c .before .loop .inv .0 .len
@@ -50,8 +49,8 @@ same-length c = c .before .loop .inv .0 .len
 returns : tie.Need-returns Inv-loop μ-loop
 returns c = turned-all (c .before .loop .inv .0) (omega arith)
 
-pub each-spec : {M : Type 1} → statement M
-each-spec =
+pub apply-one-by-one-spec : {M : Type 1} → statement M
+apply-one-by-one-spec =
     tie.close
     (tie.spec
     Inv-loop
