@@ -2,3 +2,4 @@ pub mod Sizes
 pub mod Spacing
 pub mod Entries
 pub mod Accepted
+pub mod Logged

@@ -6,7 +6,7 @@ ghost use Prim.Native.Nat.{_^_, _≤_};
 ghost use lib.ListN.{length};
 ghost use Rattle.lists.specs.Maps.{tabulate};
 ghost use Rattle.power.specs.Table.{powerTable};
-ghost use Rattle.frequencies.specs.Frequency.{binHz, log2Hz, prepared};
+ghost use Rattle.frequencies.specs.Frequency.{binHz, counted, prepared};
 use power::table::PowerTable;
 use power::table::power_table;
 
@@ -18,28 +18,37 @@ pub fn bin_hz(sample_rate: f32, fft_size: usize) -> f32
     sample_rate / fft_size as f32
 }
 
-// The logarithm to base 2 of a bin's frequency; bin 0, whose frequency has none, has 0.
-pub fn log2_hz(powers: &PowerTable, bin: usize, bin_hz: f32) -> f32
-    requires { ⌜ (now powers ≡ powerTable) × (bin ≤ 2 ^ 24) ⌝ }
-    ensures { λ r. ⌜ r ≡ log2Hz «bin_hz» bin ⌝ }
+// A bin's frequency; that of bin 0 counts as 0, which has no logarithm.
+fn hertz(bin: usize, bin_hz: f32) -> f32
+    requires { ⌜ bin ≤ 2 ^ 24 ⌝ }
+    ensures { λ r. ⌜ r ≡ counted «bin_hz» bin ⌝ }
 {
     if bin == 0 {
         return 0.0;
     }
-    power::log2::log2(powers, bin as f32 * bin_hz)
+    bin as f32 * bin_hz
 }
 
-// The loop over the bins, for the powers that `fill` lends it.
+fn fill_hertz(table: &mut [f32], bin_hz: f32)
+    requires { ⌜ length (now table) ≤ 2 ^ 24 ⌝ }
+    ensures { λ _. ⌜ now (table .exit) ≡ tabulate (length (now (table .entry))) (counted «bin_hz») ⌝ }
+{
+    let mut bin: usize = 0;
+    while bin < table.len() {
+        table[bin] = hertz(bin, bin_hz);
+        bin += 1;
+    }
+}
+
+// The frequencies and then their logarithms, by the powers that `fill` lends; bin 0, whose frequency has none, has 0.
 fn fill_all(powers: &PowerTable, table: &mut [f32], sample_rate: f32, fft_size: usize)
     requires { ⌜ (now powers ≡ powerTable) × («fft_size» ≤ 2 ^ 24) × (length (now table) ≤ 2 ^ 24) ⌝ }
     ensures { λ _. ⌜ now (table .exit) ≡ tabulate (length (now (table .entry))) (prepared «sample_rate» «fft_size») ⌝ }
 {
     let spacing = bin_hz(sample_rate, fft_size);
-    let mut bin: usize = 0;
-    while bin < table.len() {
-        table[bin] = log2_hz(powers, bin, spacing);
-        bin += 1;
-    }
+    fill_hertz(table, spacing);
+    let count = table.len();
+    power::rows::log2_row(table, powers, count);
 }
 
 // Fills the table, from bin 0 on.

@@ -15,7 +15,9 @@ pub(crate) const LEAST_NORMAL: f32 = 1.1754944e-38;
 // From 4 to 8 the digits of an f64 end at 2^-50, and SIX less a part of up to 1 is there.
 const SIX: f64 = 6.0;
 
-// From 4 to 6 there are 2^17 steps of 2^-16.
+// A step of 2^-16, one of 2^LOW_BITS in 1, begins that many digits above the last; from 4 to 6 there are 2^17 of them.
+const STEP_DIGITS: u64 = 34;
+
 const LAST_LEFT: u32 = 0x1_ffff;
 
 // The step of the table that t = 2^30 * (1 + m) lies in, or the one before: log2(1 + m) is a little above m * (1.403 - m * (0.53 - m * 0.125)), which is taken here for m's
@@ -61,7 +63,7 @@ fn place(x: u32, d: u32) -> u32
     ensures { λ r. ⌜ r ≡ (x * 2 ^ lowBits - 1) / d ⌝ }
 {
     let part = ((x as i32) as f64) / ((d as i32) as f64);
-    LAST_LEFT - (((f64::to_bits(-part + SIX) & 0xf_ffff_ffff_ffff) >> 34) as u32)
+    LAST_LEFT - (((f64::to_bits(-part + SIX) & 0xf_ffff_ffff_ffff) >> STEP_DIGITS) as u32)
 }
 
 // The greatest F with I(F) <= t: its high bits are the step h that t lies in, its low bits the place within the step.

@@ -25,6 +25,7 @@ pub(crate) fn entry(powers: &PowerTable, j: usize) -> u32
     powers[j]
 }
 
+// P[j], with room for a product.
 pub(crate) fn power(powers: &PowerTable, j: usize) -> u64
     requires { ⌜ (now powers ≡ powerTable) × (j ≤ 2 ^ highBits) ⌝ }
     ensures { λ r. ⌜ r ≡ P j ⌝ }
