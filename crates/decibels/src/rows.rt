@@ -1,4 +1,4 @@
-// The gains of a row of decibels, one short loop after the other: the loop of the quotients is done for several entries at once.
+// The gains of a row of decibels: the quotients, and then the powers.
 ghost use mathlib.Core.Path.{_≡_};
 ghost use Prim.Native.Nat.{_≤_};
 ghost use lib.ListN.{length};
@@ -8,7 +8,7 @@ ghost use Rattle.power.specs.Table.{powerTable};
 ghost use Rattle.power.specs.Decimal.{pow10};
 ghost use Rattle.decibels.specs.Gain.{DECIBELS-PER-DECADE, gainOf};
 use crate::DECIBELS_PER_DECADE;
-use power::decimal::pow10;
+use power::exp2_rows::pow10_row;
 use power::table::PowerTable;
 
 fn decades(row: &mut [f32], count: usize)
@@ -26,11 +26,7 @@ fn powers_of_ten(row: &mut [f32], powers: &PowerTable, count: usize)
     requires { ⌜ (now powers ≡ powerTable) × (count ≤ length (now row)) ⌝ }
     ensures { λ _. ⌜ now (row .exit) ≡ mapRange (λ k y. pow10 y) 0 count (now (row .entry)) ⌝ }
 {
-    let mut k: usize = 0;
-    while k < count {
-        row[k] = pow10(powers, row[k]);
-        k += 1;
-    }
+    pow10_row(row, powers, count);
 }
 
 // The first `count` entries of the row, which are decibels, as gains.

@@ -19,3 +19,4 @@ pub mod LogRising
 pub mod LogRange
 pub mod LogComputed
 pub mod Bases
+pub mod Exp2Staged

@@ -3,3 +3,4 @@ pub mod Rules
 pub mod Power
 pub mod Log
 pub mod Decimal
+pub mod Exp2Rows
