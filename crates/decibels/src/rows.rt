@@ -1,5 +1,4 @@
-// The gains of a row of decibels, one short loop after the other: the loop of the quotients is done for several entries at once. A row that is level, as that of a curve with nothing drawn or
-// of a field that is open, has its gain worked out once.
+// The gains of a row of decibels: the quotients, and then the powers. A row that is level, as that of a curve with nothing drawn or of a field that is open, has its gain worked out once.
 ghost use mathlib.Core.Path.{_≡_};
 ghost use mathlib.Core.Bool.{true, false};
 ghost use Prim.Native.Nat.{ℕ, _≤_, _<_};
@@ -8,11 +7,10 @@ ghost use lib.ListN.{length, getD};
 ghost use lib.Ieee.{nan, binary32, div, eq};
 ghost use Rattle.lists.specs.Maps.{mapRange};
 ghost use Rattle.power.specs.Table.{powerTable};
-ghost use Rattle.power.specs.Decimal.{pow10};
 ghost use Rattle.decibels.specs.Gain.{DECIBELS-PER-DECADE, gainOf};
 use crate::DECIBELS_PER_DECADE;
 use crate::gain;
-use power::decimal::pow10;
+use power::exp2_rows::pow10_row;
 use power::table::PowerTable;
 use slices::fill_first;
 
@@ -23,17 +21,6 @@ fn decades(row: &mut [f32], count: usize)
     let mut k: usize = 0;
     while k < count {
         row[k] = row[k] / DECIBELS_PER_DECADE;
-        k += 1;
-    }
-}
-
-fn powers_of_ten(row: &mut [f32], powers: &PowerTable, count: usize)
-    requires { ⌜ (now powers ≡ powerTable) × (count ≤ length (now row)) ⌝ }
-    ensures { λ _. ⌜ now (row .exit) ≡ mapRange (λ k y. pow10 y) 0 count (now (row .entry)) ⌝ }
-{
-    let mut k: usize = 0;
-    while k < count {
-        row[k] = pow10(powers, row[k]);
         k += 1;
     }
 }
@@ -77,5 +64,5 @@ pub fn gains(row: &mut [f32], powers: &PowerTable, count: usize)
         return;
     }
     decades(row, count);
-    powers_of_ten(row, powers, count);
+    pow10_row(row, powers, count);
 }

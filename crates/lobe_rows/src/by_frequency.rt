@@ -8,7 +8,6 @@ ghost use lib.ListN.{length};
 ghost use lib.Ieee.{binary32, mul};
 ghost use Rattle.lists.specs.Maps.{mapRange};
 ghost use Rattle.power.specs.Table.{powerTable};
-ghost use Rattle.power.specs.Decimal as decimal;
 ghost use Rattle.lobes.specs.Distance.{none, MINUS-HALF, inWidths};
 ghost use Rattle.lobes.specs.Lobe.{opening};
 ghost use Rattle.lobe_rows.specs.Stages.{relativeTo};
@@ -18,7 +17,7 @@ use frequencies::rows::ratios;
 use lobes::Grid;
 use lobes::Lobe;
 use lobes::distances::in_widths;
-use power::decimal::exp;
+use power::exp2_rows::exp_row;
 use power::rows::log2_row;
 use power::table::PowerTable;
 
@@ -32,17 +31,6 @@ fn exponents(chunk: &mut [f32], count: usize, width: f32, peak_squared: f32)
     let mut k: usize = 0;
     while k < count {
         chunk[k] = MINUS_HALF * relative_square(peak_squared, in_widths(width, chunk[k]));
-        k += 1;
-    }
-}
-
-fn exponentials(chunk: &mut [f32], powers: &PowerTable, count: usize)
-    requires { ⌜ (now powers ≡ powerTable) × (count ≤ length (now chunk)) ⌝ }
-    ensures { λ _. ⌜ now (chunk .exit) ≡ mapRange (λ k y. decimal.exp y) 0 count (now (chunk .entry)) ⌝ }
-{
-    let mut k: usize = 0;
-    while k < count {
-        chunk[k] = exp(powers, chunk[k]);
         k += 1;
     }
 }
@@ -61,6 +49,6 @@ pub fn openings_by_frequency(
     ratios(chunk, grid.bin_hz, lobe.center, start, count);
     log2_row(chunk, powers, count);
     exponents(chunk, count, grid.width, lobe.peak_squared);
-    exponentials(chunk, powers, count);
+    exp_row(chunk, powers, count);
     openings_of_bells(chunk, count, lobe.strength);
 }

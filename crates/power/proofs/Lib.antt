@@ -20,3 +20,4 @@ pub mod LogRange
 pub mod Ready
 pub mod LogComputed
 pub mod Bases
+pub mod Exp2Staged

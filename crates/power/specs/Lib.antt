@@ -4,3 +4,4 @@ pub mod Power
 pub mod Log
 pub mod Stages
 pub mod Decimal
+pub mod Exp2Rows

@@ -34,8 +34,8 @@ returns c =
 decades-requires : tie.Need-decades-requires
 decades-requires c κs = search needs
 
-powers-of-ten-requires : tie.Need-powers-of-ten-requires
-powers-of-ten-requires c κs = search needs
+pow10-row-requires : tie.Need-pow10-row-requires
+pow10-row-requires c κs = search needs
 
 same-length-2 : tie.Need-same-length-2
 same-length-2 c = search needs
@@ -43,7 +43,7 @@ same-length-2 c = search needs
 returns-2 : tie.Need-returns-2
 returns-2 c =
     let d = c .before .before .before .before .before .before in
-    let e = rw (d .decades .ensures) at (c .before .before .powers-of-ten .ensures) in
+    let e = rw (d .decades .ensures) at (c .before .before .pow10-row .ensures) in
     e ∙ stages _ _ 0 _ _
 
 pub gains-spec : {M : Type 1} → statement M
@@ -57,6 +57,6 @@ gains-spec =
     same-length
     returns
     decades-requires
-    powers-of-ten-requires
+    pow10-row-requires
     same-length-2
     returns-2)

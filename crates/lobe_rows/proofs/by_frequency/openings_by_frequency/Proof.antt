@@ -14,8 +14,8 @@ log2-row-requires c κs = search needs
 exponents-requires : tie.Need-exponents-requires
 exponents-requires c κs = search needs
 
-exponentials-requires : tie.Need-exponentials-requires
-exponentials-requires c κs = search needs
+exp-row-requires : tie.Need-exp-row-requires
+exp-row-requires c κs = search needs
 
 openings-of-bells-requires : tie.Need-openings-of-bells-requires
 openings-of-bells-requires c κs = search needs
@@ -31,7 +31,7 @@ returns c =
     let o = x .before .before .before .before in
     let r = o .before .before .before .before in
     let a = r .before .before .before .args in
-    let w = rw (e .exponentials .ensures, x .exponents .ensures, o .log2-row .ensures, r .ratios .ensures) at (b .openings-of-bells .ensures) in
+    let w = rw (e .exp-row .ensures, x .exponents .ensures, o .log2-row .ensures, r .ratios .ensures) at (b .openings-of-bells .ensures) in
     w ∙ staged-by-frequency (a .grid) (a .lobe) (a .start) (a .count) (a .chunk .now)
 
 pub openings-by-frequency-spec : {M : Type 1} → statement M
@@ -41,7 +41,7 @@ openings-by-frequency-spec =
     ratios-requires
     log2-row-requires
     exponents-requires
-    exponentials-requires
+    exp-row-requires
     openings-of-bells-requires
     same-length
     returns)
