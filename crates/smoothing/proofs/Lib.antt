@@ -1,1 +1,2 @@
 pub mod ThreeOnes
+pub mod Rows

@@ -56,6 +56,10 @@ softenedOf source = mapRange (λ b x. softenedAt source b) 1 (length source - 1)
 abbrev pub blendOf : Float → Float
 blendOf elapsed = clamp ZERO ONE (sub binary32 ONE (exp (div binary32 (neg elapsed) SMOOTH-MASK-TIME-SECONDS)))
 
+-- that part of the way from one number of decibels to another, as a gain
+abbrev pub nearer : Float → Float → Float → Float
+nearer blend current target = gainOf (add binary32 current (mul binary32 (sub binary32 target current) blend))
+
 -- that part of the way from one gain to another, in decibels
 abbrev pub toward : Float → Float → Float → Float
 toward blend current target = gainOf (add binary32 (decibelsOf current) (mul binary32 (sub binary32 (decibelsOf target) (decibelsOf current)) blend))

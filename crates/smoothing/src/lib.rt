@@ -1,14 +1,18 @@
 // Gains of neighbouring bins brought closer to each other, and gains that approach a target with time: both in decibels.
 ghost use mathlib.Core.Path.{_≡_};
-ghost use Prim.Native.Nat.{_-_, _≤_};
-ghost use lib.ListN.{length};
+ghost use Prim.Native.Nat.{ℕ, _+_, _-_, _≤_, _<_};
+ghost use lib.ListN.{length, getD};
+ghost use lib.Ieee.{nan, binary32, mul};
 ghost use Rattle.lists.specs.Maps.{mapRange};
+ghost use Rattle.float32.specs.Constants.{LOG10-2};
+ghost use Rattle.float32.specs.Order.{maximum};
 ghost use Rattle.power.specs.Table.{powerTable};
-ghost use Rattle.smoothing.specs.Smoothing.{decibelsOf, softened, softenedAt, softenedOf, blendOf, toward, smoothedOf};
+ghost use Rattle.decibels.specs.Gain.{DECIBELS-PER-DECADE};
+ghost use Rattle.smoothing.specs.Smoothing.{LEAST-GAIN, decibelsOf, softened, softenedAt, softenedOf, blendOf, nearer, smoothedOf};
 use decibels::DECIBELS_PER_DECADE;
 use decibels::gain;
+use float32::constants::LOG10_2;
 use power::decimal::exp;
-use power::decimal::log10;
 use power::table::PowerTable;
 use power::table::power_table;
 
@@ -22,12 +26,44 @@ const CENTER_SHARE: f32 = 0.6;
 
 const SMOOTH_MASK_TIME_SECONDS: f32 = 0.03;
 
-// The decibels of a gain.
-pub fn in_decibels(powers: &PowerTable, gain: f32) -> f32
-    requires { ⌜ now powers ≡ powerTable ⌝ }
-    ensures { λ r. ⌜ r ≡ decibelsOf gain ⌝ }
+// How many bins are worked out together.
+const ROW: usize = 64;
+
+// A row less a neighbour on each side.
+const INSIDE: usize = 62;
+
+// The gains from `start` on, silence as the least that has decibels.
+fn audible(row: &mut [f32], gains: &[f32], start: usize, count: usize)
+    requires { ⌜ (count ≤ length (now row)) × (start + count ≤ length (now gains)) ⌝ }
+    ensures { λ _. ⌜ now (row .exit) ≡ mapRange (λ k held. maximum (getD (now (gains .entry)) (start + k) nan) LEAST-GAIN) 0 count (now (row .entry)) ⌝ }
 {
-    DECIBELS_PER_DECADE * log10(powers, float32::order::max(gain, LEAST_GAIN))
+    let mut k: usize = 0;
+    while k < count {
+        row[k] = float32::order::max(gains[start + k], LEAST_GAIN);
+        k += 1;
+    }
+}
+
+// The decibels of gains whose logarithms are given.
+fn scaled(row: &mut [f32], count: usize)
+    requires { ⌜ count ≤ length (now row) ⌝ }
+    ensures { λ _. ⌜ now (row .exit) ≡ mapRange (λ k log. mul binary32 DECIBELS-PER-DECADE (mul binary32 log LOG10-2)) 0 count (now (row .entry)) ⌝ }
+{
+    let mut k: usize = 0;
+    while k < count {
+        row[k] = DECIBELS_PER_DECADE * (row[k] * LOG10_2);
+        k += 1;
+    }
+}
+
+// The decibels of the gains from `start` on, one short loop after the other.
+fn decibel_row(row: &mut [f32], gains: &[f32], powers: &PowerTable, start: usize, count: usize)
+    requires { ⌜ (now powers ≡ powerTable) × (count ≤ length (now row)) × (start + count ≤ length (now gains)) ⌝ }
+    ensures { λ _. ⌜ now (row .exit) ≡ mapRange (λ k held. decibelsOf (getD (now (gains .entry)) (start + k) nan)) 0 count (now (row .entry)) ⌝ }
+{
+    audible(row, gains, start, count);
+    power::rows::log2_row(row, powers, count);
+    scaled(row, count);
 }
 
 // The gain between two neighbours, of the decibels of all three.
@@ -41,21 +77,33 @@ fn softened(powers: &PowerTable, left_db: f32, center_db: f32, right_db: f32) ->
     )
 }
 
-// Every bin but the first and the last. A bin's decibels are taken once, and carried on as its right neighbour's left.
+// The bins from `start` on, by a row of decibels that begins with the neighbour on the left.
+fn soften_row(output: &mut [f32], row: &[f32], powers: &PowerTable, start: usize, stop: usize)
+    requires { ⌜ (now powers ≡ powerTable) × (start ≤ stop) × (stop ≤ length (now output)) × (stop + 2 ≤ start + length (now row)) ⌝ }
+    ensures { λ _. ⌜ now (output .exit) ≡ mapRange (λ b x. softened (getD (now (row .entry)) (b - start) nan) (getD (now (row .entry)) (b - start + 1) nan) (getD (now (row .entry)) (b - start + 2) nan)) start stop (now (output .entry)) ⌝ }
+{
+    let mut bin = start;
+    while bin < stop {
+        let k = bin - start;
+        output[bin] = softened(powers, row[k], row[k + 1], row[k + 2]);
+        bin += 1;
+    }
+}
+
+// Every bin but the first and the last, in rows.
 fn soften_inside(powers: &PowerTable, source: &[f32], output: &mut [f32])
     requires { ⌜ (now powers ≡ powerTable) × (length (now source) ≡ length (now output)) × (3 ≤ length (now source)) ⌝ }
     ensures { λ _. ⌜ now (output .exit) ≡ mapRange (λ b x. softenedAt (now (source .entry)) b) 1 (length (now (source .entry)) - 1) (now (output .entry)) ⌝ }
 {
     let last = source.len() - 1;
-    let mut left_db = in_decibels(powers, source[0]);
-    let mut center_db = in_decibels(powers, source[1]);
-    let mut bin: usize = 1;
-    while bin < last {
-        let right_db = in_decibels(powers, source[bin + 1]);
-        output[bin] = softened(powers, left_db, center_db, right_db);
-        left_db = center_db;
-        center_db = right_db;
-        bin += 1;
+    let mut row = [0.0f32; ROW];
+    let mut start: usize = 1;
+    while start < last {
+        let count = float32::counts::lesser(last - start, INSIDE);
+        let stop = start + count;
+        decibel_row(&mut row, source, powers, start - 1, count + 2);
+        soften_row(output, &row, powers, start, stop);
+        start = stop;
     }
 }
 
@@ -81,26 +129,50 @@ fn blend(powers: &PowerTable, elapsed_seconds: f32) -> f32
     float32::order::clamp(way, 0.0, 1.0)
 }
 
-// A gain moved toward its target by that part of the way, in decibels.
-fn toward(powers: &PowerTable, current: f32, target: f32, blend: f32) -> f32
+// The gain that part of the way from one number of decibels to another.
+fn nearer(powers: &PowerTable, current_db: f32, target_db: f32, blend: f32) -> f32
     requires { ⌜ now powers ≡ powerTable ⌝ }
-    ensures { λ r. ⌜ r ≡ toward blend current target ⌝ }
+    ensures { λ r. ⌜ r ≡ nearer blend «current_db» «target_db» ⌝ }
 {
-    let current_db = in_decibels(powers, current);
-    let target_db = in_decibels(powers, target);
     gain(powers, current_db + (target_db - current_db) * blend)
 }
 
-// The loop over the bins, for the table that `smooth` lends it.
+// The gains from `start` on, moved toward their targets by the decibels of both.
+fn move_row(
+    current: &mut [f32],
+    current_db: &[f32],
+    target_db: &[f32],
+    powers: &PowerTable,
+    blend: f32,
+    start: usize,
+    stop: usize,
+)
+    requires { ⌜ (now powers ≡ powerTable) × (start ≤ stop) × (stop ≤ length (now current)) × (stop ≤ start + length (now «current_db»)) × (stop ≤ start + length (now «target_db»)) × ((i : ℕ) → start ≤ i → i < stop → getD (now «current_db») (i - start) nan ≡ decibelsOf (getD (now current) i nan)) ⌝ }
+    ensures { λ _. ⌜ now (current .exit) ≡ mapRange (λ i x. nearer blend (decibelsOf x) (getD (now («target_db» .entry)) (i - start) nan)) start stop (now (current .entry)) ⌝ }
+{
+    let mut i = start;
+    while i < stop {
+        current[i] = nearer(powers, current_db[i - start], target_db[i - start], blend);
+        i += 1;
+    }
+}
+
+// The loop over rows of bins, for the table that `smooth` lends it.
 fn smooth_all(powers: &PowerTable, current: &mut [f32], target: &[f32], elapsed_seconds: f32)
     requires { ⌜ (now powers ≡ powerTable) × (length (now current) ≡ length (now target)) ⌝ }
     ensures { λ _. ⌜ now (current .exit) ≡ smoothedOf (now (current .entry)) (now (target .entry)) «elapsed_seconds» ⌝ }
 {
     let part = blend(powers, elapsed_seconds);
-    let mut bin: usize = 0;
-    while bin < current.len() {
-        current[bin] = toward(powers, current[bin], target[bin], part);
-        bin += 1;
+    let mut current_db = [0.0f32; ROW];
+    let mut target_db = [0.0f32; ROW];
+    let mut start: usize = 0;
+    while start < current.len() {
+        let count = float32::counts::lesser(current.len() - start, ROW);
+        let stop = start + count;
+        decibel_row(&mut current_db, current, powers, start, count);
+        decibel_row(&mut target_db, target, powers, start, count);
+        move_row(current, &current_db, &target_db, powers, part, start, stop);
+        start = stop;
     }
 }
 

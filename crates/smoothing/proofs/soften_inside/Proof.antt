@@ -1,85 +1,88 @@
--- `soften_inside` softens every bin with two neighbours: of the bins below the one at hand each is done, and the decibels carried along are its own and its left neighbour's. Assumes nothing.
+-- `soften_inside` softens every bin with two neighbours: of the bins below `start` each is done (proofs/Rows.antt). Assumes nothing.
 use mathlib.Core.Path.{_≡_}
 use mathlib.Core.Logic.{inl}
 use Prim.Native.Nat.{_+_, _-_, _≤_}
 use native.Mathlib.Omega.{arith}
 use borrow.Author.Needs.{needs}
-use lib.ListN.{getD}
+use lib.ListN.{length}
 use lib.Ieee.{nan}
-use Rattle.lists.specs.Turned.{Turned, turned-none, turned-more, turned-to}
-use Rattle.smoothing.specs.Smoothing.{decibelsOf, softened, softenedAt}
+use Rattle.lists.specs.Turned.{Turned, turned-none, turned-on, turned-to}
+use Rattle.smoothing.specs.Smoothing.{softenedAt}
+use Rattle.smoothing.proofs.Rows.{softened-inside}
 use Rattle.smoothing.proofs.soften_inside.Statement.{statement}
 use Rattle.smoothing.proofs.soften_inside.Tie as tie
 
 abbrev Inv-loop : tie.InvT-loop
-Inv-loop powers source output₀ last left-db₀ center-db₀ bin₀ output left-db center-db bin =
-    (bin ≤ last) × (left-db ≡ decibelsOf (getD source (bin - 1) nan)) × (center-db ≡ decibelsOf (getD source bin nan)) × Turned (λ b x. softenedAt source b) 1 output₀ output bin
+Inv-loop powers source output₀ last row₀ start₀ output row start = (length row ≡ 64) × (start ≤ last) × Turned (λ b x. softenedAt source b) 1 output₀ output start
 
 abbrev μ-loop : tie.MeasureT-loop
-μ-loop powers source output₀ last left-db₀ center-db₀ bin₀ output left-db center-db bin = last - bin
+μ-loop powers source output₀ last row₀ start₀ output row start = last - start
 
 sub-last : tie.Need-sub-last Inv-loop μ-loop
 sub-last c = search needs
 
-shared-slice-read-in-decibels : tie.Need-shared-slice-read-in-decibels Inv-loop μ-loop
-shared-slice-read-in-decibels c = search needs
-
-in-decibels-requires : tie.Need-in-decibels-requires Inv-loop μ-loop
-in-decibels-requires c κs = search needs
-
-shared-slice-read-in-decibels-2 : tie.Need-shared-slice-read-in-decibels-2 Inv-loop μ-loop
-shared-slice-read-in-decibels-2 c = search needs
-
-in-decibels-requires-2 : tie.Need-in-decibels-requires-2 Inv-loop μ-loop
-in-decibels-requires-2 c κs = search needs
-
 loop-holds : tie.Need-loop-holds Inv-loop μ-loop
-loop-holds c = (omega arith, c .before .before .in-decibels .ensures, c .in-decibels2 .ensures, turned-none _ _ _)
+loop-holds c = (search needs, omega arith, turned-none _ _ _)
 
-add-in-decibels : tie.Need-add-in-decibels Inv-loop μ-loop
-add-in-decibels c = search needs
+sub-lesser : tie.Need-sub-lesser Inv-loop μ-loop
+sub-lesser c = search needs
 
-mul-in-decibels : tie.Need-mul-in-decibels Inv-loop μ-loop
-mul-in-decibels c = search needs
+lesser-requires : tie.Need-lesser-requires Inv-loop μ-loop
+lesser-requires c κs = search needs
 
-shared-slice-read-in-decibels-3 : tie.Need-shared-slice-read-in-decibels-3 Inv-loop μ-loop
-shared-slice-read-in-decibels-3 c = omega arith
+add-stop : tie.Need-add-stop Inv-loop μ-loop
+add-stop c = search needs
 
-in-decibels-requires-3 : tie.Need-in-decibels-requires-3 Inv-loop μ-loop
-in-decibels-requires-3 c κs = search needs
+slice-aggregate-decibel-row : tie.Need-slice-aggregate-decibel-row Inv-loop μ-loop
+slice-aggregate-decibel-row c = search needs
 
-softened-requires : tie.Need-softened-requires Inv-loop μ-loop
-softened-requires c κs = search needs
+sub-decibel-row : tie.Need-sub-decibel-row Inv-loop μ-loop
+sub-decibel-row c = let n = c .before in n .before .before .loop .inv .2 .low
 
-mul-output : tie.Need-mul-output Inv-loop μ-loop
-mul-output c = search needs
+add-decibel-row : tie.Need-add-decibel-row Inv-loop μ-loop
+add-decibel-row c = let n = c .before in omega (arith, n .lesser .ensures)
 
-slice-write-output : tie.Need-slice-write-output Inv-loop μ-loop
-slice-write-output c = search needs
+decibel-row-requires : tie.Need-decibel-row-requires Inv-loop μ-loop
+decibel-row-requires c κs =
+    let n = c .before in
+    let l = n .before .before in
+    let s = l .before .before .before in
+    (s .pre .0, omega (arith, n .lesser .ensures, l .loop .inv .0), omega (arith, n .lesser .ensures, s .pre .2, l .loop .inv .1, l .loop .inv .2 .low))
 
-add-bin : tie.Need-add-bin Inv-loop μ-loop
-add-bin c = search needs
+slice-aggregate-soften-row : tie.Need-slice-aggregate-soften-row Inv-loop μ-loop
+slice-aggregate-soften-row c = search needs
+
+soften-row-requires : tie.Need-soften-row-requires Inv-loop μ-loop
+soften-row-requires c κs =
+    let d = c .before .before .before in
+    let n = d .before .before in
+    let l = n .before .before in
+    let s = l .before .before .before in (
+      s .pre .0,
+      omega arith,
+      omega (arith, n .lesser .ensures, s .pre .1, s .pre .2, l .loop .inv .1, l .loop .inv .2 .len),
+      omega (arith, n .lesser .ensures, l .loop .inv .0, d .decibel-row .kept .0),
+    )
 
 loop-less : tie.Need-loop-less Inv-loop μ-loop
-loop-less c = omega arith
+loop-less c = let n = c .before .before .before .before .before .before .before .before in omega (arith, n .lesser .ensures)
 
 loop-again : tie.Need-loop-again Inv-loop μ-loop
 loop-again c =
-    let l = c .before .before .before .before .loop in
-    let s = c .before .before .before .before .before .before .before .before .before .before .before .args .source .now in
-    let own : l .bin + 1 - 1 ≡ l .bin = omega arith in
-    let right = c .before .in-decibels3 .ensures in (
-      omega arith,
-      rw own (l .inv .2),
-      right,
-      turned-more nan (l .inv .3) (omega arith) (rw (← l .inv .1, ← l .inv .2, ← right) (c .softened .ensures)),
-    )
+    let r = c .before .before in
+    let d = r .before .before .before .before in
+    let n = d .before .before in
+    let l = n .before .before in
+    let a = l .before .before .before .args in
+    let room : n .lesser .result + 2 ≤ length (l .loop .row) = omega (arith, n .lesser .ensures, l .loop .inv .0) in
+    let e = softened-inside (l .loop .start) (n .lesser .result) (a .source .now) (l .loop .row) (l .loop .output) (l .loop .inv .2 .low) room (d .decibel-row .ensures) (r .soften-row .ensures) in
+    (search needs, omega (arith, n .lesser .ensures, l .loop .inv .1), turned-on nan _ (l .loop .inv .2) (omega arith) e)
 
 same-length : tie.Need-same-length Inv-loop μ-loop
-same-length c = c .before .loop .inv .3 .len
+same-length c = c .before .loop .inv .2 .len
 
 returns : tie.Need-returns Inv-loop μ-loop
-returns c = turned-to _ (c .before .loop .inv .3) (inl (c .before .loop .inv .0)) (omega arith)
+returns c = turned-to _ (c .before .loop .inv .2) (inl (c .before .loop .inv .1)) (omega arith)
 
 pub soften-inside-spec : {M : Type 1} → statement M
 soften-inside-spec =
@@ -88,19 +91,16 @@ soften-inside-spec =
     Inv-loop
     μ-loop
     sub-last
-    shared-slice-read-in-decibels
-    in-decibels-requires
-    shared-slice-read-in-decibels-2
-    in-decibels-requires-2
     loop-holds
-    add-in-decibels
-    mul-in-decibels
-    shared-slice-read-in-decibels-3
-    in-decibels-requires-3
-    softened-requires
-    mul-output
-    slice-write-output
-    add-bin
+    sub-lesser
+    lesser-requires
+    add-stop
+    slice-aggregate-decibel-row
+    sub-decibel-row
+    add-decibel-row
+    decibel-row-requires
+    slice-aggregate-soften-row
+    soften-row-requires
     loop-less
     loop-again
     same-length
