@@ -12,9 +12,7 @@ ghost use Rattle.float32.specs.Order as order;
 ghost use Rattle.float32.specs.Powers.{fifth};
 ghost use Rattle.float32.specs.Remainder.{zero, one, half};
 ghost use Rattle.power.specs.Table.{powerTable};
-ghost use Rattle.power.specs.Decimal as decimal;
 ghost use Rattle.sine.specs.Table.{sineTable};
-ghost use Rattle.sine.specs.Sine.{cosOf};
 ghost use Rattle.motion.specs.Shapes.{ripple, harmonic, drift, windowExponent, window, saw};
 ghost use Rattle.motion_rows.specs.Rows.{shaped};
 use float32::constants::TAU;
@@ -23,11 +21,11 @@ use float32::powers::powi5;
 use motion::shapes::drift;
 use motion::shapes::saw;
 use motion::shapes::window_exponent;
-use power::decimal::exp;
+use power::exp2_rows::exp_row;
 use power::table::PowerTable;
 use scene::MotionConfig;
 use scene::MotionShape;
-use sine::cos;
+use sine::rows::cos_row;
 use sine::table::SineTable;
 
 fn angles(row: &mut [f32], size: f32, phase: f32, count: usize)
@@ -37,17 +35,6 @@ fn angles(row: &mut [f32], size: f32, phase: f32, count: usize)
     let mut k: usize = 0;
     while k < count {
         row[k] = TAU * (row[k] / size - phase);
-        k += 1;
-    }
-}
-
-fn cosines(row: &mut [f32], sines: &SineTable, count: usize)
-    requires { ⌜ (now sines ≡ sineTable) × (count ≤ length (now row)) ⌝ }
-    ensures { λ _. ⌜ now (row .exit) ≡ mapRange (λ k angle. cosOf angle) 0 count (now (row .entry)) ⌝ }
-{
-    let mut k: usize = 0;
-    while k < count {
-        row[k] = cos(sines, row[k]);
         k += 1;
     }
 }
@@ -68,7 +55,7 @@ fn ripples(row: &mut [f32], sines: &SineTable, size: f32, phase: f32, count: usi
     ensures { λ _. ⌜ now (row .exit) ≡ mapRange (λ k x. ripple x size phase) 0 count (now (row .entry)) ⌝ }
 {
     angles(row, size, phase, count);
-    cosines(row, sines, count);
+    cos_row(row, sines, count);
     crests(row, count);
 }
 
@@ -113,23 +100,12 @@ fn window_exponents(row: &mut [f32], size: f32, phase: f32, count: usize)
     }
 }
 
-fn exponentials(row: &mut [f32], powers: &PowerTable, count: usize)
-    requires { ⌜ (now powers ≡ powerTable) × (count ≤ length (now row)) ⌝ }
-    ensures { λ _. ⌜ now (row .exit) ≡ mapRange (λ k y. decimal.exp y) 0 count (now (row .entry)) ⌝ }
-{
-    let mut k: usize = 0;
-    while k < count {
-        row[k] = exp(powers, row[k]);
-        k += 1;
-    }
-}
-
 fn windows(row: &mut [f32], powers: &PowerTable, size: f32, phase: f32, count: usize)
     requires { ⌜ (now powers ≡ powerTable) × (count ≤ length (now row)) ⌝ }
     ensures { λ _. ⌜ now (row .exit) ≡ mapRange (λ k x. window x size phase) 0 count (now (row .entry)) ⌝ }
 {
     window_exponents(row, size, phase, count);
-    exponentials(row, powers, count);
+    exp_row(row, powers, count);
 }
 
 fn complements(row: &mut [f32], count: usize)
