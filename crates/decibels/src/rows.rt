@@ -10,8 +10,8 @@ ghost use Rattle.power.specs.Table.{powerTable};
 ghost use Rattle.decibels.specs.Gain.{DECIBELS-PER-DECADE, gainOf};
 use crate::DECIBELS_PER_DECADE;
 use crate::gain;
-use power::exp2_rows::pow10_row;
 use power::table::PowerTable;
+use power_rows::exp2::pow10_row;
 use slices::fill_first;
 
 fn decades(row: &mut [f32], count: usize)

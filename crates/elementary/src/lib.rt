@@ -62,12 +62,12 @@ pub fn apply(function: Function, xs: &mut [f32])
     let sines = sine::table::sine_table();
     let count = xs.len();
     match function {
-        Function::Exp2 => power::exp2_rows::exp2_row(xs, &powers, count),
-        Function::Log2 => power::rows::log2_row(xs, &powers, count),
-        Function::Sin => sine::rows::sin_row(xs, &sines, count),
-        Function::Cos => sine::rows::cos_row(xs, &sines, count),
-        Function::Pow10 => power::exp2_rows::pow10_row(xs, &powers, count),
-        Function::Exp => power::exp2_rows::exp_row(xs, &powers, count),
+        Function::Exp2 => power_rows::exp2::exp2_row(xs, &powers, count),
+        Function::Log2 => power_rows::log2::log2_row(xs, &powers, count),
+        Function::Sin => sine_rows::sin_row(xs, &sines, count),
+        Function::Cos => sine_rows::cos_row(xs, &sines, count),
+        Function::Pow10 => power_rows::exp2::pow10_row(xs, &powers, count),
+        Function::Exp => power_rows::exp2::exp_row(xs, &powers, count),
         _ => apply_one_by_one(function, &powers, &sines, xs),
     }
 }

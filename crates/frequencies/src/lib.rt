@@ -48,7 +48,7 @@ fn fill_all(powers: &PowerTable, table: &mut [f32], sample_rate: f32, fft_size: 
     let spacing = bin_hz(sample_rate, fft_size);
     fill_hertz(table, spacing);
     let count = table.len();
-    power::rows::log2_row(table, powers, count);
+    power_rows::log2::log2_row(table, powers, count);
 }
 
 // Fills the table, from bin 0 on.

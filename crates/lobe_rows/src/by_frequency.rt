@@ -17,9 +17,9 @@ use frequencies::rows::ratios;
 use lobes::Grid;
 use lobes::Lobe;
 use lobes::distances::in_widths;
-use power::exp2_rows::exp_row;
-use power::rows::log2_row;
 use power::table::PowerTable;
+use power_rows::exp2::exp_row;
+use power_rows::log2::log2_row;
 
 const MINUS_HALF: f32 = -0.5;
 

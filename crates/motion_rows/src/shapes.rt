@@ -21,12 +21,12 @@ use float32::powers::powi5;
 use motion::shapes::drift;
 use motion::shapes::saw;
 use motion::shapes::window_exponent;
-use power::exp2_rows::exp_row;
 use power::table::PowerTable;
+use power_rows::exp2::exp_row;
 use scene::MotionConfig;
 use scene::MotionShape;
-use sine::rows::cos_row;
 use sine::table::SineTable;
+use sine_rows::cos_row;
 
 fn angles(row: &mut [f32], size: f32, phase: f32, count: usize)
     requires { ⌜ count ≤ length (now row) ⌝ }

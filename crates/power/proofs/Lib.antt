@@ -17,7 +17,5 @@ pub mod LogParts
 pub mod LogMade
 pub mod LogRising
 pub mod LogRange
-pub mod Ready
 pub mod LogComputed
 pub mod Bases
-pub mod Exp2Staged

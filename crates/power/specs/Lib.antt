@@ -4,4 +4,3 @@ pub mod Power
 pub mod Log
 pub mod Stages
 pub mod Decimal
-pub mod Exp2Rows

@@ -10,19 +10,19 @@ use float32::fixed::near_steps;
 use float32::order::abs;
 use float32::order::in_range;
 
-pub(crate) const LARGEST: f32 = 3.4028235e38;
+pub const LARGEST: f32 = 3.4028235e38;
 
 // Below LOWEST the power is 0, and from LIMIT on LARGEST. Up to HIGHEST_NEAR the sum of `near_steps` serves.
-pub(crate) const LOWEST: f32 = -126.0;
+pub const LOWEST: f32 = -126.0;
 
 const HIGHEST_NEAR: f32 = 126.0;
 
-pub(crate) const LIMIT: f32 = 128.0;
+pub const LIMIT: f32 = 128.0;
 
 // What `near_steps` and `far_steps` move x up by beyond 128, in steps: 896 * 2^24 and 8388480 * 2^24.
 const NEAR_MORE: u64 = 15032385536;
 
-pub(crate) const FAR_MORE: u64 = 140735340871680;
+pub const FAR_MORE: u64 = 140735340871680;
 
 // The power whose exponent, moved up by 128, is y steps of 2^-24: y has the whole part above 24 bits of fraction, F.
 fn power_of_steps(powers: &PowerTable, y: u64) -> f32

@@ -10,7 +10,7 @@ use crate::table::PowerTable;
 use crate::table::entry;
 use crate::table::power;
 
-pub(crate) const LEAST_NORMAL: f32 = 1.1754944e-38;
+pub const LEAST_NORMAL: f32 = 1.1754944e-38;
 
 // From 4 to 8 the digits of an f64 end at 2^-50, and SIX less a part of up to 1 is there.
 const SIX: f64 = 6.0;
@@ -48,7 +48,7 @@ fn digits(v: f32) -> u32
 }
 
 // The step of the table that v's digits lie in.
-pub(crate) fn step(powers: &PowerTable, v: f32) -> u32
+pub fn step(powers: &PowerTable, v: f32) -> u32
     requires { ⌜ (now powers ≡ powerTable) × T (positiveNormal v) ⌝ }
     ensures { λ r. ⌜ r ≡ stepOf v ⌝ }
 {
@@ -77,7 +77,7 @@ fn find(powers: &PowerTable, h: u32, t: u32) -> u32
 }
 
 // The logarithm of a positive normal v, whose step is h.
-pub(crate) fn log_in_step(powers: &PowerTable, v: f32, h: u32) -> f32
+pub fn log_in_step(powers: &PowerTable, v: f32, h: u32) -> f32
     requires { ⌜ (now powers ≡ powerTable) × T (positiveNormal v) × (h ≡ stepOf v) ⌝ }
     ensures { λ r. ⌜ r ≡ L2 v ⌝ }
 {

@@ -34,7 +34,7 @@ pub(crate) fn power(powers: &PowerTable, j: usize) -> u64
 }
 
 // I(F): the line between two entries that stand side by side, rounded down.
-pub(crate) fn interpolate(powers: &PowerTable, f: u64) -> u64
+pub fn interpolate(powers: &PowerTable, f: u64) -> u64
     requires { ⌜ (now powers ≡ powerTable) × (f < 2 ^ 24) ⌝ }
     ensures { λ r. ⌜ r ≡ I f ⌝ }
 {

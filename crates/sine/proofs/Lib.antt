@@ -3,8 +3,6 @@ pub mod Places
 pub mod WholeTurns
 pub mod Waves
 pub mod Signed
-pub mod Stepped
-pub mod StagedWaves
 pub mod Chord
 pub mod Circle
 pub mod Range

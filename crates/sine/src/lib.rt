@@ -13,7 +13,6 @@ use turns::QUARTER;
 use turns::place_in_turn;
 use wave::wave_at;
 
-pub mod rows;
 pub mod table;
 pub mod turns;
 pub mod wave;

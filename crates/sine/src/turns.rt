@@ -51,7 +51,7 @@ pub fn place_in_turn(angle: f32) -> u64
 }
 
 // The same, `ahead` of the angle and without a branch, so that a loop over angles is done for several at once.
-pub(crate) fn place_ahead(angle: f32, ahead: u64) -> u32
+pub fn place_ahead(angle: f32, ahead: u64) -> u32
     requires { ⌜ ahead ≤ 2 ^ 22 ⌝ }
     ensures { λ r. ⌜ r ≡ placeAhead ahead angle ⌝ }
 {

@@ -18,7 +18,7 @@ use super::turns::QUARTER;
 const LAST_ENTRY: u64 = 1073741824;
 
 // R[j]
-pub(crate) fn entry(sines: &SineTable, j: usize) -> u64
+pub fn entry(sines: &SineTable, j: usize) -> u64
     requires { ⌜ (now sines ≡ sineTable) × (j < 257) ⌝ }
     ensures { λ r. ⌜ r ≡ R j ⌝ }
 {
@@ -64,7 +64,7 @@ fn signed(negative: bool, w: u32) -> i32
 }
 
 // w / 2^24, negative in the quarters 2 and 3, but for zero.
-pub(crate) fn level(place: u32, w: u32) -> f32
+pub fn level(place: u32, w: u32) -> f32
     requires { ⌜ w ≤ 16777216 ⌝ }
     ensures { λ r. ⌜ r ≡ levelAt place w ⌝ }
 {

@@ -62,7 +62,7 @@ fn decibel_row(row: &mut [f32], gains: &[f32], powers: &PowerTable, start: usize
     ensures { λ _. ⌜ now (row .exit) ≡ mapRange (λ k held. decibelsOf (getD (now (gains .entry)) (start + k) nan)) 0 count (now (row .entry)) ⌝ }
 {
     audible(row, gains, start, count);
-    power::rows::log2_row(row, powers, count);
+    power_rows::log2::log2_row(row, powers, count);
     scaled(row, count);
 }
 

@@ -1,0 +1,69 @@
+-- The numbers that the rows' first stage leaves: each is positive and normal, and has the logarithm of the number that stood there, since 1 has that of the numbers without one, 0.
+-- Assumes nothing.
+use mathlib.Core.Path.{_≡_, refl, sym, ap, _∙_, subst}
+use mathlib.Core.Bool.{Bool, true, false, cond}
+use mathlib.Core.List.{List}
+use Prim.Native.Nat.{ℕ, _+_, _-_, _*_, _^_, _≤_, _<_}
+use native.Mathlib.Omega.{arith}
+use lib.Count.{trailingZeros}
+use lib.Dec.{T, lit≤}
+use lib.ListN.{length, getD}
+use lib.Ieee.{Float, nan, le, ofBits, round, size, span, climb, units, odd}
+use lib.Ieee.Exact.{HasValue}
+use Rattle.lists.specs.Maps.{mapRange, between-in, getD-mapRange}
+use Rattle.lists.specs.Stages.{row-at, stages, stage-same}
+use Rattle.float32.specs.Remainder.{one}
+use Rattle.power.specs.Power.{positiveZero}
+use Rattle.power.specs.Log.{positiveNormal, rounded, L2}
+use Rattle.power.specs.Stages.{stepOf}
+use Rattle.power_rows.specs.Log2.{readyOf}
+use Rattle.power.proofs.Logs.{L2-elsewhere}
+use Rattle.power.proofs.LogRange.{L2-of-power}
+
+one-normal : T (positiveNormal one)
+unfolding le ofBits
+one-normal = tt
+
+one-value : HasValue one false (2 ^ 23 * 2 ^ 126) (2 ^ 149)
+unfolding ofBits
+one-value = (refl, refl)
+
+none : rounded (126 * 2 ^ 24) ≡ positiveZero
+unfolding rounded round size span climb units odd trailingZeros
+none = refl
+
+one-log : L2 one ≡ positiveZero
+one-log = L2-of-power one 126 (lit≤ tt) one-value ∙ none
+
+pub ready-normal : (v : Float) → T (positiveNormal (readyOf v))
+ready-normal v = go (positiveNormal v) refl
+  where
+    go : (b : Bool) → positiveNormal v ≡ b → T (positiveNormal (cond b v one))
+    go true e = subst T (sym e) tt
+    go false e = one-normal
+
+pub ready-log : (v : Float) → L2 (readyOf v) ≡ L2 v
+ready-log v = go (positiveNormal v) refl
+  where
+    go : (b : Bool) → positiveNormal v ≡ b → L2 (cond b v one) ≡ L2 v
+    go true e = refl
+    go false e = one-log ∙ sym (L2-elsewhere v e)
+
+-- ---- what the stages leave at the numbers from start on and below stop
+pub ready-at : (start stop : ℕ) (xs ys : List Float) → stop ≤ length xs → ys ≡ mapRange (λ i v. readyOf v) start stop xs → (i : ℕ) → start ≤ i → i < stop → T (positiveNormal (getD ys i nan))
+ready-at start stop xs ys room e i l u =
+    subst (λ (v : Float). T (positiveNormal v))
+    (sym (ap (λ (zs : List Float). getD zs i nan) e ∙ getD-mapRange (λ i v. readyOf v) start stop xs i nan (omega arith) ∙ between-in (λ i v. readyOf v) start stop i (getD xs i nan) l u))
+    (ready-normal (getD xs i nan))
+
+pub step-at : (start stop : ℕ) (row : List Float) (before : List ℕ) {steps : List ℕ} → stop ≤ start + length before
+    → steps ≡ mapRange (λ k held. stepOf (getD row (start + k) nan)) 0 (stop - start) before
+    → (i : ℕ) → start ≤ i → i < stop → getD steps (i - start) 0 ≡ stepOf (getD row i nan)
+step-at start stop row before room e i l u =
+    let z : start + (i - start) ≡ i = omega arith in
+    row-at 0 (λ k. stepOf (getD row (start + k) nan)) (stop - start) before (omega arith) e (i - start) (omega arith) ∙ ap (λ (j : ℕ). stepOf (getD row j nan)) z
+
+pub logs-staged : (start stop : ℕ) (xs : List Float) → mapRange (λ i v. L2 v) start stop (mapRange (λ i v. readyOf v) start stop xs) ≡ mapRange (λ i v. L2 v) start stop xs
+logs-staged start stop xs =
+    stages (λ i v. L2 v) (λ i v. readyOf v) start stop xs
+    ∙ stage-same (λ i v. L2 (readyOf v)) (λ i v. L2 v) start stop xs (λ i v l u. ready-log v)

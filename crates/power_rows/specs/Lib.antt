@@ -1,0 +1,2 @@
+pub mod Exp2
+pub mod Log2
