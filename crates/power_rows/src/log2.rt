@@ -90,11 +90,13 @@ pub fn log2_row(row: &mut [f32], powers: &PowerTable, count: usize)
     requires { ⌜ (now powers ≡ powerTable) × (count ≤ length (now row)) ⌝ }
     ensures { λ _. ⌜ now (row .exit) ≡ mapRange (λ k v. L2 v) 0 count (now (row .entry)) ⌝ }
 {
+    // A table of its own is none that a store to the row could change, so that the compiler may read it for several numbers at once.
+    let own = *powers;
     let mut steps = [0u32; PART];
     let mut start: usize = 0;
     while start < count {
         let stop = part_end(start, count);
-        log2_part(row, &mut steps, powers, start, stop);
+        log2_part(row, &mut steps, &own, start, stop);
         start = stop;
     }
 }

@@ -12,10 +12,10 @@ use Rattle.power_rows.proofs.log2.log2_row.Statement.{statement}
 use Rattle.power_rows.proofs.log2.log2_row.Tie as tie
 
 abbrev Inv-loop : tie.InvT-loop
-Inv-loop row₀ powers count steps₀ start₀ row steps start = (length steps ≡ 64) × (start ≤ count) × Turned (λ k v. L2 v) 0 row₀ row start
+Inv-loop row₀ powers count own steps₀ start₀ row steps start = (length steps ≡ 64) × (start ≤ count) × Turned (λ k v. L2 v) 0 row₀ row start
 
 abbrev μ-loop : tie.MeasureT-loop
-μ-loop row₀ powers count steps₀ start₀ row steps start = count - start
+μ-loop row₀ powers count own steps₀ start₀ row steps start = count - start
 
 loop-holds : tie.Need-loop-holds Inv-loop μ-loop
 loop-holds c = (search needs, omega arith, turned-none _ _ _)
@@ -28,9 +28,9 @@ slice-aggregate-log2-part c = search needs
 
 log2-part-requires : tie.Need-log2-part-requires Inv-loop μ-loop
 log2-part-requires c κs =
-    let p = c .before .before in
+    let p = c .before .before .before in
     let l = p .before .before in
-    let s = l .before .before in (
+    let s = l .before .before .before in (
       s .pre .0,
       omega (arith, p .part-end .ensures),
       omega (arith, p .part-end .ensures, s .pre .1, l .loop .inv .2 .len),
@@ -38,12 +38,12 @@ log2-part-requires c κs =
     )
 
 loop-less : tie.Need-loop-less Inv-loop μ-loop
-loop-less c = let p = c .before .before .before .before .before .before in omega (arith, p .part-end .ensures)
+loop-less c = let p = c .before .before .before .before .before .before .before in omega (arith, p .part-end .ensures)
 
 loop-again : tie.Need-loop-again Inv-loop μ-loop
 loop-again c =
     let r = c .before .before .before in
-    let p = r .before .before .before in
+    let p = r .before .before .before .before in
     let l = p .before .before in
     (search needs, omega (arith, p .part-end .ensures), turned-on nan _ (l .loop .inv .2) (omega (arith, p .part-end .ensures)) (r .log2-part .ensures))
 
