@@ -6,3 +6,4 @@ pub mod Compensated
 pub mod Accepted
 pub mod ZeroSigns
 pub mod StagedField
+pub mod Layered

@@ -3,3 +3,4 @@ pub mod Field
 pub mod Compensation
 pub mod Octaves
 pub mod Rows
+pub mod Layers

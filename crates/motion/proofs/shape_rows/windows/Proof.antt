@@ -9,8 +9,8 @@ use Rattle.motion.proofs.shape_rows.windows.Tie as tie
 window-exponents-requires : tie.Need-window-exponents-requires
 window-exponents-requires c κs = search needs
 
-exponentials-requires : tie.Need-exponentials-requires
-exponentials-requires c κs = search needs
+exp-row-requires : tie.Need-exp-row-requires
+exp-row-requires c κs = search needs
 
 same-length : tie.Need-same-length
 same-length c = search needs
@@ -19,9 +19,9 @@ returns : tie.Need-returns
 unfolding window
 returns c =
     let f = c .before .before .before .before .before .before in
-    let e = rw (f .window-exponents .ensures) at (c .before .before .exponentials .ensures) in
+    let e = rw (f .window-exponents .ensures) at (c .before .before .exp-row .ensures) in
     e ∙ stages _ _ 0 _ _
 
 pub windows-spec : {M : Type 1} → statement M
 windows-spec =
-    tie.close (tie.spec window-exponents-requires exponentials-requires same-length returns)
+    tie.close (tie.spec window-exponents-requires exp-row-requires same-length returns)
