@@ -4,6 +4,7 @@ ghost use mathlib.Core.Path.{_≡_};
 ghost use Rattle.power.specs.Table.{powerTable};
 ghost use Rattle.sine.specs.Table.{sineTable};
 ghost use Rattle.motion.specs.Shapes.{ripple, harmonic, drift, window, windowExponent, saw};
+ghost use Rattle.motion.specs.Layers.{broadAngle, middleAngle, detailAngle, layered};
 use float32::constants::TAU;
 use float32::order::abs;
 use float32::order::clamp;
@@ -41,16 +42,40 @@ pub(crate) fn harmonic(sines: &SineTable, x: f32, size: f32, phase: f32) -> f32
     powi5(ripple(sines, x, size, phase))
 }
 
-// Three waves. Whole multiples of the phase keep the field continuous where the phase begins anew, and the unrelated
-// sizes keep the waves from looking like one repeating comb.
-pub fn drift(sines: &SineTable, x: f32, size: f32, phase: f32) -> f32
+// The angles of Drift's three waves. Whole multiples of the phase keep the field continuous where the phase begins anew, and the unrelated sizes keep the waves from looking like one
+// repeating comb.
+pub fn broad_angle(x: f32, size: f32, phase: f32) -> f32
+    ensures { λ r. ⌜ r ≡ broadAngle x size phase ⌝ }
+{
+    TAU * (x / (size * 2.7) - phase)
+}
+
+pub fn middle_angle(x: f32, size: f32, phase: f32) -> f32
+    ensures { λ r. ⌜ r ≡ middleAngle x size phase ⌝ }
+{
+    TAU * (x / (size * 1.13) + phase * 2.0 + 0.19)
+}
+
+pub fn detail_angle(x: f32, size: f32, phase: f32) -> f32
+    ensures { λ r. ⌜ r ≡ detailAngle x size phase ⌝ }
+{
+    TAU * (x / (size * 0.53) - phase * 3.0 + 0.61)
+}
+
+pub fn layered(broad: f32, middle: f32, detail: f32) -> f32
+    ensures { λ r. ⌜ r ≡ layered broad middle detail ⌝ }
+{
+    clamp(0.5 + 0.25 * broad + 0.17 * middle + 0.08 * detail, 0.0, 1.0)
+}
+
+pub(crate) fn drift(sines: &SineTable, x: f32, size: f32, phase: f32) -> f32
     requires { ⌜ now sines ≡ sineTable ⌝ }
     ensures { λ r. ⌜ r ≡ drift x size phase ⌝ }
 {
-    let broad = sin(sines, TAU * (x / (size * 2.7) - phase));
-    let middle = sin(sines, TAU * (x / (size * 1.13) + phase * 2.0 + 0.19));
-    let detail = sin(sines, TAU * (x / (size * 0.53) - phase * 3.0 + 0.61));
-    clamp(0.5 + 0.25 * broad + 0.17 * middle + 0.08 * detail, 0.0, 1.0)
+    let broad = sin(sines, broad_angle(x, size, phase));
+    let middle = sin(sines, middle_angle(x, size, phase));
+    let detail = sin(sines, detail_angle(x, size, phase));
+    layered(broad, middle, detail)
 }
 
 // A bell around the place that the phase names, the ends of the display being joined: what Scan opens and Notch shuts.

@@ -1,1 +1,2 @@
 pub mod StagedField
+pub mod Layered

@@ -3,9 +3,9 @@
 // Method. The shape is asked for once, and then one short loop follows the other over the row: angles, cosines, crests. A loop without a table lookup is done for several
 // entries at once.
 ghost use mathlib.Core.Path.{_≡_};
-ghost use Prim.Native.Nat.{_≤_};
-ghost use lib.ListN.{length};
-ghost use lib.Ieee.{binary32, add, sub, mul, div};
+ghost use Prim.Native.Nat.{ℕ, _+_, _≤_, _<_};
+ghost use lib.ListN.{length, getD};
+ghost use lib.Ieee.{nan, binary32, add, sub, mul, div};
 ghost use Rattle.lists.specs.Maps.{mapRange};
 ghost use Rattle.float32.specs.Constants as constants;
 ghost use Rattle.float32.specs.Order as order;
@@ -14,11 +14,16 @@ ghost use Rattle.float32.specs.Remainder.{zero, one, half};
 ghost use Rattle.power.specs.Table.{powerTable};
 ghost use Rattle.sine.specs.Table.{sineTable};
 ghost use Rattle.motion.specs.Shapes.{ripple, harmonic, drift, windowExponent, window, saw};
+ghost use Rattle.motion.specs.Layers.{broadAngle, middleAngle, detailAngle, layered};
 ghost use Rattle.motion_rows.specs.Rows.{shaped};
 use float32::constants::TAU;
+use float32::counts::lesser;
 use float32::order::clamp;
 use float32::powers::powi5;
-use motion::shapes::drift;
+use motion::shapes::broad_angle;
+use motion::shapes::detail_angle;
+use motion::shapes::layered;
+use motion::shapes::middle_angle;
 use motion::shapes::saw;
 use motion::shapes::window_exponent;
 use power::table::PowerTable;
@@ -27,6 +32,7 @@ use scene::MotionConfig;
 use scene::MotionShape;
 use sine::table::SineTable;
 use sine_rows::cos_row;
+use sine_rows::sin_row;
 
 fn angles(row: &mut [f32], size: f32, phase: f32, count: usize)
     requires { ⌜ count ≤ length (now row) ⌝ }
@@ -78,14 +84,96 @@ fn harmonics(row: &mut [f32], sines: &SineTable, size: f32, phase: f32, count: u
     fifth_powers(row, count);
 }
 
+// The angles of Drift's three waves at the places from `start` on.
+fn layer_angles(
+    row: &[f32],
+    broad: &mut [f32],
+    middle: &mut [f32],
+    detail: &mut [f32],
+    size: f32,
+    phase: f32,
+    start: usize,
+    count: usize,
+)
+    requires { ⌜ (start + count ≤ length (now row)) × (count ≤ length (now broad)) × (count ≤ length (now middle)) × (count ≤ length (now detail)) ⌝ }
+    ensures { λ _. ⌜ (now (broad .exit) ≡ mapRange (λ k held. broadAngle (getD (now (row .entry)) (start + k) nan) size phase) 0 count (now (broad .entry))) × (now (middle .exit) ≡ mapRange (λ k held. middleAngle (getD (now (row .entry)) (start + k) nan) size phase) 0 count (now (middle .entry))) × (now (detail .exit) ≡ mapRange (λ k held. detailAngle (getD (now (row .entry)) (start + k) nan) size phase) 0 count (now (detail .entry))) ⌝ }
+{
+    let mut k: usize = 0;
+    while k < count {
+        let x = row[start + k];
+        broad[k] = broad_angle(x, size, phase);
+        middle[k] = middle_angle(x, size, phase);
+        detail[k] = detail_angle(x, size, phase);
+        k += 1;
+    }
+}
+
+// The waves joined, in the room of their places.
+fn layers(
+    row: &mut [f32],
+    broad: &[f32],
+    middle: &[f32],
+    detail: &[f32],
+    size: f32,
+    phase: f32,
+    start: usize,
+    count: usize,
+)
+    requires { ⌜ (start + count ≤ length (now row)) × (count ≤ length (now broad)) × (count ≤ length (now middle)) × (count ≤ length (now detail)) × ((k : ℕ) → k < count → layered (getD (now broad) k nan) (getD (now middle) k nan) (getD (now detail) k nan) ≡ drift (getD (now row) (start + k) nan) size phase) ⌝ }
+    ensures { λ _. ⌜ now (row .exit) ≡ mapRange (λ i x. drift x size phase) start (start + count) (now (row .entry)) ⌝ }
+{
+    let next = start + count;
+    let mut i = start;
+    while i < next {
+        row[i] = layered(broad[i - start], middle[i - start], detail[i - start]);
+        i += 1;
+    }
+}
+
+// The drift at the places from `start` on, as many as there is room for in what is lent.
+fn few_drifts(
+    row: &mut [f32],
+    broad: &mut [f32],
+    middle: &mut [f32],
+    detail: &mut [f32],
+    sines: &SineTable,
+    size: f32,
+    phase: f32,
+    start: usize,
+    count: usize,
+)
+    requires { ⌜ (now sines ≡ sineTable) × (start + count ≤ length (now row)) × (count ≤ length (now broad)) × (count ≤ length (now middle)) × (count ≤ length (now detail)) ⌝ }
+    ensures { λ _. ⌜ now (row .exit) ≡ mapRange (λ i x. drift x size phase) start (start + count) (now (row .entry)) ⌝ }
+{
+    layer_angles(row, broad, middle, detail, size, phase, start, count);
+    sin_row(broad, sines, count);
+    sin_row(middle, sines, count);
+    sin_row(detail, sines, count);
+    layers(row, broad, middle, detail, size, phase, start, count);
+}
+
 fn drifts(row: &mut [f32], sines: &SineTable, size: f32, phase: f32, count: usize)
     requires { ⌜ (now sines ≡ sineTable) × (count ≤ length (now row)) ⌝ }
     ensures { λ _. ⌜ now (row .exit) ≡ mapRange (λ k x. drift x size phase) 0 count (now (row .entry)) ⌝ }
 {
-    let mut k: usize = 0;
-    while k < count {
-        row[k] = drift(sines, row[k], size, phase);
-        k += 1;
+    let mut broad = [0.0f32; 64];
+    let mut middle = [0.0f32; 64];
+    let mut detail = [0.0f32; 64];
+    let mut start: usize = 0;
+    while start < count {
+        let few = lesser(count - start, 64);
+        few_drifts(
+            row,
+            &mut broad,
+            &mut middle,
+            &mut detail,
+            sines,
+            size,
+            phase,
+            start,
+            few,
+        );
+        start += few;
     }
 }
 

@@ -1,47 +1,64 @@
--- `drifts` replaces the first `count` entries: of those below k each is the drift at its place. Assumes nothing.
+-- `drifts` walks along the row: the places below `start` are done. Assumes nothing.
+use mathlib.Core.Path.{_≡_, refl, sym, subst}
 use mathlib.Core.Logic.{inl}
-use Prim.Native.Nat.{_-_, _≤_}
+use mathlib.Core.List.{List}
+use Prim.Native.Nat.{_+_, _-_, _≤_}
 use native.Mathlib.Omega.{arith}
-use lib.Ieee.{nan}
+use lib.ListN.{length}
+use lib.Ieee.{Float}
 use Rattle.lists.specs.Turned.{Turned, turned-none, turned-to}
-use Rattle.lists.specs.Stages.{turned-held}
+use Rattle.lists.specs.Runs.{turned-part}
 use Rattle.motion.specs.Shapes.{drift}
 use borrow.Author.Needs.{needs}
 use Rattle.motion_rows.proofs.shapes.drifts.Statement.{statement}
 use Rattle.motion_rows.proofs.shapes.drifts.Tie as tie
 
 abbrev Inv-loop : tie.InvT-loop
-Inv-loop row₀ sines size phase count k₀ row k = Turned (λ k x. drift x size phase) 0 row₀ row k × (k ≤ count)
+Inv-loop row₀ sines size phase count broad₀ middle₀ detail₀ start₀ row broad middle detail start =
+    Turned (λ i x. drift x size phase) 0 row₀ row start × (start ≤ count) × (length broad ≡ 64) × (length middle ≡ 64) × (length detail ≡ 64)
 
 abbrev μ-loop : tie.MeasureT-loop
-μ-loop row₀ sines size phase count k₀ row k = count - k
+μ-loop row₀ sines size phase count broad₀ middle₀ detail₀ start₀ row broad middle detail start = count - start
 
 loop-holds : tie.Need-loop-holds Inv-loop μ-loop
-loop-holds c = (turned-none _ _ _, omega arith)
+loop-holds c = (turned-none _ _ _, omega arith, refl, refl, refl)
 
-mul-drift : tie.Need-mul-drift Inv-loop μ-loop
-mul-drift c = search needs
+sub-lesser : tie.Need-sub-lesser Inv-loop μ-loop
+sub-lesser c = search needs
 
-slice-read-drift : tie.Need-slice-read-drift Inv-loop μ-loop
-slice-read-drift c = search needs
+lesser-requires : tie.Need-lesser-requires Inv-loop μ-loop
+lesser-requires c κs = search needs
 
-drift-requires : tie.Need-drift-requires Inv-loop μ-loop
-drift-requires c κs = search needs
+slice-aggregate-few-drifts : tie.Need-slice-aggregate-few-drifts Inv-loop μ-loop
+slice-aggregate-few-drifts c = search needs
 
-mul-row : tie.Need-mul-row Inv-loop μ-loop
-mul-row c = search needs
+slice-aggregate-few-drifts-2 : tie.Need-slice-aggregate-few-drifts-2 Inv-loop μ-loop
+slice-aggregate-few-drifts-2 c = search needs
 
-slice-write-row : tie.Need-slice-write-row Inv-loop μ-loop
-slice-write-row c = search needs
+slice-aggregate-few-drifts-3 : tie.Need-slice-aggregate-few-drifts-3 Inv-loop μ-loop
+slice-aggregate-few-drifts-3 c = search needs
 
-add-k : tie.Need-add-k Inv-loop μ-loop
-add-k c = search needs
+few-drifts-requires : tie.Need-few-drifts-requires Inv-loop μ-loop
+few-drifts-requires c κs = search needs
+
+add-start : tie.Need-add-start Inv-loop μ-loop
+add-start c = search needs
 
 loop-less : tie.Need-loop-less Inv-loop μ-loop
-loop-less c = omega arith
+loop-less c = search needs
 
 loop-again : tie.Need-loop-again Inv-loop μ-loop
-loop-again c = (turned-held nan (c .before .before .before .loop .inv .0) (omega arith) (c .drift .ensures), omega arith)
+loop-again c =
+    let w = c .before .before .before .before .before in
+    let n = w .before .before .before .before .before in
+    let a = n .before .before in
+    let s = a .before .before in (
+      subst (λ (l : List Float). Turned (λ i x. drift x (s .args .size) (s .args .phase)) 0 (s .args .row .now) l (a .loop .start + n .lesser .result)) (sym (w .few-drifts .ensures)) (turned-part _ (a .loop .inv .0) (omega arith)),
+      omega (arith, n .lesser .ensures, a .loop .inv .1),
+      omega (arith, w .few-drifts .kept .1 .0, a .loop .inv .2),
+      omega (arith, w .few-drifts .kept .1 .1 .0, a .loop .inv .3),
+      omega (arith, w .few-drifts .kept .1 .1 .1, a .loop .inv .4),
+    )
 
 same-length : tie.Need-same-length Inv-loop μ-loop
 same-length c = c .before .loop .inv .0 .len
@@ -56,12 +73,13 @@ drifts-spec =
     Inv-loop
     μ-loop
     loop-holds
-    mul-drift
-    slice-read-drift
-    drift-requires
-    mul-row
-    slice-write-row
-    add-k
+    sub-lesser
+    lesser-requires
+    slice-aggregate-few-drifts
+    slice-aggregate-few-drifts-2
+    slice-aggregate-few-drifts-3
+    few-drifts-requires
+    add-start
     loop-less
     loop-again
     same-length
