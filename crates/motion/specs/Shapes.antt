@@ -26,31 +26,39 @@ ripple x size phase = clamp zero one (add binary32 half (mul binary32 half (cosO
 unfoldable pub harmonic : Float → Float → Float → Float
 harmonic x size phase = fifth (ripple x size phase)
 
--- Three layers. The sizes are 2.7, 1.13 and 0.53 times that of the field, and the phase runs once, twice the other way, and three times.
-unfoldable pub broad : Float → Float → Float → Float
-broad x size phase = sinOf (mul binary32 TAU (sub binary32 (div binary32 x (mul binary32 size (ofBits binary32 0x402c_cccd))) phase))
+-- Three layers, each a sine. The sizes are 2.7, 1.13 and 0.53 times that of the field, and the phase runs once, twice the other way, and three times.
+abbrev pub broadAngle : Float → Float → Float → Float
+broadAngle x size phase = mul binary32 TAU (sub binary32 (div binary32 x (mul binary32 size (ofBits binary32 0x402c_cccd))) phase)
 
 -- the sum begins 0.19 of a turn ahead
-unfoldable pub middle : Float → Float → Float → Float
-middle x size phase =
-    sinOf
-    (mul binary32 TAU
-    (add binary32 (add binary32 (div binary32 x (mul binary32 size (ofBits binary32 0x3f90_a3d7))) (mul binary32 phase two)) (ofBits binary32 0x3e42_8f5c)))
+abbrev pub middleAngle : Float → Float → Float → Float
+middleAngle x size phase =
+    mul binary32 TAU (add binary32 (add binary32 (div binary32 x (mul binary32 size (ofBits binary32 0x3f90_a3d7))) (mul binary32 phase two)) (ofBits binary32 0x3e42_8f5c))
 
 -- and here 0.61
-unfoldable pub detail : Float → Float → Float → Float
-detail x size phase =
-    sinOf
-    (mul binary32 TAU
-    (add binary32 (sub binary32 (div binary32 x (mul binary32 size (ofBits binary32 0x3f07_ae14))) (mul binary32 phase three)) (ofBits binary32 0x3f1c_28f6)))
+abbrev pub detailAngle : Float → Float → Float → Float
+detailAngle x size phase =
+    mul binary32 TAU (add binary32 (sub binary32 (div binary32 x (mul binary32 size (ofBits binary32 0x3f07_ae14))) (mul binary32 phase three)) (ofBits binary32 0x3f1c_28f6))
 
--- 0.5 + 0.25 broad + 0.17 middle + 0.08 detail, clamped to 0..1
-unfoldable pub drift : Float → Float → Float → Float
-drift x size phase =
+unfoldable pub broad : Float → Float → Float → Float
+broad x size phase = sinOf (broadAngle x size phase)
+
+unfoldable pub middle : Float → Float → Float → Float
+middle x size phase = sinOf (middleAngle x size phase)
+
+unfoldable pub detail : Float → Float → Float → Float
+detail x size phase = sinOf (detailAngle x size phase)
+
+-- 0.5 + 0.25 b + 0.17 m + 0.08 d, clamped to 0..1
+abbrev pub layered : Float → Float → Float → Float
+layered b m d =
     clamp zero one
     (add binary32
-    (add binary32 (add binary32 half (mul binary32 (ofBits binary32 0x3e80_0000) (broad x size phase))) (mul binary32 (ofBits binary32 0x3e2e_147b) (middle x size phase)))
-    (mul binary32 (ofBits binary32 0x3da3_d70a) (detail x size phase)))
+    (add binary32 (add binary32 half (mul binary32 (ofBits binary32 0x3e80_0000) b)) (mul binary32 (ofBits binary32 0x3e2e_147b) m))
+    (mul binary32 (ofBits binary32 0x3da3_d70a) d))
+
+unfoldable pub drift : Float → Float → Float → Float
+drift x size phase = layered (broad x size phase) (middle x size phase) (detail x size phase)
 
 -- how far x is from the place that the phase names, round the ends of the display
 unfoldable pub wrapped : Float → Float → Float

@@ -1,5 +1,5 @@
 -- Drift's three waves over a row: a layer holds the sine of its angle at each place, and the three joined are the drift there. Assumes nothing.
-use mathlib.Core.Path.{_≡_, sym, ap, _∙_}
+use mathlib.Core.Path.{_≡_, ap, _∙_}
 use mathlib.Core.List.{List}
 use Prim.Native.Nat.{ℕ, _+_, _≤_, _<_}
 use lib.ListN.{length, getD}
@@ -7,8 +7,7 @@ use lib.Ieee.{Float, nan}
 use Rattle.lists.specs.Maps.{mapRange}
 use Rattle.lists.specs.Stages.{stages, row-at}
 use Rattle.sine.specs.Sine.{sinOf}
-use Rattle.motion.specs.Shapes.{drift}
-use Rattle.motion.specs.Layers.{broadAngle, middleAngle, detailAngle, layered, drift-layered}
+use Rattle.motion.specs.Shapes.{broadAngle, middleAngle, detailAngle, broad, middle, detail, layered, drift}
 
 pub wave-at : (angle : Float → Float) (start count : ℕ) (xs before : List Float) → count ≤ length before → {turned waves : List Float}
     → turned ≡ mapRange (λ k held. angle (getD xs (start + k) nan)) 0 count before → waves ≡ mapRange (λ k a. sinOf a) 0 count turned
@@ -19,8 +18,8 @@ wave-at angle start count xs before room a b k h =
 
 pub joined : (x size phase b m d : Float) → b ≡ sinOf (broadAngle x size phase) → m ≡ sinOf (middleAngle x size phase) → d ≡ sinOf (detailAngle x size phase)
     → layered b m d ≡ drift x size phase
+unfolding drift broad middle detail
 joined x size phase b m d e f g =
     ap (λ (z : Float). layered z m d) e
     ∙ ap (λ (z : Float). layered (sinOf (broadAngle x size phase)) z d) f
     ∙ ap (layered (sinOf (broadAngle x size phase)) (sinOf (middleAngle x size phase))) g
-    ∙ sym (drift-layered x size phase)

@@ -2,7 +2,7 @@
 use Prim.Native.Nat.{_+_}
 use lib.ListN.{getD}
 use lib.Ieee.{nan}
-use Rattle.motion.specs.Layers.{broadAngle, middleAngle, detailAngle}
+use Rattle.motion.specs.Shapes.{broadAngle, middleAngle, detailAngle}
 use Rattle.motion_rows.proofs.Layered.{wave-at, joined}
 use borrow.Author.Needs.{needs}
 use Rattle.motion_rows.proofs.shapes.few_drifts.Statement.{statement}

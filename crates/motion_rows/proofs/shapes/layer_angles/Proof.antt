@@ -5,7 +5,7 @@ use native.Mathlib.Omega.{arith}
 use lib.ListN.{getD}
 use lib.Ieee.{nan}
 use Rattle.lists.specs.Turned.{Turned, turned-none, turned-more, turned-to}
-use Rattle.motion.specs.Layers.{broadAngle, middleAngle, detailAngle}
+use Rattle.motion.specs.Shapes.{broadAngle, middleAngle, detailAngle}
 use borrow.Author.Needs.{needs}
 use Rattle.motion_rows.proofs.shapes.layer_angles.Statement.{statement}
 use Rattle.motion_rows.proofs.shapes.layer_angles.Tie as tie
