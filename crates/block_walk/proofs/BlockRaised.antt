@@ -20,7 +20,7 @@ use Rattle.blocks.specs.Least.{Least}
 use Rattle.lobes.specs.declared.Grid.{Grid}
 use Rattle.lobes.specs.declared.Lobe.{Lobe}
 use Rattle.lobes.specs.Distance.{lent}
-use Rattle.lobes.specs.Bound.{GreatestAt}
+use Rattle.lobe_bounds.specs.Bound.{GreatestAt}
 use Rattle.lobes.proofs.NoteLevels.{zero-is}
 use Rattle.lobe_rows.specs.Joined.{joined, noLobe, lobesJoined}
 use Rattle.lobe_rows.proofs.Maxima.{le-join, BelowWhere, nothing-open}

@@ -25,9 +25,9 @@ use Rattle.lobes.specs.declared.Grid.{Grid}
 use Rattle.lobes.specs.declared.Lobe.{Lobe}
 use Rattle.lobes.specs.Distance.{Logs, lent}
 use Rattle.lobes.specs.Lobe.{opening}
-use Rattle.lobes.specs.Bound.{boundOf}
-use Rattle.lobes.proofs.Nearest.{InBlock}
-use Rattle.lobes.proofs.Bounded.{bound-in-unit, opening-bounded}
+use Rattle.lobe_bounds.specs.Bound.{boundOf}
+use Rattle.lobe_bounds.proofs.Nearest.{InBlock}
+use Rattle.lobe_bounds.proofs.Bounded.{bound-in-unit, opening-bounded}
 use Rattle.lobe_rows.specs.Joined.{joined, lobeJoined, noLobe, lobesJoined}
 use Rattle.lobe_rows.proofs.Entries.{all-places}
 use Rattle.block_walk.specs.Compact.{mostOpen, SoundLobes, Opennesses, BoundedLobes, RealTable, Within, InColumns}

@@ -17,7 +17,7 @@ use Rattle.blocks.specs.Least.{Numbers}
 use Rattle.lobes.specs.declared.Grid.{Grid}
 use Rattle.lobes.specs.declared.Lobe.{Lobe}
 use Rattle.lobes.specs.Distance.{lent}
-use Rattle.lobes.proofs.Bounded.{Measured, opening-in-unit}
+use Rattle.lobe_bounds.proofs.Bounded.{Measured, opening-in-unit}
 use Rattle.lobe_rows.specs.Joined.{lobeJoined, noLobe, lobesJoined}
 use Rattle.lobe_rows.proofs.Maxima.{le-join, joinWhere, FitWhere, BelowWhere, where-join, nothing-open}
 use Rattle.lobe_rows.proofs.Entries.{all-places}

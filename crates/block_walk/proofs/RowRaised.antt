@@ -21,7 +21,7 @@ use Rattle.lobes.specs.declared.Grid.{Grid}
 use Rattle.lobes.specs.declared.Lobe.{Lobe}
 use Rattle.lobes.specs.Distance.{lent}
 use Rattle.lobes.specs.Lobe.{opening}
-use Rattle.lobes.proofs.Bounded.{Measured, opening-in-unit}
+use Rattle.lobe_bounds.proofs.Bounded.{Measured, opening-in-unit}
 use Rattle.lobe_rows.specs.Joined.{joined, lobeJoined}
 use Rattle.lobe_rows.proofs.Maxima.{le-join}
 use Rattle.block_walk.specs.Compact.{Bounded, Opennesses}

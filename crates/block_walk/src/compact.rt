@@ -26,12 +26,12 @@ use blocks::BLOCK;
 use blocks::least_from;
 use float32::counts::lesser;
 use gaussian::GaussianTable;
+use lobe_bounds::bounds_of;
+use lobe_bounds::greatest_at;
 use lobe_rows::Gains;
 use lobe_rows::joins::join;
 use lobes::Grid;
 use lobes::Lobe;
-use lobes::bounds::bounds_of;
-use lobes::bounds::greatest_at;
 
 // Whether a bound, under either gain, is not above the least bin that its side holds from `start` on.
 fn nothing_rises(

@@ -7,6 +7,3 @@ pub mod Channels
 pub mod Harmonics
 pub mod Raised
 pub mod ZeroSigns
-pub mod Columns
-pub mod Nearest
-pub mod Bounded

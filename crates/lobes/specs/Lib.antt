@@ -4,4 +4,3 @@ pub mod Tone
 pub mod Distance
 pub mod Peak
 pub mod Lobe
-pub mod Bound

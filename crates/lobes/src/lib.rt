@@ -1,5 +1,4 @@
 // One lobe of a mask: what a partial of a voice opens, bin by bin.
-pub mod bounds;
 pub mod distances;
 pub mod grids;
 pub mod octaves;

@@ -25,7 +25,7 @@ use Rattle.scene.specs.Accepted.{noVoice, sizeAccepted, settingsAccepted}
 use Rattle.scene.proofs.Voices.{RealVoice, accepted-real}
 use Rattle.lobe_rows.proofs.Entries.{all-places}
 use Rattle.lobes.specs.Grid.{gridOf}
-use Rattle.lobes.proofs.Bounded.{grid-width}
+use Rattle.lobe_bounds.proofs.Bounded.{grid-width}
 use Rattle.openness.specs.Scene.{SoundScene}
 use Rattle.bin_gains.proofs.Rising.{RealSettings}
 use Rattle.mask_builder.proofs.Built.{grid-partials}

@@ -25,7 +25,7 @@ use Rattle.lobes.specs.declared.Lobe.{Lobe}
 use Rattle.lobes.specs.Tone.{toneOf, centerOf}
 use Rattle.lobes.specs.Distance.{Logs}
 use Rattle.lobes.specs.Lobe.{lobeOf}
-use Rattle.lobes.proofs.Bounded.{lobe-measured}
+use Rattle.lobe_bounds.proofs.Bounded.{lobe-measured}
 use Rattle.lobe_rows.specs.Joined.{lobeJoined, noLobe, lobesJoined}
 use Rattle.block_walk.specs.Compact.{SoundLobe, SoundLobes}
 use Rattle.openness.specs.Openness.{partialsOf, toneJoined}

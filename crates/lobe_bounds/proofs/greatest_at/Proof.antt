@@ -4,11 +4,11 @@ use Prim.Native.Nat.{_-_, _≤_}
 use native.Mathlib.Omega.{arith}
 use lib.ListN.{getD}
 use lib.Ieee.{nan}
-use Rattle.lobes.specs.Bound.{GreatestAt}
-use Rattle.lobes.proofs.Columns.{greatest-first, greatest-more, greatest-all}
+use Rattle.lobe_bounds.specs.Bound.{GreatestAt}
+use Rattle.lobe_bounds.proofs.Columns.{greatest-first, greatest-more, greatest-all}
 use borrow.Author.Needs.{needs}
-use Rattle.lobes.proofs.bounds.greatest_at.Statement.{statement}
-use Rattle.lobes.proofs.bounds.greatest_at.Tie as tie
+use Rattle.lobe_bounds.proofs.greatest_at.Statement.{statement}
+use Rattle.lobe_bounds.proofs.greatest_at.Tie as tie
 
 abbrev Inv-loop : tie.InvT-loop
 Inv-loop bounds count greatest₀ place₀ p₀ greatest place p = GreatestAt bounds p place × ((greatest ≡ getD bounds place nan) × (p ≤ count))

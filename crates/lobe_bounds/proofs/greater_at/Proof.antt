@@ -1,6 +1,6 @@
 -- `greater_at` is its one comparison. Assumes nothing.
-use Rattle.lobes.proofs.bounds.greater_at.Statement.{statement}
-use Rattle.lobes.proofs.bounds.greater_at.Tie as tie
+use Rattle.lobe_bounds.proofs.greater_at.Statement.{statement}
+use Rattle.lobe_bounds.proofs.greater_at.Tie as tie
 
 returns : tie.Need-returns
 returns c = simp (c .if1 .taken)

@@ -10,13 +10,13 @@ ghost use lib.ListN.{length, getD};
 ghost use lib.Ieee.{nan, lt};
 ghost use Rattle.lists.specs.Maps.{mapRange};
 ghost use Rattle.gaussian.specs.Table.{gaussianTable};
-ghost use Rattle.lobes.specs.Bound.{leastDistance, nearestPlace, boundAt, boundOf, Numbers, GreatestAt};
-use crate::distances::in_widths;
+ghost use Rattle.lobe_bounds.specs.Bound.{leastDistance, nearestPlace, boundAt, boundOf, Numbers, GreatestAt};
 use float32::counts::lesser;
 use float32::order::clamp;
 use float32::order::max;
 use gaussian::GAUSSIAN_LUT_STEPS;
 use gaussian::GaussianTable;
+use lobes::distances::in_widths;
 
 // The centre comes as its logarithm.
 fn least_distance(width: f32, center: f32, low: f32, high: f32) -> f32

@@ -1,6 +1,6 @@
 -- `greater` is its one comparison. Assumes nothing.
-use Rattle.lobes.proofs.bounds.greater.Statement.{statement}
-use Rattle.lobes.proofs.bounds.greater.Tie as tie
+use Rattle.lobe_bounds.proofs.greater.Statement.{statement}
+use Rattle.lobe_bounds.proofs.greater.Tie as tie
 
 returns : tie.Need-returns
 returns c = simp (c .if1 .taken)

@@ -13,7 +13,7 @@ use Rattle.lists.specs.Maps.{mapRange, between-in, between-high, length-mapRang
 use Rattle.lists.specs.Turned.{Turned, turned-read, turned-more}
 use Rattle.float_laws.specs.Units.{number}
 use Rattle.float_laws.specs.Order.{le-refl-f, le-trans-f, lt→le-f, not-lt-f}
-use Rattle.lobes.specs.Bound.{nearestPlace, boundAt, boundOf, Numbers, GreatestAt}
+use Rattle.lobe_bounds.specs.Bound.{nearestPlace, boundAt, boundOf, Numbers, GreatestAt}
 
 module _ {A : Type 0} where
   -- one more turn, of what the entry holds now

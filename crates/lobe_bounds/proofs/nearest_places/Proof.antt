@@ -5,10 +5,10 @@ use native.Mathlib.Omega.{arith}
 use lib.ListN.{getD}
 use lib.Ieee.{nan}
 use Rattle.lists.specs.Turned.{Turned, turned-none, turned-more, turned-to}
-use Rattle.lobes.specs.Bound.{nearestPlace}
+use Rattle.lobe_bounds.specs.Bound.{nearestPlace}
 use borrow.Author.Needs.{needs}
-use Rattle.lobes.proofs.bounds.nearest_places.Statement.{statement}
-use Rattle.lobes.proofs.bounds.nearest_places.Tie as tie
+use Rattle.lobe_bounds.proofs.nearest_places.Statement.{statement}
+use Rattle.lobe_bounds.proofs.nearest_places.Tie as tie
 
 abbrev Inv-loop : tie.InvT-loop
 Inv-loop places₀ centers peaks width low high count p₀ places p = Turned (λ p held. nearestPlace width (getD centers p nan) (getD peaks p nan) low high) 0 places₀ places p × (p ≤ count)

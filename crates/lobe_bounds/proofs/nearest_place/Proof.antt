@@ -1,7 +1,7 @@
 -- `nearest_place` is the definition's, by its four calls. Assumes nothing.
 use borrow.Author.Needs.{needs}
-use Rattle.lobes.proofs.bounds.nearest_place.Statement.{statement}
-use Rattle.lobes.proofs.bounds.nearest_place.Tie as tie
+use Rattle.lobe_bounds.proofs.nearest_place.Statement.{statement}
+use Rattle.lobe_bounds.proofs.nearest_place.Tie as tie
 
 least-distance-requires : tie.Need-least-distance-requires
 least-distance-requires c κs = search needs

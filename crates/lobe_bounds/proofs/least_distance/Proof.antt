@@ -1,7 +1,7 @@
 -- `least_distance` is the definition's, by its three calls. Assumes nothing.
 use borrow.Author.Needs.{needs}
-use Rattle.lobes.proofs.bounds.least_distance.Statement.{statement}
-use Rattle.lobes.proofs.bounds.least_distance.Tie as tie
+use Rattle.lobe_bounds.proofs.least_distance.Statement.{statement}
+use Rattle.lobe_bounds.proofs.least_distance.Tie as tie
 
 max-requires : tie.Need-max-requires
 max-requires c κs = search needs

@@ -21,10 +21,10 @@ use Rattle.float32.specs.Remainder.{zero}
 use Rattle.float32.proofs.Magnitude.{magnitude-clear, magnitude-size, magnitude-neg, magnitude-is-number, magnitude-nonneg}
 use Rattle.float32.proofs.OrderAgrees.{maximum-larger}
 use Rattle.gaussian.proofs.Entries.{no-nan}
 use Rattle.lobes.specs.Grid.{CENTS-PER-OCTAVE}
 use Rattle.lobes.specs.Distance.{inWidths}
-use Rattle.lobes.specs.Bound.{leastDistance}
+use Rattle.lobe_bounds.specs.Bound.{leastDistance}
 use Rattle.lobes.proofs.NoteLevels.{zero-is}
 
 -- ---- magnitudes
 module _ (f : Format) where

@@ -1,7 +1,7 @@
 -- `bound_at` is the definition's clamp, of the entry that its two calls find. Assumes nothing.
 use borrow.Author.Needs.{needs}
-use Rattle.lobes.proofs.bounds.bound_at.Statement.{statement}
-use Rattle.lobes.proofs.bounds.bound_at.Tie as tie
+use Rattle.lobe_bounds.proofs.bound_at.Statement.{statement}
+use Rattle.lobe_bounds.proofs.bound_at.Tie as tie
 
 floor-to-count-requires : tie.Need-floor-to-count-requires
 floor-to-count-requires c κs = search needs

@@ -35,16 +35,16 @@ use Rattle.gaussian.proofs.InUnit.{place-of, left-most, between-at-most, gaussi
 use Rattle.scene.specs.declared.MaskConfig.{MaskConfig}
 use Rattle.scene.specs.declared.MaskVoice.{MaskVoice}
 use Rattle.scene.proofs.Voices.{RealVoice}
 use Rattle.lobes.specs.declared.Grid.{Grid}
 use Rattle.lobes.specs.declared.Lobe.{Lobe}
 use Rattle.lobes.specs.Grid.{gridOf}
 use Rattle.lobes.specs.Tone.{timbreRolloff, toneOf}
 use Rattle.lobes.specs.Distance.{Logs, lent, inWidths, distance, bell}
 use Rattle.lobes.specs.Lobe.{lobeOf, relativeSquare, opening}
-use Rattle.lobes.specs.Bound.{leastDistance, boundOf}
+use Rattle.lobe_bounds.specs.Bound.{leastDistance, boundOf}
 use Rattle.lobes.proofs.NoteLevels.{zero-is, one-is, note-level-rises}
 use Rattle.lobes.proofs.Harmonics.{rolloff-low, rolloff-real, harmonic-gain-unit}
-use Rattle.lobes.proofs.Nearest.{InBlock, zero-number, max-zero, least-distance-number, least-distance-low, distance-number, none-nearer}
+use Rattle.lobe_bounds.proofs.Nearest.{InBlock, zero-number, max-zero, least-distance-number, least-distance-low, distance-number, none-nearer}
 
 -- ---- squares
 square-neg : (x : Float) → square (neg x) ≡ square x

@@ -1,8 +1,8 @@
 -- `bounds_of` is its two stages, one after the other. Assumes nothing.
-use Rattle.lobes.proofs.Columns.{staged}
+use Rattle.lobe_bounds.proofs.Columns.{staged}
 use borrow.Author.Needs.{needs}
-use Rattle.lobes.proofs.bounds.bounds_of.Statement.{statement}
-use Rattle.lobes.proofs.bounds.bounds_of.Tie as tie
+use Rattle.lobe_bounds.proofs.bounds_of.Statement.{statement}
+use Rattle.lobe_bounds.proofs.bounds_of.Tie as tie
 
 nearest-places-requires : tie.Need-nearest-places-requires
 nearest-places-requires c κs = search needs

@@ -5,11 +5,11 @@ use native.Mathlib.Omega.{arith}
 use lib.ListN.{getD}
 use lib.Ieee.{nan}
 use Rattle.lists.specs.Turned.{Turned, turned-none, turned-to}
-use Rattle.lobes.specs.Bound.{boundAt}
-use Rattle.lobes.proofs.Columns.{turned-next}
+use Rattle.lobe_bounds.specs.Bound.{boundAt}
+use Rattle.lobe_bounds.proofs.Columns.{turned-next}
 use borrow.Author.Needs.{needs}
-use Rattle.lobes.proofs.bounds.bounds_at_places.Statement.{statement}
-use Rattle.lobes.proofs.bounds.bounds_at_places.Tie as tie
+use Rattle.lobe_bounds.proofs.bounds_at_places.Statement.{statement}
+use Rattle.lobe_bounds.proofs.bounds_at_places.Tie as tie
 
 abbrev Inv-loop : tie.InvT-loop
 Inv-loop bounds₀ gaussians strengths count p₀ bounds p = Turned (λ p place. boundAt (getD strengths p nan) place) 0 bounds₀ bounds p × (p ≤ count)
