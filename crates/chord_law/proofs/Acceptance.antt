@@ -11,7 +11,7 @@ use Rattle.scene.specs.Accepted.{noVoice, sizeAccepted, settingsAccepted}
 use Rattle.scene.proofs.Voices.{RealVoice}
 use Rattle.refusals.proofs.MaskAccepted.{Done, is-done, stereo-accepted, stereo-settings}
 use Rattle.mask_calls.proofs.RealScene.{RealScene, RealTable, stereo-scene, stereo-table}
-use Rattle.spectral_dsp.specs.Masks.{bins}
+use Rattle.refusals.specs.Masks.{bins}
 use Rattle.chord_law.specs.Calls.{Call, Accepted, replyTo, given, F32Call}
 
 module _ (call : Call) (accepted : Accepted call) where

@@ -21,7 +21,7 @@ use Rattle.scene.specs.declared.MaskConfig.{MaskConfig}
 use Rattle.scene.specs.declared.MotionShape.the-variants.{Saw}
 use Rattle.scene.specs.Accepted.{noVoice, motionAccepted, sizeAccepted, settingsAccepted, voiceAccepted}
 use Rattle.float32.specs.Remainder.{half}
-use Rattle.spectral_dsp.specs.Masks.{settingsReply, voicesReply, tableReply, stereoReply}
+use Rattle.refusals.specs.Masks.{settingsReply, voicesReply, tableReply, stereoReply}
 use Rattle.mask_calls.specs.F32.{F32Voice, F32Settings}
 use Rattle.chord_law.specs.Calls.{Call, F32Call, Accepted}
 use Rattle.chord_law.specs.Settings.{SameSettings}

@@ -10,7 +10,7 @@ use Rattle.scene.specs.declared.MaskConfig.{MaskConfig}
 use Rattle.lobes.specs.Pan.{Side}
 use Rattle.lobes.specs.Distance.{lent}
 use Rattle.mask_builder.specs.Mask.{maskOf}
-use Rattle.spectral_dsp.specs.Masks.{stereoReply}
+use Rattle.refusals.specs.Masks.{stereoReply}
 use Rattle.mask_calls.specs.F32.{F32Settings, F32Voices, F32List}
 
 -- the two slices that are written have these lengths; what they held before does not count

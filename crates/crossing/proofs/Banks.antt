@@ -12,7 +12,7 @@ use Rattle.answer.specs.Reply.{Reply, ofOutcome}
 use Rattle.answer.specs.declared.Envelopes.{Envelopes}
 use Rattle.limits.specs.Limits as limits
 use Rattle.envelopes.specs.Envelope.{advanced}
-use Rattle.spectral_dsp.specs.Advanced.{Advance, ofEnvelopes, advanceOf, advanceReply}
+use Rattle.list_calls.specs.Advanced.{Advance, ofEnvelopes, advanceOf, advanceReply}
 use Rattle.answer.specs.Written.{written}
 use Rattle.crossing.specs.Settings.{bankReply}
 

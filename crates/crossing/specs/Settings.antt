@@ -10,7 +10,7 @@ use Rattle.answer.specs.Reply.{Reply, refused}
 use Rattle.limits.specs.Limits as limits
 use Rattle.scene.specs.declared.MotionConfig.{MotionConfig}
 use Rattle.scene.specs.Made.{shapeOf}
-use Rattle.spectral_dsp.specs.Advanced.{advanceReply}
+use Rattle.list_calls.specs.Advanced.{advanceReply}
 
 abbrev pub motionOf : ℕ → Float → Float → Float → MotionConfig
 motionOf n depth phase size = record { shape = shapeOf n; «depth_db» = depth; phase = phase; «size_octaves» = size }

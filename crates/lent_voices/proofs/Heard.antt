@@ -14,7 +14,7 @@ use Rattle.answer.specs.Written.{written}
 use Rattle.scene.specs.declared.MaskVoice.{MaskVoice}
 use Rattle.scene.specs.declared.MaskConfig.{MaskConfig}
 use Rattle.scene.specs.Accepted.{voiceAccepted}
-use Rattle.spectral_dsp.specs.Masks.{MOST-VOICES, first, settingsReply, voicesReply, tableReply, voicesMaskReply, tabledMaskReply, stereoReply}
+use Rattle.refusals.specs.Masks.{MOST-VOICES, first, settingsReply, voicesReply, tableReply, voicesMaskReply, tabledMaskReply, stereoReply}
 use Rattle.refusals.proofs.MaskAccepted.{Done, both-done, voices-done}
 use Rattle.lent_voices.specs.Gathered.{gathered}
 use Rattle.lent_voices.proofs.Gathered.{take-gathered}

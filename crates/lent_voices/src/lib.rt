@@ -8,7 +8,7 @@ ghost use Rattle.scene.specs.Accepted.{noVoice};
 ghost use Rattle.lobes.specs.Distance.{lent, none};
 ghost use Rattle.lobes.specs.Pan as side;
 ghost use Rattle.mask_builder.specs.Mask.{maskOf};
-ghost use Rattle.spectral_dsp.specs.Masks.{voicesMaskReply, tabledMaskReply, stereoReply};
+ghost use Rattle.refusals.specs.Masks.{voicesMaskReply, tabledMaskReply, stereoReply};
 ghost use Rattle.lent_voices.specs.Gathered.{held, gathered};
 use answer::Outcome;
 use scene::MOST_VOICES;

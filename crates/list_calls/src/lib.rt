@@ -1,5 +1,5 @@
-// The work of the open calls that fill or move a list: windows, gain lists, tables and the bank of note levels. Each tests what it is given, in the order of document 01's numbers, and then makes
-// one call of the core. `spectral_dsp` has the open calls, one for each of these.
+// The open calls that fill or move a list: windows, gain lists, tables and the bank of note levels. Each tests what it is given, in the order of document 01's numbers, and then makes one call of the
+// core. `spectral_dsp` passes them on under the Rust's paths.
 ghost use mathlib.Core.Path.{_≡_};
 ghost use mathlib.Core.List.{[]};
 ghost use Prim.Native.Nat.{_≤_};
@@ -113,65 +113,75 @@ pub fn smooth_mask_in_db(current: &mut [f32], target: &[f32], elapsed_seconds: f
     Outcome::Done
 }
 
-// Fills the block: window, its dual, smooth window, its dual, logarithms. Answers both coherent gains.
-pub fn prepare_spectrum(
-    sample_rate: f32,
-    window: &[f32],
-    smooth_analysis_window: &[f32],
-    overlap: usize,
-    block: &mut [f32],
-) -> Prepared
-    ensures { λ r. ⌜ ofPrepared r ≡ preparedReply «sample_rate» (now (window .entry)) (now («smooth_analysis_window» .entry)) overlap (length (now (block .entry))) ⌝ }
-    ensures { λ r. ⌜ now (block .exit) ≡ written (ofPrepared r) (blockOf «sample_rate» (now (window .entry)) (now («smooth_analysis_window» .entry)) overlap) (now (block .entry)) ⌝ }
-{
-    let size = window.len();
-    if !limits::size(size) {
-        return Prepared::Refused(1, 0);
+// Prepared analysis and synthesis windows and frequency lookup for one size, in a block that the caller holds and lends.
+pub struct PreparedSpectrum {}
+
+impl PreparedSpectrum {
+    // Fills the block: window, its dual, smooth window, its dual, logarithms. Answers both coherent gains.
+    pub fn new(
+        sample_rate: f32,
+        window: &[f32],
+        smooth_analysis_window: &[f32],
+        overlap: usize,
+        block: &mut [f32],
+    ) -> Prepared
+        ensures { λ r. ⌜ ofPrepared r ≡ preparedReply «sample_rate» (now (window .entry)) (now («smooth_analysis_window» .entry)) overlap (length (now (block .entry))) ⌝ }
+        ensures { λ r. ⌜ now (block .exit) ≡ written (ofPrepared r) (blockOf «sample_rate» (now (window .entry)) (now («smooth_analysis_window» .entry)) overlap) (now (block .entry)) ⌝ }
+    {
+        let size = window.len();
+        if !limits::size(size) {
+            return Prepared::Refused(1, 0);
+        }
+        if !limits::rate(sample_rate) {
+            return Prepared::Refused(1, 0);
+        }
+        if size != smooth_analysis_window.len() {
+            return Prepared::Refused(4, 0);
+        }
+        if block.len() != block_length(size) {
+            return Prepared::Refused(4, 0);
+        }
+        let index = limits::first_pair_outside(
+            window,
+            smooth_analysis_window,
+            LEAST_WINDOW_VALUE,
+            MOST_WINDOW_VALUE,
+        );
+        if index < size {
+            return Prepared::Refused(7, index);
+        }
+        if !limits::overlap(overlap, size) {
+            return Prepared::Refused(8, 0);
+        }
+        prepared_spectrum::fill_block(sample_rate, window, smooth_analysis_window, overlap, block);
+        Prepared::Gains(
+            windows::coherent_gain(window),
+            windows::coherent_gain(smooth_analysis_window),
+        )
     }
-    if !limits::rate(sample_rate) {
-        return Prepared::Refused(1, 0);
-    }
-    if size != smooth_analysis_window.len() {
-        return Prepared::Refused(4, 0);
-    }
-    if block.len() != block_length(size) {
-        return Prepared::Refused(4, 0);
-    }
-    let index = limits::first_pair_outside(
-        window,
-        smooth_analysis_window,
-        LEAST_WINDOW_VALUE,
-        MOST_WINDOW_VALUE,
-    );
-    if index < size {
-        return Prepared::Refused(7, index);
-    }
-    if !limits::overlap(overlap, size) {
-        return Prepared::Refused(8, 0);
-    }
-    prepared_spectrum::fill_block(sample_rate, window, smooth_analysis_window, overlap, block);
-    Prepared::Gains(
-        windows::coherent_gain(window),
-        windows::coherent_gain(smooth_analysis_window),
-    )
 }
 
-// Fills the table after a change of the sample rate or of the size.
-pub fn prepare_table(table: &mut [f32], sample_rate: f32, fft_size: usize) -> Outcome
-    ensures { λ r. ⌜ ofOutcome r ≡ prepareReply (length (now (table .entry))) «sample_rate» «fft_size» ⌝ }
-    ensures { λ r. ⌜ now (table .exit) ≡ written (ofOutcome r) (tabulate (length (now (table .entry))) (prepared «sample_rate» «fft_size»)) (now (table .entry)) ⌝ }
-{
-    if !limits::size(fft_size) {
-        return Outcome::Refused(1, 0);
+// The frequency table, which the caller holds and lends.
+pub struct MaskWorkspace {}
+
+impl MaskWorkspace {
+    // Fills the table after a change of the sample rate or of the size.
+    pub fn prepare(table: &mut [f32], sample_rate: f32, fft_size: usize) -> Outcome
+        ensures { λ r. ⌜ ofOutcome r ≡ prepareReply (length (now (table .entry))) «sample_rate» «fft_size» ⌝ }
+        ensures { λ r. ⌜ now (table .exit) ≡ written (ofOutcome r) (tabulate (length (now (table .entry))) (prepared «sample_rate» «fft_size»)) (now (table .entry)) ⌝ }
+    {
+        if !limits::size(fft_size) {
+            return Outcome::Refused(1, 0);
+        }
+        if !limits::rate(sample_rate) {
+            return Outcome::Refused(1, 0);
+        }
+        if table.len() != fft_size / 2 + 1 {
+            return Outcome::Refused(4, 0);
+        }
+        frequencies::fill(table, sample_rate, fft_size);
+        Outcome::Done
     }
-    if !limits::rate(sample_rate) {
-        return Outcome::Refused(1, 0);
-    }
-    if table.len() != fft_size / 2 + 1 {
-        return Outcome::Refused(4, 0);
-    }
-    frequencies::fill(table, sample_rate, fft_size);
-    Outcome::Done
 }
 
 // The levels of the 128 notes after one frame: 16 bytes say which notes are held, note 0 by the top bit of byte 0.

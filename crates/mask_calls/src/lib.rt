@@ -1,6 +1,7 @@
-// The work of the mask builders: each tests what it is given, and then makes one call of the core. `spectral_dsp` has the open calls, one for each of these.
+// The mask builders: each tests what it is given, and then makes one call of the core. `spectral_dsp` passes them on under the Rust's paths.
 ghost use mathlib.Core.Path.{_≡_};
-ghost use lib.ListN.{length, take};
+ghost use Prim.Native.Nat.{_*_, min};
+ghost use lib.ListN.{length, take, drop};
 ghost use Rattle.answer.specs.Reply.{ofOutcome};
 ghost use Rattle.answer.specs.Written.{written};
 ghost use Rattle.lobes.specs.Distance.{lent, none};
@@ -158,4 +159,40 @@ pub fn build_stereo_masks_with_voices_precomputed(
             Outcome::Done
         }
     }
+}
+
+// Where the frequency table begins in a block of that many entries: after four windows, or at its end where it is shorter.
+fn table_start(size: usize, entries: usize) -> usize
+    ensures { λ r. ⌜ r ≡ min (4 * size) entries ⌝ }
+{
+    if size <= entries / 4 {
+        return 4 * size;
+    }
+    entries
+}
+
+// The same by the frequency table of a prepared spectrum, which begins after the four windows of its block.
+pub fn build_stereo_masks_with_prepared_spectrum(
+    left: &mut [f32],
+    right: &mut [f32],
+    manual_mask_db: &[f32],
+    voices: [MaskVoice; 128],
+    count: usize,
+    config: MaskConfig,
+    block: &[f32],
+) -> Outcome
+    ensures { λ r. ⌜ ofOutcome r ≡ stereoReply (length (now (left .entry))) (length (now (right .entry))) (now («manual_mask_db» .entry)) voices count config (drop (4 * config .«fft_size») (now (block .entry))) ⌝ }
+    ensures { λ r. ⌜ now (left .exit) ≡ written (ofOutcome r) (maskOf (now («manual_mask_db» .entry)) config (lent (drop (4 * config .«fft_size») (now (block .entry)))) side.left (take count voices)) (now (left .entry)) ⌝ }
+    ensures { λ r. ⌜ now (right .exit) ≡ written (ofOutcome r) (maskOf (now («manual_mask_db» .entry)) config (lent (drop (4 * config .«fft_size») (now (block .entry)))) side.right (take count voices)) (now (right .entry)) ⌝ }
+{
+    let start = table_start(config.fft_size, block.len());
+    build_stereo_masks_with_voices_precomputed(
+        left,
+        right,
+        manual_mask_db,
+        voices,
+        count,
+        config,
+        &block[start..],
+    )
 }

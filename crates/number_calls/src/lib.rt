@@ -1,5 +1,4 @@
-// The work of the open calls that answer a number: each tests what it is given, in the order of document 01's numbers, and then makes one call of the core. `spectral_dsp` has the open calls, one for each
-// of these.
+// The open calls that answer a number: each tests what it is given, in the order of document 01's numbers, and then makes one call of the core. `spectral_dsp` passes them on under the Rust's paths.
 ghost use mathlib.Core.Path.{_≡_};
 ghost use Rattle.answer.specs.Reply.{ofAnswer};
 ghost use Rattle.number_calls.specs.Gates.{noteEmphasisGain, noteGateGain, manualGainAtBin};

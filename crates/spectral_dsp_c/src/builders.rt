@@ -7,7 +7,7 @@ ghost use Rattle.lobes.specs.Distance.{lent, none};
 ghost use Rattle.lobes.specs.Pan as side;
 ghost use Rattle.mask_builder.specs.Levels.{voicesOf};
 ghost use Rattle.mask_builder.specs.Mask.{maskOf};
-ghost use Rattle.spectral_dsp.specs.Masks.{maskReply, voicesMaskReply, tabledMaskReply, stereoReply};
+ghost use Rattle.refusals.specs.Masks.{maskReply, voicesMaskReply, tabledMaskReply, stereoReply};
 ghost use Rattle.crossing.specs.Given.{Given};
 ghost use Rattle.crossing.specs.MaskSettings.{configOf, withSettings};
 use crossing::answers::give_outcome;

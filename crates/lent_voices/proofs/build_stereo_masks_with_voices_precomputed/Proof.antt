@@ -50,12 +50,12 @@ use Rattle.scene.proofs.MaskConfig.Laws as G′
 use Rattle.lobes.specs.Distance.{lent}
 use Rattle.lobes.specs.Pan as side
 use Rattle.mask_builder.specs.Mask.{maskOf}
-use Rattle.spectral_dsp.specs.Masks.{stereoReply}
+use Rattle.refusals.specs.Masks.{stereoReply}
 use Rattle.refusals.proofs.MaskAccepted.{Done}
-use Rattle.spectral_dsp.proofs.build_stereo_masks_with_voices_precomputed as core
-use Rattle.spectral_dsp.proofs.build_stereo_masks_with_voices_precomputed.Symbol as core-def
-use Rattle.spectral_dsp.proofs.build_stereo_masks_with_voices_precomputed.Symbol.{name as #core}
-use Rattle.spectral_dsp.proofs.build_stereo_masks_with_voices_precomputed.Met as core-thm
+use Rattle.mask_calls.proofs.build_stereo_masks_with_voices_precomputed as core
+use Rattle.mask_calls.proofs.build_stereo_masks_with_voices_precomputed.Symbol as core-def
+use Rattle.mask_calls.proofs.build_stereo_masks_with_voices_precomputed.Symbol.{name as #core}
+use Rattle.mask_calls.proofs.build_stereo_masks_with_voices_precomputed.Met as core-thm
 use Rattle.lent_voices.specs.Gathered.{gathered}
 use Rattle.lent_voices.proofs.Heard.{stereo-same, stereo-few, written-same}
 use Rattle.lent_voices.proofs.Lent.{R, AR, a-makes, a-typed, Gather, gather-to, gather-asked, gather-said}

@@ -1,4 +1,4 @@
--- `prepare_spectrum` answers as the chain of its tests says, leaves the block as it was where it refuses, and fills it where it is done. Assumes nothing.
+-- `PreparedSpectrum::new` answers as the chain of its tests says, leaves the block as it was where it refuses, and fills it where it is done. Assumes nothing.
 use mathlib.Core.Path.{refl, sym, _∙_}
 use Prim.Native.Nat.{_≤_}
 use native.Mathlib.Omega.{arith}
@@ -7,8 +7,8 @@ use lib.ListN.{length}
 use Rattle.list_calls.specs.Processing.{preparedReply}
 use Rattle.refusals.proofs.Tests.{fails, passes, differ, agree, found, none-found}
 use Rattle.list_calls.proofs.Accepted.{passed, size-at-most, overlap-positive}
-use Rattle.list_calls.proofs.prepare_spectrum.Statement.{statement}
-use Rattle.list_calls.proofs.prepare_spectrum.Tie as tie
+use Rattle.list_calls.proofs.PreparedSpectrum.new.Statement.{statement}
+use Rattle.list_calls.proofs.PreparedSpectrum.new.Tie as tie
 
 size-requires : tie.Need-size-requires
 size-requires c κs = search needs
@@ -121,8 +121,8 @@ returns-7 c =
       c .before .before .before .before .fill-block .ensures,
     )
 
-pub prepare-spectrum-spec : {M : Type 1} → statement M
-prepare-spectrum-spec =
+pub new-spec : {M : Type 1} → statement M
+new-spec =
     tie.close
     (tie.spec
     size-requires

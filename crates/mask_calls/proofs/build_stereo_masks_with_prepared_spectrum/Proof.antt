@@ -8,10 +8,10 @@ use lib.Ieee.{Float}
 use lib.ListN.{length, take, drop, drop-of-length-le}
 use Rattle.lists.specs.Parts.{part-tail}
 use borrow.Author.Needs.{needs}
-use Rattle.spectral_dsp.proofs.builders.build_stereo_masks_with_prepared_spectrum.Statement.{
+use Rattle.mask_calls.proofs.build_stereo_masks_with_prepared_spectrum.Statement.{
   statement,
 }
-use Rattle.spectral_dsp.proofs.builders.build_stereo_masks_with_prepared_spectrum.Tie as tie
+use Rattle.mask_calls.proofs.build_stereo_masks_with_prepared_spectrum.Tie as tie
 
 table-start-requires : tie.Need-table-start-requires
 table-start-requires c κs = search needs

@@ -1,11 +1,11 @@
--- `prepare_table` answers as the chain of its tests says, leaves the table as it was where it refuses, and fills it where it is done. Assumes nothing.
+-- `MaskWorkspace::prepare` answers as the chain of its tests says, leaves the table as it was where it refuses, and fills it where it is done. Assumes nothing.
 use mathlib.Core.Path.{refl}
 use native.Mathlib.Omega.{arith}
 use borrow.Author.Needs.{needs}
 use Rattle.refusals.proofs.Tests.{fails, passes, differ, agree}
 use Rattle.list_calls.proofs.Accepted.{passed, size-at-most}
-use Rattle.list_calls.proofs.prepare_table.Statement.{statement}
-use Rattle.list_calls.proofs.prepare_table.Tie as tie
+use Rattle.list_calls.proofs.MaskWorkspace.prepare.Statement.{statement}
+use Rattle.list_calls.proofs.MaskWorkspace.prepare.Tie as tie
 
 size-requires : tie.Need-size-requires
 size-requires c κs = search needs
@@ -49,8 +49,8 @@ returns-4 c =
       c .before .before .fill .ensures,
     )
 
-pub prepare-table-spec : {M : Type 1} → statement M
-prepare-table-spec =
+pub prepare-spec : {M : Type 1} → statement M
+prepare-spec =
     tie.close
     (tie.spec
     size-requires
