@@ -21,8 +21,8 @@ use Rattle.lobes.specs.declared.Lobe.{Lobe}
 use Rattle.lobes.specs.Distance.{lent}
 use Rattle.lobes.specs.Lobe.{opening}
 use Rattle.lobes.proofs.NoteLevels.{zero-is, one-is}
-use Rattle.lobe_rows.specs.Joined.{lobeJoined, lobesJoined}
-use Rattle.lobe_rows.proofs.Maxima.{Openness, joinWhere}
+use Rattle.lobe_joins.specs.Joined.{lobeJoined, lobesJoined}
+use Rattle.lobe_joins.proofs.Maxima.{Openness, joinWhere}
 use Rattle.block_walk.specs.Compact.{mostOpen}
 use Rattle.block_walk.proofs.Highest.{keeps-higher, InUnit, gain-last}
 

@@ -15,7 +15,7 @@ use Rattle.float_laws.specs.Mono.{above-zero, mul-mono-l}
 use Rattle.float_laws.specs.Rise.{Upto, upto-weaken, upto-mul, upto-maximum}
 use Rattle.float32.specs.Order.{maximum}
 use Rattle.float32.proofs.OrderAgrees.{maximum-agrees, maximum-larger}
-use Rattle.lobe_rows.proofs.Maxima.{Openness, le-join, joinWhere, FitWhere, BelowWhere, where-join, AllBelow, fold-join}
+use Rattle.lobe_joins.proofs.Maxima.{Openness, le-join, joinWhere, FitWhere, BelowWhere, where-join, AllBelow, fold-join}
 
 is-number : {o : Float} → Openness o → T (number binary32 o)
 is-number {o} u = real-number binary32 o (u .is-real)

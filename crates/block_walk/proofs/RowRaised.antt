@@ -22,8 +22,8 @@ use Rattle.lobes.specs.declared.Lobe.{Lobe}
 use Rattle.lobes.specs.Distance.{lent}
 use Rattle.lobes.specs.Lobe.{opening}
 use Rattle.lobe_bounds.proofs.Bounded.{Measured, opening-in-unit}
-use Rattle.lobe_rows.specs.Joined.{joined, lobeJoined}
-use Rattle.lobe_rows.proofs.Maxima.{le-join}
+use Rattle.lobe_joins.specs.Joined.{joined, lobeJoined}
+use Rattle.lobe_joins.proofs.Maxima.{le-join}
 use Rattle.block_walk.specs.Compact.{Bounded, Opennesses}
 use Rattle.block_walk.proofs.Highest.{keeps-higher, keeps}
 use Rattle.block_walk.proofs.CompactIsPlain.{reaches, opens, row-step}

@@ -15,7 +15,7 @@ use Rattle.lobes.specs.declared.Lobe.{Lobe}
 use Rattle.lobes.specs.Distance.{Logs, lent}
 use Rattle.lobes.specs.Lobe.{opening}
 use Rattle.lobe_bounds.proofs.Bounded.{Measured}
-use Rattle.lobe_rows.specs.Joined.{noLobe, lobesJoined}
+use Rattle.lobe_joins.specs.Joined.{noLobe, lobesJoined}
 
 -- the most that one of them opens at a bin
 abbrev pub mostOpen : Grid → Logs → List Lobe → ℕ → Float

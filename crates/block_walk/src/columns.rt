@@ -4,7 +4,7 @@ ghost use Prim.Native.Nat.{ℕ, _+_, _*_, _≤_, _<_};
 ghost use lib.ListN.{length, getD};
 ghost use Rattle.lists.specs.Maps.{mapRange};
 ghost use Rattle.blocks.specs.Ends.{blockOf};
-ghost use Rattle.lobe_rows.specs.Joined.{noLobe};
+ghost use Rattle.lobe_joins.specs.Joined.{noLobe};
 use blocks::BLOCK;
 use float32::counts::greater;
 use float32::counts::lesser;

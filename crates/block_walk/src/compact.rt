@@ -14,7 +14,7 @@ ghost use Rattle.lists.specs.Maps.{mapAt, mapRange};
 ghost use Rattle.float_laws.specs.Rise.{Upto};
 ghost use Rattle.gaussian.specs.Table.{gaussianTable};
 ghost use Rattle.lobes.specs.Distance.{lent};
-ghost use Rattle.lobe_rows.specs.Joined.{lobesJoined};
+ghost use Rattle.lobe_joins.specs.Joined.{lobesJoined};
 ghost use Rattle.block_walk.specs.Compact.{SoundLobes, Opennesses, BoundedLobes, NotAbove, Within, InColumns, Ready};
 use crate::columns::Span;
 use crate::columns::bins_between;
@@ -28,8 +28,8 @@ use float32::counts::lesser;
 use gaussian::GaussianTable;
 use lobe_bounds::bounds_of;
 use lobe_bounds::greatest_at;
+use lobe_joins::join;
 use lobe_rows::Gains;
-use lobe_rows::joins::join;
 use lobes::Grid;
 use lobes::Lobe;
 

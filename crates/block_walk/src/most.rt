@@ -11,14 +11,14 @@ ghost use Rattle.float32.specs.Remainder.{one};
 ghost use Rattle.gaussian.specs.Table.{gaussianTable};
 ghost use Rattle.blocks.specs.Least.{Least};
 ghost use Rattle.lobes.specs.Distance.{lent};
-ghost use Rattle.lobe_rows.specs.Joined.{lobeJoined};
+ghost use Rattle.lobe_joins.specs.Joined.{lobeJoined};
 ghost use Rattle.block_walk.specs.Compact.{SoundLobe, SoundLobes, Bounded, Opennesses, BoundedLobes, HasMost};
 use blocks::least_from;
 use float32::counts::greater;
 use float32::counts::lesser;
 use gaussian::GaussianTable;
+use lobe_joins::join;
 use lobe_rows::chunk::openings_by_table;
-use lobe_rows::joins::join;
 use lobes::Grid;
 use lobes::Lobe;
 

@@ -10,7 +10,7 @@ use Rattle.lists.specs.Runs.{runs, runs-step, runs-end}
 use Rattle.lobes.specs.declared.Grid.{Grid}
 use Rattle.lobes.specs.declared.Lobe.{Lobe}
 use Rattle.lobes.specs.Distance.{Logs}
-use Rattle.lobe_rows.specs.Joined.{noLobe, lobeJoined, lobesJoined}
+use Rattle.lobe_joins.specs.Joined.{noLobe, lobeJoined, lobesJoined}
 
 module _ (grid : Grid) (logs : Logs) (gain : Float) (lobes : List Lobe) (count : ℕ) where
   -- what joining the lobes from p on makes of the bins

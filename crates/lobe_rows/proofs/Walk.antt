@@ -14,7 +14,7 @@ use Rattle.lobes.specs.declared.Grid.{Grid}
 use Rattle.lobes.specs.declared.Lobe.{Lobe}
 use Rattle.lobes.specs.Distance.{Logs}
 use Rattle.lobes.specs.Lobe.{opening}
-use Rattle.lobe_rows.specs.Joined.{joined, lobeJoined}
+use Rattle.lobe_joins.specs.Joined.{joined, lobeJoined}
 use Rattle.lists.specs.Runs.{map-same, range-same, turned-part}
 
 module _ (grid : Grid) (logs : Logs) (lobe : Lobe) (gain : Float) where

@@ -1,8 +1,7 @@
-// Lobes over rows of at most 64 bins: what a lobe opens at each bin of a row, how that is joined to what the bins hold, and the plain way of raising lobes, one after the other.
+// Lobes over rows of at most 64 bins: what a lobe opens at each bin of a row, and the plain way of raising lobes, one after the other.
 
 mod by_frequency;
 pub mod chunk;
-pub mod joins;
 pub mod plain;
 
 // A voice's gain on each side.

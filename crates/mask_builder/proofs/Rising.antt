@@ -20,7 +20,7 @@ use Rattle.bin_gains.proofs.Rising.{RealSettings, motion-upto, gate-rises}
 use Rattle.lobes.specs.Grid.{gridOf}
 use Rattle.lobes.specs.Pan.{Side}
 use Rattle.lobes.specs.Distance.{lent}
-use Rattle.lobe_rows.proofs.Maxima.{nothing-open}
+use Rattle.lobe_joins.proofs.Maxima.{nothing-open}
 use Rattle.openness.proofs.RaisedVoices.{Fair, RaisedIn, openness-rises}
 use Rattle.mask_builder.specs.Mask.{opennessAt, maskAt}
 

@@ -23,7 +23,7 @@ use Rattle.lobes.specs.Pan.{Side, channelGain}
 use Rattle.lobes.specs.Tone.{toneOf}
 use Rattle.lobes.specs.Distance.{lent}
 use Rattle.lobes.proofs.Channels.{channel-gain-rises}
-use Rattle.lobe_rows.proofs.Maxima.{nothing-open}
+use Rattle.lobe_joins.proofs.Maxima.{nothing-open}
 use Rattle.block_walk.specs.Compact.{Opennesses}
 use Rattle.openness.specs.Openness.{voiceJoined}
 use Rattle.openness.specs.Scene.{RealGrid, SoundTone, ToneReady}

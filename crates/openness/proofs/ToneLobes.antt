@@ -26,7 +26,7 @@ use Rattle.lobes.specs.Tone.{toneOf, centerOf}
 use Rattle.lobes.specs.Distance.{Logs}
 use Rattle.lobes.specs.Lobe.{lobeOf}
 use Rattle.lobe_bounds.proofs.Bounded.{lobe-measured}
-use Rattle.lobe_rows.specs.Joined.{lobeJoined, noLobe, lobesJoined}
+use Rattle.lobe_joins.specs.Joined.{lobeJoined, noLobe, lobesJoined}
 use Rattle.block_walk.specs.Compact.{SoundLobe, SoundLobes}
 use Rattle.openness.specs.Openness.{partialsOf, toneJoined}
 use Rattle.openness.specs.Scene.{lobesOf}

@@ -18,7 +18,7 @@ use Rattle.lobes.specs.Tone.{toneOf}
 use Rattle.lobes.specs.Distance.{lent}
 use Rattle.lobes.specs.Lobe.{lobeOf, opening}
 use Rattle.lobes.proofs.ZeroSigns.{SameGrid, SameTable, lobe-same, opening-same, lobe-bins}
-use Rattle.lobe_rows.specs.Joined.{lobeJoined}
+use Rattle.lobe_joins.specs.Joined.{lobeJoined}
 use Rattle.openness.specs.Openness.{SKIPPED-LEVEL, partialsOf, toneJoined, voiceJoined, openness}
 
 fold-same : {A S : Type 0} (f g : S → A → S) → ((s : S) (x : A) → f s x ≡ g s x) → (s : S) (xs : List A) → fold f s xs ≡ fold g s xs

@@ -12,7 +12,7 @@ use Rattle.lobes.specs.Pan.{Side, channelGain}
 use Rattle.lobes.specs.Tone.{toneOf, centerOf}
 use Rattle.lobes.specs.Distance.{Logs}
 use Rattle.lobes.specs.Lobe.{lobeOf}
-use Rattle.lobe_rows.specs.Joined.{lobeJoined}
+use Rattle.lobe_joins.specs.Joined.{lobeJoined}
 
 -- "Voices at level ≤ 0.00001 are skipped."
 abbrev pub SKIPPED-LEVEL : Float

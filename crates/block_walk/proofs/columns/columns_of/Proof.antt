@@ -6,7 +6,7 @@ use native.Mathlib.Omega.{arith}
 use lib.ListN.{length, getD}
 use lib.Ieee.{nan}
 use Rattle.lists.specs.Turned.{Turned, turned-none, turned-more, turned-to}
-use Rattle.lobe_rows.specs.Joined.{noLobe}
+use Rattle.lobe_joins.specs.Joined.{noLobe}
 use borrow.Author.Needs.{needs}
 use Rattle.block_walk.proofs.columns.columns_of.Statement.{statement}
 use Rattle.block_walk.proofs.columns.columns_of.Tie as tie

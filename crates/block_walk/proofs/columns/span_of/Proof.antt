@@ -6,7 +6,7 @@ use native.Mathlib.Decide.{decLt}
 use native.Mathlib.Omega.{arith}
 use lib.ListN.{length, getD}
 use Rattle.lobes.specs.declared.Lobe.{Lobe}
-use Rattle.lobe_rows.specs.Joined.{noLobe}
+use Rattle.lobe_joins.specs.Joined.{noLobe}
 use borrow.Author.Needs.{needs}
 use Rattle.block_walk.proofs.columns.span_of.Statement.{statement}
 use Rattle.block_walk.proofs.columns.span_of.Tie as tie

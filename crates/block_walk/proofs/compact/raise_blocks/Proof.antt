@@ -5,7 +5,7 @@ use native.Mathlib.Omega.{arith}
 use lib.ListN.{length, take}
 use Rattle.blocks.specs.Ends.{blockOf}
 use Rattle.lobes.specs.Distance.{lent}
-use Rattle.lobe_rows.specs.Joined.{lobesJoined}
+use Rattle.lobe_joins.specs.Joined.{lobesJoined}
 use Rattle.block_walk.specs.Compact.{Opennesses}
 use Rattle.block_walk.proofs.BlockWalk.{block-bounded, range-open, walked, from-first, Walked, walk-none, walk-next}
 use borrow.Author.Needs.{needs}

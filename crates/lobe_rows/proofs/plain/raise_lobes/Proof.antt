@@ -5,7 +5,7 @@ use native.Mathlib.Omega.{arith}
 use lib.ListN.{length, take}
 use Rattle.lists.specs.Maps.{mapAt}
 use Rattle.lobes.specs.Distance.{logsOf}
-use Rattle.lobe_rows.specs.Joined.{lobesJoined}
+use Rattle.lobe_joins.specs.Joined.{lobesJoined}
 use Rattle.lobe_rows.proofs.EachLobe.{lobes-from, lobes-all, lobes-next, lobes-end}
 use borrow.Author.Needs.{needs}
 use Rattle.lobe_rows.proofs.plain.raise_lobes.Statement.{statement}

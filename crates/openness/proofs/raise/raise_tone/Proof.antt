@@ -7,7 +7,7 @@ use lib.ListN.{take}
 use lib.Ieee.{Float}
 use Rattle.lists.specs.Maps.{mapAt}
 use Rattle.lobes.specs.Distance.{lent, logsOf}
-use Rattle.lobe_rows.specs.Joined.{lobesJoined}
+use Rattle.lobe_joins.specs.Joined.{lobesJoined}
 use Rattle.openness.specs.Scene.{lobesOf}
 use Rattle.openness.proofs.ToneLobes.{known-lobes, tone-raised}
 use borrow.Author.Needs.{needs}

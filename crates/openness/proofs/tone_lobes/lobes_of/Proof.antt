@@ -5,7 +5,7 @@ use native.Mathlib.Omega.{arith}
 use lib.ListN.{length}
 use Rattle.lists.specs.Turned.{Turned, turned-none, turned-more}
 use Rattle.lobes.specs.Distance.{logsOf}
-use Rattle.lobe_rows.specs.Joined.{noLobe}
+use Rattle.lobe_joins.specs.Joined.{noLobe}
 use Rattle.openness.proofs.ToneLobes.{nth, partials-few, lobes-taken}
 use borrow.Author.Needs.{needs}
 use Rattle.openness.proofs.tone_lobes.lobes_of.Statement.{statement}

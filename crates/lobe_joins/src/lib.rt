@@ -1,10 +1,10 @@
-// Openness joined by maximum.
+// What a lobe opens over a row of bins, joined by maximum to what the bins hold.
 ghost use mathlib.Core.Path.{_≡_};
 ghost use Prim.Native.Nat.{_+_, _-_, _≤_};
 ghost use lib.ListN.{length, getD};
 ghost use lib.Ieee.{nan};
 ghost use Rattle.lists.specs.Maps.{mapRange};
-ghost use Rattle.lobe_rows.specs.Joined.{joined};
+ghost use Rattle.lobe_joins.specs.Joined.{joined};
 use float32::counts::lesser;
 
 // What a bin holds, and what a lobe opens there under a voice's expression.

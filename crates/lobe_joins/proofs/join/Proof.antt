@@ -6,11 +6,11 @@ use native.Mathlib.Omega.{arith}
 use lib.ListN.{length, getD}
 use lib.Ieee.{nan}
 use Rattle.lists.specs.Turned.{Turned, turned-none}
-use Rattle.lobe_rows.specs.Joined.{joined}
+use Rattle.lobe_joins.specs.Joined.{joined}
 use Rattle.lists.specs.Runs.{turned-within, turned-next}
 use borrow.Author.Needs.{needs}
-use Rattle.lobe_rows.proofs.joins.join.Statement.{statement}
-use Rattle.lobe_rows.proofs.joins.join.Tie as tie
+use Rattle.lobe_joins.proofs.join.Statement.{statement}
+use Rattle.lobe_joins.proofs.join.Tie as tie
 
 abbrev Inv-loop : tie.InvT-loop
 Inv-loop out₀ openings gain start end stop bin₀ out bin =
