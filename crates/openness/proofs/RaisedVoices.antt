@@ -28,7 +28,8 @@ use Rattle.lobes.proofs.Raised.{Raised, same-bins, opened-rises}
 use Rattle.lobe_joins.specs.Joined.{lobeJoined}
 use Rattle.lobe_joins.proofs.Maxima.{Openness, nothing-open, Join, le-join, FitWhere, BelowWhere, where-join, AllBelow, fold-join}
 use Rattle.lobe_joins.proofs.Entries.{all-range, all-until, all-weaken, all-both, all-places}
-use Rattle.openness.specs.Openness.{SKIPPED-LEVEL, partialsOf, toneJoined, voiceJoined, openness}
+use Rattle.tone_lobes.specs.ToneLobes.{partialsOf}
+use Rattle.openness.specs.Openness.{SKIPPED-LEVEL, toneJoined, voiceJoined, openness}
 
 pub raised-self : (a : MaskVoice) → RealVoice a → Raised a a
 raised-self a u =

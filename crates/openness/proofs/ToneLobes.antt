@@ -1,55 +1,31 @@
--- The lobes of a tone's partials in a list: how many there are, which stands at a place, that joining them one after the other is joining the tone, and that those of an accepted voice are sound.
--- Assumes nothing.
+-- The lobes of a tone's partials: joining them one after the other is joining the tone, and those of an accepted voice are sound. Assumes nothing.
 use mathlib.Core.Path.{_≡_, refl, sym, ap, _∙_, subst}
-use mathlib.Core.Bool.{Bool, true, false, cond}
 use mathlib.Core.List.{List, [], _∷_, map}
-use Prim.Native.Nat.{ℕ, zero, suc, _+_, _-_, _≤_, _<_}
-use native.Mathlib.Nat.{add-zero, add-suc, suc-add, le-of-suc-le-suc, not-suc-le-zero}
+use Prim.Native.Nat.{ℕ, _+_, _-_, _≤_}
 use native.Mathlib.Omega.{arith}
 use lib.Dec.{T}
-use lib.ListN.{length, getD, take, length-map}
-use lib.Seq.{ext-getD, getD-take, length-take-le}
+use lib.ListN.{length, take}
 use lib.Ieee.{Float, binary32, lt}
-use Rattle.lists.specs.Maps.{mapAt, between-in, getD-mapRange}
-use Rattle.lists.specs.Turned.{Turned}
+use Rattle.lists.specs.Maps.{mapAt}
 use Rattle.lists.specs.Runs.{map-same}
-use Rattle.lists.specs.Folds.{fold, range, takeUntil, range-next, range-none, until-step, until-stop, until-end}
+use Rattle.lists.specs.Folds.{fold}
 use Rattle.float_laws.specs.Units.{real}
 use Rattle.float_laws.specs.Round.{plus-zero}
-use Rattle.power.specs.Log.{L2}
 use Rattle.scene.specs.declared.MaskVoice.{MaskVoice}
 use Rattle.scene.proofs.Voices.{RealVoice}
 use Rattle.lobes.specs.declared.Grid.{Grid}
 use Rattle.lobes.specs.declared.Tone.{Tone}
 use Rattle.lobes.specs.declared.Lobe.{Lobe}
-use Rattle.lobes.specs.Tone.{toneOf, centerOf}
+use Rattle.lobes.specs.Tone.{toneOf}
 use Rattle.lobes.specs.Distance.{Logs}
 use Rattle.lobes.specs.Lobe.{lobeOf}
 use Rattle.lobe_bounds.proofs.Bounded.{lobe-measured}
-use Rattle.lobe_joins.specs.Joined.{lobeJoined, noLobe, lobesJoined}
+use Rattle.lobe_joins.specs.Joined.{lobeJoined, lobesJoined}
 use Rattle.block_walk.specs.Compact.{SoundLobe, SoundLobes}
-use Rattle.openness.specs.Openness.{partialsOf, toneJoined}
-use Rattle.openness.specs.Scene.{lobesOf}
-use Rattle.openness.proofs.Partials.{first-bin, last-bin, center-log2}
-
--- ---- numbers in a row, up to the first that stops, are numbers in a row, and no more of them
-until-range : (stop : ℕ → Bool) (i n : ℕ) → takeUntil stop (range i n) ≡ range i (length (takeUntil stop (range i n)))
-unfolding takeUntil range
-until-range stop i zero = refl
-until-range stop i (suc n) = go (stop i) (takeUntil stop (range (suc i) n)) (until-range stop (suc i) n)
-  where
-    go : (b : Bool) (rest : List ℕ) → rest ≡ range (suc i) (length rest) → cond b [] (i ∷ rest) ≡ range i (length (cond b [] (i ∷ rest)))
-    go true rest e = refl
-    go false rest e = ap (λ (l : List ℕ). i ∷ l) e
-
-until-few : (stop : ℕ → Bool) (i n : ℕ) → length (takeUntil stop (range i n)) ≤ n
-unfolding takeUntil range
-until-few stop i zero = omega arith
-until-few stop i (suc n) = go (stop i) (takeUntil stop (range (suc i) n)) (until-few stop (suc i) n)
-  where
-    go : (b : Bool) (rest : List ℕ) → length rest ≤ n → length (cond b [] (i ∷ rest)) ≤ suc n
-    go true rest h = omega arith
-    go false rest h = omega arith
+use Rattle.openness.specs.Openness.{toneJoined}
+use Rattle.tone_lobes.specs.ToneLobes.{partialsOf, lobesOf}
+use Rattle.tone_lobes.proofs.Partials.{first-bin, last-bin, center-log2}
+use Rattle.tone_lobes.proofs.Listed.{partials-few, lobe-at}
 
 -- a run over a map
 fold-map : {A B S : Type 0} (step : S → B → S) (f : A → B) (s : S) (xs : List A) → fold step s (map f xs) ≡ fold (λ s x. step s (f x)) s xs
@@ -57,65 +33,7 @@ unfolding fold
 fold-map step f s [] = refl
 fold-map step f s (x ∷ xs) = fold-map step f (step s (f x)) xs
 
-at-range : {A : Type 0} (f : ℕ → A) (i n k : ℕ) (d : A) → k < n → getD (map f (range i n)) k d ≡ f (i + k)
-unfolding range
-at-range f i zero k d h = absurd (not-suc-le-zero h)
-at-range f i (suc n) zero d h = rw (add-zero i)
-at-range f i (suc n) (suc k) d h = at-range f (suc i) n k d (le-of-suc-le-suc h) ∙ rw (suc-add i k, add-suc i k)
-
-module _ (grid : Grid) (tone : Tone) where
-  abbrev above : ℕ → Bool
-  above partial = lt (grid .nyquist) (centerOf tone partial)
-
-  -- the partials after the first n
-  abbrev pub after : ℕ → List ℕ
-  after n = takeUntil above (range (n + 1) (grid .partials + 1 - (n + 1)))
-
-  pub after-none : length (after 0) ≡ length (partialsOf grid tone)
-  after-none = let z : grid .partials + 1 - 1 ≡ grid .partials = omega arith in rw z
-
-  pub after-next : (n : ℕ) → n < grid .partials → above (n + 1) ≡ false → length (after n) ≡ suc (length (after (n + 1)))
-  after-next n h e = ap length (until-step above (range-next (n + 1) (grid .partials + 1) (omega arith)) e)
-
-  pub after-stop : (n : ℕ) → n < grid .partials → above (n + 1) ≡ true → length (after n) ≡ 0
-  after-stop n h e = ap length (until-stop above (range-next (n + 1) (grid .partials + 1) (omega arith)) e)
-
-  pub after-all : (n : ℕ) → grid .partials ≤ n → length (after n) ≡ 0
-  after-all n h = ap length (until-end above (range-none (n + 1) (grid .partials + 1) (omega arith)))
-
-  pub partials-few : length (partialsOf grid tone) ≤ grid .partials
-  partials-few = until-few above 1 (grid .partials)
-
 module _ (grid : Grid) (logs : Logs) (tone : Tone) where
-  abbrev pub nth : ℕ → Lobe → Lobe
-  nth k held = lobeOf grid logs tone (k + 1)
-
-  nth-lobe : (k : ℕ) → k < length (partialsOf grid tone) → getD (lobesOf grid logs tone) k noLobe ≡ lobeOf grid logs tone (k + 1)
-  nth-lobe k h =
-      let z : 1 + k ≡ k + 1 = omega arith in
-      ap (λ (l : List ℕ). getD (map (lobeOf grid logs tone) l) k noLobe) (until-range (above grid tone) 1 (grid .partials))
-      ∙ at-range (lobeOf grid logs tone) 1 (length (partialsOf grid tone)) k noLobe h ∙ ap (lobeOf grid logs tone) z
-
-  -- a list whose first n entries are worked out
-  pub lobes-taken : (n : ℕ) {xs₀ xs : List Lobe} {i : ℕ} → Turned nth 0 xs₀ xs i → i ≡ n → n ≡ length (partialsOf grid tone) → n ≤ length xs₀ → take n xs ≡ lobesOf grid logs tone
-  lobes-taken n {xs₀} {xs} {i} t z e room =
-      let l : length xs ≡ length xs₀ = t .len in
-      let some : length (take n xs) ≡ n = length-take-le n xs (omega arith) in
-      ext-getD noLobe (take n xs) (lobesOf grid logs tone) (some ∙ e ∙ sym (length-map (partialsOf grid tone) (lobeOf grid logs tone))) (λ k h. at k (rw some at h))
-    where
-      at : (k : ℕ) → k < n → getD (take n xs) k noLobe ≡ getD (lobesOf grid logs tone) k noLobe
-      at k h =
-          getD-take n xs k noLobe h ∙ ap (λ (l : List Lobe). getD l k noLobe) (t .is) ∙ getD-mapRange nth 0 i xs₀ k noLobe (omega arith)
-          ∙ between-in nth 0 i k (getD xs₀ k noLobe) (omega arith) (omega arith) ∙ sym (nth-lobe k (omega arith))
-
-  pub lobe-at : (lobes : List Lobe) (n : ℕ) → n ≡ length (partialsOf grid tone) → take n lobes ≡ lobesOf grid logs tone → (p : ℕ) → p < n → getD lobes p noLobe ≡ lobeOf grid logs tone (p + 1)
-  lobe-at lobes n e t p h = sym (getD-take n lobes p noLobe h) ∙ ap (λ (l : List Lobe). getD l p noLobe) t ∙ nth-lobe p (omega arith)
-
-  pub known-lobes : (lobes : List Lobe) (n : ℕ) → n ≡ length (partialsOf grid tone) → take n lobes ≡ lobesOf grid logs tone → (p : ℕ) → p < n
-      → (getD lobes p noLobe .«center_log2» ≡ L2 (getD lobes p noLobe .center)) × (getD lobes p noLobe .«last_bin» ≤ grid .«last_bin»)
-  known-lobes lobes n e t p h =
-      subst (λ (lobe : Lobe). (lobe .«center_log2» ≡ L2 (lobe .center)) × (lobe .«last_bin» ≤ grid .«last_bin»)) (sym (lobe-at lobes n e t p h)) (center-log2 grid logs tone (p + 1), last-bin grid logs tone (p + 1))
-
   -- joining the lobes is joining the tone
   pub lobes-are-tone : (gain : Float) (bin : ℕ) (held : Float) → lobesJoined grid logs gain (lobesOf grid logs tone) bin held ≡ toneJoined grid logs gain tone bin held
   unfolding lobesJoined toneJoined

@@ -19,7 +19,8 @@ use Rattle.lobes.specs.Distance.{lent}
 use Rattle.lobes.specs.Lobe.{lobeOf, opening}
 use Rattle.lobes.proofs.ZeroSigns.{SameGrid, SameTable, lobe-same, opening-same, lobe-bins}
 use Rattle.lobe_joins.specs.Joined.{lobeJoined}
-use Rattle.openness.specs.Openness.{SKIPPED-LEVEL, partialsOf, toneJoined, voiceJoined, openness}
+use Rattle.tone_lobes.specs.ToneLobes.{partialsOf}
+use Rattle.openness.specs.Openness.{SKIPPED-LEVEL, toneJoined, voiceJoined, openness}
 
 fold-same : {A S : Type 0} (f g : S → A → S) → ((s : S) (x : A) → f s x ≡ g s x) → (s : S) (xs : List A) → fold f s xs ≡ fold g s xs
 unfolding fold

@@ -2,25 +2,22 @@
 use mathlib.Core.Bool.{cond}
 use mathlib.Core.List.{List}
 use Prim.Native.Nat.{ℕ}
-use lib.Ieee.{Float, binary32, ofBits, le, lt}
-use Rattle.lists.specs.Folds.{fold, takeUntil, range}
+use lib.Ieee.{Float, binary32, ofBits, le}
+use Rattle.lists.specs.Folds.{fold}
 use Rattle.float32.specs.Remainder.{zero}
 use Rattle.scene.specs.declared.MaskVoice.{MaskVoice}
 use Rattle.lobes.specs.declared.Grid.{Grid}
 use Rattle.lobes.specs.declared.Tone.{Tone}
 use Rattle.lobes.specs.Pan.{Side, channelGain}
-use Rattle.lobes.specs.Tone.{toneOf, centerOf}
+use Rattle.lobes.specs.Tone.{toneOf}
 use Rattle.lobes.specs.Distance.{Logs}
 use Rattle.lobes.specs.Lobe.{lobeOf}
 use Rattle.lobe_joins.specs.Joined.{lobeJoined}
+use Rattle.tone_lobes.specs.ToneLobes.{partialsOf}
 
 -- "Voices at level ≤ 0.00001 are skipped."
 abbrev pub SKIPPED-LEVEL : Float
 SKIPPED-LEVEL = ofBits binary32 0x3727_c5ac
-
--- the partials 1, 2, .. of a tone, ending at the first whose centre is above nyquist
-abbrev pub partialsOf : Grid → Tone → List ℕ
-partialsOf grid tone = takeUntil (λ partial. lt (grid .nyquist) (centerOf tone partial)) (range 1 (grid .partials))
 
 unfoldable pub toneJoined : Grid → Logs → Float → Tone → ℕ → Float → Float
 toneJoined grid logs gain tone bin held = fold (λ held partial. lobeJoined grid logs gain bin held (lobeOf grid logs tone partial)) held (partialsOf grid tone)

@@ -1,6 +1,6 @@
 -- What the walk by blocks asks of a scene, of a tone of it, and of the sides that are raised. No mask is said here: both ways of raising a tone write the same. Assumes nothing.
 use mathlib.Core.Path.{_≡_}
-use mathlib.Core.List.{List, map}
+use mathlib.Core.List.{List}
 use Prim.Native.Nat.{ℕ, _≤_}
 use lib.Dec.{T}
 use lib.ListN.{length, take}
@@ -14,14 +14,9 @@ use Rattle.scene.proofs.Voices.{RealVoice}
 use Rattle.lobes.specs.declared.Grid.{Grid}
 use Rattle.lobes.specs.declared.Tone.{Tone}
 use Rattle.lobes.specs.declared.Lobe.{Lobe}
-use Rattle.lobes.specs.Distance.{Logs, lent}
-use Rattle.lobes.specs.Lobe.{lobeOf}
+use Rattle.lobes.specs.Distance.{lent}
 use Rattle.block_walk.specs.Compact.{SoundLobes, Opennesses, RealTable, Ready}
-use Rattle.openness.specs.Openness.{partialsOf}
-
--- the lobes of a tone's partials
-abbrev pub lobesOf : Grid → Logs → Tone → List Lobe
-lobesOf grid logs tone = map (lobeOf grid logs tone) (partialsOf grid tone)
+use Rattle.tone_lobes.specs.ToneLobes.{partialsOf, lobesOf}
 
 -- a width and a rolloff of accepted settings
 pub record RealGrid (grid : Grid) : Type 0 where

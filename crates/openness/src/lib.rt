@@ -25,7 +25,6 @@ use slices::fill;
 use voices::raise_voices;
 
 pub mod raise;
-pub mod tone_lobes;
 pub mod voices;
 
 // So many bins are worked out at a time: enough for a loop over them to pay, and few enough to stay close at hand.

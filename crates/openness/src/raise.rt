@@ -14,8 +14,6 @@ ghost use Rattle.lobe_joins.specs.Joined.{lobesJoined};
 ghost use Rattle.block_walk.specs.Compact.{SoundLobes};
 ghost use Rattle.openness.specs.Openness.{toneJoined};
 ghost use Rattle.openness.specs.Scene.{SidesReady, ToneReady};
-use crate::tone_lobes::lobes_of;
-use crate::tone_lobes::partials_of;
 use block_walk::compact::rasterize_compact_harmonic_envelope;
 use gaussian::GaussianTable;
 use lobe_rows::Gains;
@@ -25,6 +23,8 @@ use lobes::Lobe;
 use lobes::Tone;
 use lobes::octaves::PartialOctaves;
 use power::table::PowerTable;
+use tone_lobes::lobes_of;
+use tone_lobes::partials_of;
 
 // The lobes together, where a caller says that this can pay; answers whether it was done.
 fn raised_together(

@@ -8,8 +8,9 @@ use lib.Ieee.{Float}
 use Rattle.lists.specs.Maps.{mapAt}
 use Rattle.lobes.specs.Distance.{lent, logsOf}
 use Rattle.lobe_joins.specs.Joined.{lobesJoined}
-use Rattle.openness.specs.Scene.{lobesOf}
-use Rattle.openness.proofs.ToneLobes.{known-lobes, tone-raised}
+use Rattle.tone_lobes.specs.ToneLobes.{lobesOf}
+use Rattle.tone_lobes.proofs.Listed.{known-lobes}
+use Rattle.openness.proofs.ToneLobes.{tone-raised}
 use borrow.Author.Needs.{needs}
 use Rattle.openness.proofs.raise.raise_tone.Statement.{statement}
 use Rattle.openness.proofs.raise.raise_tone.Tie as tie

@@ -6,10 +6,10 @@ use lib.ListN.{length}
 use Rattle.lists.specs.Turned.{Turned, turned-none, turned-more}
 use Rattle.lobes.specs.Distance.{logsOf}
 use Rattle.lobe_joins.specs.Joined.{noLobe}
-use Rattle.openness.proofs.ToneLobes.{nth, partials-few, lobes-taken}
+use Rattle.tone_lobes.proofs.Listed.{nth, partials-few, lobes-taken}
 use borrow.Author.Needs.{needs}
-use Rattle.openness.proofs.tone_lobes.lobes_of.Statement.{statement}
-use Rattle.openness.proofs.tone_lobes.lobes_of.Tie as tie
+use Rattle.tone_lobes.proofs.lobes_of.Statement.{statement}
+use Rattle.tone_lobes.proofs.lobes_of.Tie as tie
 
 abbrev Inv-loop : tie.InvT-loop
 Inv-loop powers octaves tabled table grid tone count lobes₀ p₀ lobes p = Turned (nth grid (logsOf tabled table) tone) 0 lobes₀ lobes p × (p ≤ count) × (count ≤ 24)

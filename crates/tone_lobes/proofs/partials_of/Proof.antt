@@ -3,10 +3,10 @@ use mathlib.Core.Path.{_≡_}
 use Prim.Native.Nat.{_+_, _-_, _≤_}
 use native.Mathlib.Omega.{arith}
 use lib.ListN.{length}
-use Rattle.openness.specs.Openness.{partialsOf}
-use Rattle.openness.proofs.ToneLobes.{after, after-none, after-next, after-stop, after-all}
-use Rattle.openness.proofs.tone_lobes.partials_of.Statement.{statement}
-use Rattle.openness.proofs.tone_lobes.partials_of.Tie as tie
+use Rattle.tone_lobes.specs.ToneLobes.{partialsOf}
+use Rattle.tone_lobes.proofs.Listed.{after, after-none, after-next, after-stop, after-all}
+use Rattle.tone_lobes.proofs.partials_of.Statement.{statement}
+use Rattle.tone_lobes.proofs.partials_of.Tie as tie
 
 abbrev Inv-loop : tie.InvT-loop
 Inv-loop grid tone count₀ count = (count ≤ grid .partials) × (count + length (after grid tone count) ≡ length (partialsOf grid tone))

@@ -1,0 +1,2 @@
+pub mod Partials
+pub mod Listed
