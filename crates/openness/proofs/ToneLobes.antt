@@ -27,7 +27,7 @@ use Rattle.lobes.specs.Distance.{Logs}
 use Rattle.lobes.specs.Lobe.{lobeOf}
 use Rattle.lobe_bounds.proofs.Bounded.{lobe-measured}
 use Rattle.lobe_joins.specs.Joined.{lobeJoined, noLobe, lobesJoined}
-use Rattle.block_walk.specs.Compact.{SoundLobe, SoundLobes}
+use Rattle.block_rows.specs.Most.{SoundLobe, SoundLobes}
 use Rattle.openness.specs.Openness.{partialsOf, toneJoined}
 use Rattle.openness.specs.Scene.{lobesOf}
 use Rattle.openness.proofs.Partials.{first-bin, last-bin, center-log2}

@@ -16,7 +16,8 @@ use Rattle.lobes.specs.declared.Tone.{Tone}
 use Rattle.lobes.specs.declared.Lobe.{Lobe}
 use Rattle.lobes.specs.Distance.{Logs, lent}
 use Rattle.lobes.specs.Lobe.{lobeOf}
-use Rattle.block_walk.specs.Compact.{SoundLobes, Opennesses, RealTable, Ready}
+use Rattle.block_rows.specs.Most.{SoundLobes, Opennesses}
+use Rattle.block_walk.specs.Compact.{RealTable, Ready}
 use Rattle.openness.specs.Openness.{partialsOf}
 
 -- the lobes of a tone's partials
