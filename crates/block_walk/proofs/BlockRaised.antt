@@ -1,7 +1,6 @@
 -- A block of bins under several lobes: the most that one of them opens, joined once, is what they hold joined one after the other; and a block where no bound under the gain is above what a bin
 -- holds stays as it is. Assumes nothing.
 use mathlib.Core.Path.{_≡_, sym, ap, _∙_, subst}
-use mathlib.Core.Bool.{true}
 use mathlib.Core.List.{List}
 use Prim.Native.Nat.{ℕ, _+_, _-_, _≤_, _<_}
 use native.Mathlib.Decide.{decLt}
@@ -11,12 +10,9 @@ use lib.ListN.{length, getD, take}
 use lib.Seq.{ext-getD, getD-take, length-take-le}
 use lib.Ieee.{Float, nan, binary32, le, mul}
 use Rattle.lists.specs.Maps.{mapRange, between, between-in, between-low, between-high, getD-mapRange, length-mapRange}
-use Rattle.float_laws.specs.Units.{real-number}
-use Rattle.float_laws.specs.Order.{le-trans-f}
 use Rattle.float_laws.specs.Mono.{mul-mono-l}
 use Rattle.float_laws.specs.Rise.{Upto, upto-weaken, upto-mul}
 use Rattle.float32.specs.Remainder.{zero}
-use Rattle.blocks.specs.Least.{Least}
 use Rattle.lobes.specs.declared.Grid.{Grid}
 use Rattle.lobes.specs.declared.Lobe.{Lobe}
 use Rattle.lobes.specs.Distance.{lent}
@@ -25,10 +21,11 @@ use Rattle.lobes.proofs.NoteLevels.{zero-is}
 use Rattle.lobe_joins.specs.Joined.{joined, noLobe, lobesJoined}
 use Rattle.lobe_joins.proofs.Maxima.{le-join, BelowWhere, nothing-open}
 use Rattle.lobe_joins.proofs.Entries.{all-places}
-use Rattle.block_walk.specs.Compact.{mostOpen, SoundLobes, Opennesses, BoundedLobes, HasMost, NotAbove}
-use Rattle.block_walk.proofs.Highest.{keeps-higher, highest-in-unit, highest-least}
-use Rattle.block_walk.proofs.CompactIsPlain.{reaches, opens, zero-unit, row-run, compact-is-plain}
-use Rattle.block_walk.proofs.MostOpen.{lobe-in-unit, all-in-unit}
+use Rattle.block_rows.specs.Most.{mostOpen, SoundLobes, Opennesses, BoundedLobes, HasMost, NotAbove}
+use Rattle.block_rows.proofs.Highest.{keeps-higher, highest-in-unit, highest-least}
+use Rattle.block_rows.proofs.RowJoined.{reaches, opens, row-run}
+use Rattle.block_walk.proofs.CompactIsPlain.{zero-unit, compact-is-plain}
+use Rattle.block_rows.proofs.MostOpen.{lobe-in-unit, all-in-unit}
 
 -- two functions that agree at the entries of a range
 range-entries : (f g : ℕ → Float → Float) (lo hi : ℕ) (xs : List Float) → ((k : ℕ) → k < length xs → lo ≤ k → k < hi → f k (getD xs k nan) ≡ g k (getD xs k nan)) → mapRange f lo hi xs ≡ mapRange g lo hi xs
@@ -53,11 +50,6 @@ range-kept g lo hi xs e =
     same k h (yes p) q = between-low g lo hi k (getD xs k nan) p
     same k h (no p) (yes q) = between-in g lo hi k (getD xs k nan) (omega arith) q ∙ e k h (omega arith) q
     same k h (no p) (no q) = between-high g lo hi k (getD xs k nan) (omega arith)
-
--- a number that is not above the least of a block
-pub under-least : (x least : Float) (start : ℕ) (xs : List Float) → Upto binary32 3 x → Opennesses xs → Least least start (start + 64) xs → le x least ≡ true → NotAbove x start (start + 64) xs
-under-least x least start xs u v w h bin p q l =
-    le-trans-f binary32 x least (getD xs bin nan) (real-number binary32 x (u .is-real)) (w .is-number) (real-number binary32 (getD xs bin nan) (v bin l .is-real)) (subst T (sym h) tt) (w .least bin p q l)
 
 module _ (grid : Grid) (table : List Float) (lobes : List Lobe) (count : ℕ) (sound : SoundLobes grid lobes count) (few : count ≤ length lobes) where
   abbrev most : ℕ → Float

@@ -30,10 +30,11 @@ use Rattle.lobe_bounds.proofs.Nearest.{InBlock}
 use Rattle.lobe_bounds.proofs.Bounded.{bound-in-unit, opening-bounded}
 use Rattle.lobe_joins.specs.Joined.{joined, lobeJoined, noLobe, lobesJoined}
 use Rattle.lobe_joins.proofs.Entries.{all-places}
-use Rattle.block_walk.specs.Compact.{mostOpen, SoundLobes, Opennesses, BoundedLobes, RealTable, Within, InColumns}
-use Rattle.block_walk.proofs.Highest.{keeps}
+use Rattle.block_rows.specs.Most.{mostOpen, SoundLobes, Opennesses, BoundedLobes}
+use Rattle.block_walk.specs.Compact.{RealTable, Within, InColumns}
+use Rattle.block_rows.proofs.Highest.{keeps}
 use Rattle.block_walk.proofs.CompactIsPlain.{compact-is-plain}
-use Rattle.block_walk.proofs.MostOpen.{all-in-unit}
+use Rattle.block_rows.proofs.MostOpen.{all-in-unit}
 use Rattle.block_walk.proofs.BlockRaised.{most-in-unit}
 
 -- ---- the bounds over a block

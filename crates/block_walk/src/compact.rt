@@ -6,24 +6,25 @@
 // has the most that any lobe opens, is joined once to each side (`gain-last`). A block where the greatest bound, under either gain, is not above the least bin that the side holds is left as it
 // is. So the compact way gives each bin what the plain way gives it, for every accepted table (`compact-is-plain`).
 ghost use mathlib.Core.Path.{_≡_};
-ghost use mathlib.Core.Bool.{true, cond};
+ghost use mathlib.Core.Bool.{cond};
 ghost use Prim.Native.Nat.{_+_, _*_, _^_, _≤_, _<_};
 ghost use lib.ListN.{length, take};
-ghost use lib.Ieee.{binary32, mul};
+ghost use lib.Ieee.{binary32};
 ghost use Rattle.lists.specs.Maps.{mapAt, mapRange};
 ghost use Rattle.float_laws.specs.Rise.{Upto};
 ghost use Rattle.gaussian.specs.Table.{gaussianTable};
 ghost use Rattle.lobes.specs.Distance.{lent};
 ghost use Rattle.lobe_joins.specs.Joined.{lobesJoined};
-ghost use Rattle.block_walk.specs.Compact.{SoundLobes, Opennesses, BoundedLobes, NotAbove, Within, InColumns, Ready};
+ghost use Rattle.block_rows.specs.Most.{SoundLobes, Opennesses, BoundedLobes};
+ghost use Rattle.block_walk.specs.Compact.{Within, InColumns, Ready};
 use crate::columns::Span;
 use crate::columns::bins_between;
 use crate::columns::block_of;
 use crate::columns::columns_of;
 use crate::columns::span_of;
-use crate::most::raise_partials;
+use block_rows::raise_partials;
+use block_rows::rises::nothing_rises;
 use blocks::BLOCK;
-use blocks::least_from;
 use float32::counts::lesser;
 use gaussian::GaussianTable;
 use lobe_bounds::bounds_of;
@@ -32,24 +33,6 @@ use lobe_joins::join;
 use lobe_rows::Gains;
 use lobes::Grid;
 use lobes::Lobe;
-
-// Whether a bound, under either gain, is not above the least bin that its side holds from `start` on.
-fn nothing_rises(
-    first: &[f32],
-    second: &[f32],
-    scratch: &mut [f32],
-    bound: f32,
-    gains: Gains,
-    start: usize,
-) -> bool
-    requires { ⌜ (length (now scratch) ≡ 64) × (Opennesses (now first)) × (Opennesses (now second)) × (Upto binary32 0 bound) × (Upto binary32 3 (gains .first)) × (Upto binary32 3 (gains .second)) ⌝ }
-    ensures { λ r. ⌜ (r ≡ true → (NotAbove (mul binary32 bound (gains .first)) start (start + 64) (now (first .entry))) × (NotAbove (mul binary32 bound (gains .second)) start (start + 64) (now (second .entry)))) ⌝ }
-{
-    if bound * gains.first <= least_from(scratch, first, start) {
-        return bound * gains.second <= least_from(scratch, second, start);
-    }
-    false
-}
 
 // A block of bins, from `start` on and below `end`, under the lobes' bounds there.
 fn raise_block(

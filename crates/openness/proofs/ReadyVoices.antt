@@ -24,7 +24,7 @@ use Rattle.lobes.specs.Tone.{toneOf}
 use Rattle.lobes.specs.Distance.{lent}
 use Rattle.lobes.proofs.Channels.{channel-gain-rises}
 use Rattle.lobe_joins.proofs.Maxima.{nothing-open}
-use Rattle.block_walk.specs.Compact.{Opennesses}
+use Rattle.block_rows.specs.Most.{Opennesses}
 use Rattle.openness.specs.Openness.{voiceJoined}
 use Rattle.openness.specs.Scene.{RealGrid, SoundTone, ToneReady}
 use Rattle.openness.proofs.RaisedVoices.{Fair, voice-join}

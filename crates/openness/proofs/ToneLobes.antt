@@ -21,7 +21,7 @@ use Rattle.lobes.specs.Distance.{Logs}
 use Rattle.lobes.specs.Lobe.{lobeOf}
 use Rattle.lobe_bounds.proofs.Bounded.{lobe-measured}
 use Rattle.lobe_joins.specs.Joined.{lobeJoined, lobesJoined}
-use Rattle.block_walk.specs.Compact.{SoundLobe, SoundLobes}
+use Rattle.block_rows.specs.Most.{SoundLobe, SoundLobes}
 use Rattle.openness.specs.Openness.{toneJoined}
 use Rattle.tone_lobes.specs.ToneLobes.{partialsOf, lobesOf}
 use Rattle.tone_lobes.proofs.Partials.{first-bin, last-bin, center-log2}

@@ -15,7 +15,8 @@ use Rattle.lobes.specs.declared.Grid.{Grid}
 use Rattle.lobes.specs.declared.Tone.{Tone}
 use Rattle.lobes.specs.declared.Lobe.{Lobe}
 use Rattle.lobes.specs.Distance.{lent}
-use Rattle.block_walk.specs.Compact.{SoundLobes, Opennesses, RealTable, Ready}
+use Rattle.block_rows.specs.Most.{SoundLobes, Opennesses}
+use Rattle.block_walk.specs.Compact.{RealTable, Ready}
 use Rattle.tone_lobes.specs.ToneLobes.{partialsOf, lobesOf}
 
 -- a width and a rolloff of accepted settings

@@ -11,7 +11,7 @@ ghost use Rattle.gaussian.specs.Table.{gaussianTable};
 ghost use Rattle.lobes.specs.Tone.{partialOctaves};
 ghost use Rattle.lobes.specs.Distance.{lent, logsOf};
 ghost use Rattle.lobe_joins.specs.Joined.{lobesJoined};
-ghost use Rattle.block_walk.specs.Compact.{SoundLobes};
+ghost use Rattle.block_rows.specs.Most.{SoundLobes};
 ghost use Rattle.openness.specs.Openness.{toneJoined};
 ghost use Rattle.openness.specs.Scene.{SidesReady, ToneReady};
 use block_walk::compact::rasterize_compact_harmonic_envelope;

@@ -6,7 +6,7 @@ use lib.ListN.{length, take}
 use Rattle.blocks.specs.Ends.{blockOf}
 use Rattle.lobes.specs.Distance.{lent}
 use Rattle.lobe_joins.specs.Joined.{lobesJoined}
-use Rattle.block_walk.specs.Compact.{Opennesses}
+use Rattle.block_rows.specs.Most.{Opennesses}
 use Rattle.block_walk.proofs.BlockWalk.{block-bounded, range-open, walked, from-first, Walked, walk-none, walk-next}
 use borrow.Author.Needs.{needs}
 use Rattle.block_walk.proofs.compact.raise_blocks.Statement.{statement}

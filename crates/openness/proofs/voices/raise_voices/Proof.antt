@@ -7,7 +7,7 @@ use lib.ListN.{length, getD}
 use Rattle.scene.specs.Accepted.{noVoice}
 use Rattle.lobes.specs.Distance.{logsOf}
 use Rattle.lobes.specs.Pan.{channelGain}
-use Rattle.block_walk.specs.Compact.{Opennesses}
+use Rattle.block_rows.specs.Most.{Opennesses}
 use Rattle.openness.specs.Sides.{firstSide, secondSide}
 use Rattle.openness.proofs.EachVoice.{voices-from, voices-next, voices-end}
 use Rattle.openness.proofs.ReadyVoices.{voice-open, voice-real}

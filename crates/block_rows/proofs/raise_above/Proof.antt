@@ -11,11 +11,11 @@ use Rattle.float_laws.specs.Units.{real-number}
 use Rattle.float_laws.specs.Order.{le-trans-f}
 use Rattle.float_laws.specs.Rise.{Upto}
 use Rattle.blocks.specs.Least.{Least}
-use Rattle.block_walk.specs.Compact.{Opennesses}
-use Rattle.block_walk.proofs.RowRaised.{row-above, raised-numbers}
+use Rattle.block_rows.specs.Most.{Opennesses}
+use Rattle.block_rows.proofs.RowRaised.{row-above, raised-numbers}
 use borrow.Author.Needs.{needs}
-use Rattle.block_walk.proofs.most.raise_above.Statement.{statement}
-use Rattle.block_walk.proofs.most.raise_above.Tie as tie
+use Rattle.block_rows.proofs.raise_above.Statement.{statement}
+use Rattle.block_rows.proofs.raise_above.Tie as tie
 
 -- a bound that is not above the least of a row
 not-above : (bound least : Float) (xs : List Float) → length xs ≡ 64 → Upto binary32 0 bound → Opennesses xs → Least least 0 64 xs → le bound least ≡ true → (k : ℕ) → k < length xs → T (le bound (getD xs k nan))

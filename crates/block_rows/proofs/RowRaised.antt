@@ -12,7 +12,6 @@ use lib.Seq.{ext-getD}
 use lib.Ieee.{Float, nan, binary32, le}
 use Rattle.lists.specs.Runs.{map-none, map-same}
 use Rattle.lists.specs.Maps.{mapRange, between, between-in, between-low, between-high, getD-mapRange, length-mapRange}
-use Rattle.float_laws.specs.Units.{real-number}
 use Rattle.float_laws.specs.Rise.{Upto, upto-weaken}
 use Rattle.float32.specs.Order.{maximum}
 use Rattle.float32.specs.Remainder.{one}
@@ -24,9 +23,10 @@ use Rattle.lobes.specs.Lobe.{opening}
 use Rattle.lobe_bounds.proofs.Bounded.{Measured, opening-in-unit}
 use Rattle.lobe_joins.specs.Joined.{joined, lobeJoined}
 use Rattle.lobe_joins.proofs.Maxima.{le-join}
-use Rattle.block_walk.specs.Compact.{Bounded, Opennesses}
-use Rattle.block_walk.proofs.Highest.{keeps-higher, keeps}
-use Rattle.block_walk.proofs.CompactIsPlain.{reaches, opens, row-step}
+use Rattle.block_rows.specs.Most.{Bounded, Opennesses}
+use Rattle.block_rows.proofs.Held.{open-numbers}
+use Rattle.block_rows.proofs.Highest.{keeps-higher, keeps}
+use Rattle.block_rows.proofs.RowJoined.{reaches, opens, row-step}
 
 -- ---- places of a row and of the chunk that is joined to it
 from-there : (a s k : ℕ) → s ≤ a → a - s ≤ k → a ≤ s + k
@@ -40,10 +40,6 @@ bin-of a s k h p = omega arith
 
 in-chunk : (a b s k : ℕ) → s ≤ a → a ≤ s + k → s + k < b → k - (a - s) < b - a
 in-chunk a b s k h p q = omega arith
-
--- opennesses are numbers
-pub open-numbers : (lo hi : ℕ) (xs : List Float) → Opennesses xs → Numbers lo hi xs
-open-numbers lo hi xs u k p q l = real-number binary32 (getD xs k nan) (u k l .is-real)
 
 joined-open : (b : Bool) {s t : Float} → Upto binary32 3 s → Upto binary32 3 t → Upto binary32 3 (cond b (maximum s t) s)
 joined-open true u v = keeps u v

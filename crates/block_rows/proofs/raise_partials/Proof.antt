@@ -6,11 +6,11 @@ use native.Mathlib.Omega.{arith}
 use lib.Dec.{T, eqb→eq}
 use lib.ListN.{length}
 use Rattle.blocks.specs.Least.{Least}
-use Rattle.block_walk.specs.Compact.{SoundLobes}
-use Rattle.block_walk.proofs.MostOpen.{Joining, joining-start, joining-more, joining-there, joining-numbers, joining-end}
+use Rattle.block_rows.specs.Most.{SoundLobes}
+use Rattle.block_rows.proofs.MostOpen.{Joining, joining-start, joining-more, joining-there, joining-numbers, joining-end}
 use borrow.Author.Needs.{needs}
-use Rattle.block_walk.proofs.most.raise_partials.Statement.{statement}
-use Rattle.block_walk.proofs.most.raise_partials.Tie as tie
+use Rattle.block_rows.proofs.raise_partials.Statement.{statement}
+use Rattle.block_rows.proofs.raise_partials.Tie as tie
 
 abbrev Inv-loop : tie.InvT-loop
 Inv-loop row₀ chunk₀ indexes₀ gaussians table bounds grid count top start end lobes least₀ p₀ row chunk indexes least p =

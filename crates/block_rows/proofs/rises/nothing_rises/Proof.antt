@@ -6,11 +6,10 @@ use native.Mathlib.Omega.{arith}
 use lib.Dec.{lit≤}
 use lib.Ieee.{binary32, mul}
 use Rattle.float_laws.specs.Rise.{upto-mul}
-use Rattle.block_walk.proofs.RowRaised.{open-numbers}
-use Rattle.block_walk.proofs.BlockRaised.{under-least}
+use Rattle.block_rows.proofs.Held.{open-numbers, under-least}
 use borrow.Author.Needs.{needs}
-use Rattle.block_walk.proofs.compact.nothing_rises.Statement.{statement}
-use Rattle.block_walk.proofs.compact.nothing_rises.Tie as tie
+use Rattle.block_rows.proofs.rises.nothing_rises.Statement.{statement}
+use Rattle.block_rows.proofs.rises.nothing_rises.Tie as tie
 
 least-from-requires : tie.Need-least-from-requires
 least-from-requires c κs =

@@ -1,10 +1,10 @@
 -- `raise_in_row` joins the openings of the bins that lobe and row have in common. Assumes nothing.
 use Prim.Native.Nat.{_-_}
 use native.Mathlib.Omega.{arith}
-use Rattle.block_walk.proofs.RowRaised.{row-kept, row-raised}
+use Rattle.block_rows.proofs.RowRaised.{row-kept, row-raised}
 use borrow.Author.Needs.{needs}
-use Rattle.block_walk.proofs.most.raise_in_row.Statement.{statement}
-use Rattle.block_walk.proofs.most.raise_in_row.Tie as tie
+use Rattle.block_rows.proofs.raise_in_row.Statement.{statement}
+use Rattle.block_rows.proofs.raise_in_row.Tie as tie
 
 greater-requires : tie.Need-greater-requires
 greater-requires c κs = search needs

@@ -12,7 +12,7 @@ ghost use Rattle.gaussian.specs.Table.{gaussianTable};
 ghost use Rattle.blocks.specs.Least.{Least};
 ghost use Rattle.lobes.specs.Distance.{lent};
 ghost use Rattle.lobe_joins.specs.Joined.{lobeJoined};
-ghost use Rattle.block_walk.specs.Compact.{SoundLobe, SoundLobes, Bounded, Opennesses, BoundedLobes, HasMost};
+ghost use Rattle.block_rows.specs.Most.{SoundLobe, SoundLobes, Bounded, Opennesses, BoundedLobes, HasMost};
 use blocks::least_from;
 use float32::counts::greater;
 use float32::counts::lesser;
@@ -21,6 +21,8 @@ use lobe_joins::join;
 use lobe_rows::chunk::openings_by_table;
 use lobes::Grid;
 use lobes::Lobe;
+
+pub mod rises;
 
 // The gain of a row, which has openings alone.
 const UNITY: f32 = 1.0;

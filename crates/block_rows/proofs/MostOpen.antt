@@ -21,10 +21,11 @@ use Rattle.lobe_bounds.proofs.Bounded.{Measured, opening-in-unit}
 use Rattle.lobe_joins.specs.Joined.{lobeJoined, noLobe, lobesJoined}
 use Rattle.lobe_joins.proofs.Maxima.{le-join, joinWhere, FitWhere, BelowWhere, where-join, nothing-open}
 use Rattle.lobe_joins.proofs.Entries.{all-places}
-use Rattle.block_walk.specs.Compact.{mostOpen, SoundLobes, Opennesses}
-use Rattle.block_walk.proofs.Highest.{InUnit, highest-reaches, once-before}
-use Rattle.block_walk.proofs.CompactIsPlain.{reaches, opens, AllInUnit, row-step, row-run}
-use Rattle.block_walk.proofs.RowRaised.{in-row, open-numbers, row-same, place-same, row-open}
+use Rattle.block_rows.specs.Most.{mostOpen, SoundLobes, Opennesses}
+use Rattle.block_rows.proofs.Highest.{InUnit, highest-reaches, once-before}
+use Rattle.block_rows.proofs.RowJoined.{reaches, opens, AllInUnit, row-step, row-run}
+use Rattle.block_rows.proofs.Held.{open-numbers}
+use Rattle.block_rows.proofs.RowRaised.{in-row, row-same, place-same, row-open}
 
 module _ (grid : Grid) (table : List Float) (lobes : List Lobe) (count : ℕ) (sound : SoundLobes grid lobes count) (few : count ≤ length lobes) (bin : ℕ) where
   abbrev step : Float → Lobe → Float

@@ -1,0 +1,5 @@
+pub mod Highest
+pub mod RowJoined
+pub mod Held
+pub mod RowRaised
+pub mod MostOpen

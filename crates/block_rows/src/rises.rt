@@ -1,0 +1,28 @@
+// Whether what lobes open over a block of 64 bins can raise a bin of it at all.
+ghost use mathlib.Core.Path.{_≡_};
+ghost use mathlib.Core.Bool.{true};
+ghost use Prim.Native.Nat.{_+_};
+ghost use lib.ListN.{length};
+ghost use lib.Ieee.{binary32, mul};
+ghost use Rattle.float_laws.specs.Rise.{Upto};
+ghost use Rattle.block_rows.specs.Most.{Opennesses, NotAbove};
+use blocks::least_from;
+use lobe_rows::Gains;
+
+// Whether a bound, under either gain, is not above the least bin that its side holds from `start` on.
+pub fn nothing_rises(
+    first: &[f32],
+    second: &[f32],
+    scratch: &mut [f32],
+    bound: f32,
+    gains: Gains,
+    start: usize,
+) -> bool
+    requires { ⌜ (length (now scratch) ≡ 64) × (Opennesses (now first)) × (Opennesses (now second)) × (Upto binary32 0 bound) × (Upto binary32 3 (gains .first)) × (Upto binary32 3 (gains .second)) ⌝ }
+    ensures { λ r. ⌜ (r ≡ true → (NotAbove (mul binary32 bound (gains .first)) start (start + 64) (now (first .entry))) × (NotAbove (mul binary32 bound (gains .second)) start (start + 64) (now (second .entry)))) ⌝ }
+{
+    if bound * gains.first <= least_from(scratch, first, start) {
+        return bound * gains.second <= least_from(scratch, second, start);
+    }
+    false
+}
