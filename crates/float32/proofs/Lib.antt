@@ -22,9 +22,3 @@ pub mod Remainders
 pub mod RemainderByOne
 pub mod RemainderInUnit
 pub mod NearestConstants
-pub mod WholeRoot
-pub mod EvenPowers
-pub mod RootRounding
-pub mod RootCases
-pub mod RootNearest
-pub mod RootOrder

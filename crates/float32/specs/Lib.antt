@@ -6,4 +6,3 @@ pub mod Remainder
 pub mod Powers
 pub mod Smoothstep
 pub mod Constants
-pub mod Root

@@ -1,4 +1,4 @@
-// f32 beside the language's own operators, by topic. Every function is equal to a definition in specs/, and none but the inner ones of bits, counts, fixed and root
+// f32 beside the language's own operators, by topic. Every function is equal to a definition in specs/, and none but the inner ones of bits, counts and fixed
 // asks anything of its arguments.
 pub mod bits;
 pub mod constants;
@@ -7,4 +7,3 @@ pub mod fixed;
 pub mod order;
 pub mod powers;
 pub mod remainder;
-pub mod root;

@@ -20,7 +20,7 @@ use decibels::gain;
 use decibels::rows::gains;
 use float32::order::min;
 use float32::powers::powi2;
-use float32::root::sqrt;
+use square_root::sqrt;
 use motion::field::RESTING_DEPTH_DB;
 use motion_rows::lowerings;
 use motion_rows::settled;

@@ -6,7 +6,7 @@ ghost use Rattle.float32.specs.Order.{maximum, minimum, clamp, magnitude};
 ghost use Rattle.float32.specs.Counts.{floorCount, ceilCount};
 ghost use Rattle.float32.specs.Remainder.{remEuclidOne};
 ghost use Rattle.float32.specs.Powers.{square, fifth};
-ghost use Rattle.float32.specs.Root.{squareRoot};
+ghost use Rattle.square_root.specs.Root.{squareRoot};
 ghost use Rattle.power.specs.Power.{E2};
 ghost use Rattle.power.specs.Log.{L2};
 ghost use Rattle.power.specs.Decimal.{pow10, exp, log10};

@@ -19,9 +19,9 @@ use Rattle.float_laws.specs.Order.{le-refl-f, lt→le-f, le-trans-f}
 use Rattle.float_laws.specs.Inf.{le-top}
 use Rattle.float_laws.specs.Mono.{above-zero}
 use Rattle.float_laws.specs.Bounds.{one, real-one, mag-one}
-use Rattle.float32.specs.Root.{squareRoot}
-use Rattle.float32.proofs.WholeRoot.{square-of-twice}
-use Rattle.float32.proofs.RootNearest.{Nearer, root-at, square-small, root-is-real, root-sign, square-root-is-nearest}
+use Rattle.square_root.specs.Root.{squareRoot}
+use Rattle.square_root.proofs.WholeRoot.{square-of-twice}
+use Rattle.square_root.proofs.RootNearest.{Nearer, root-at, square-small, root-is-real, root-sign, square-root-is-nearest}
 
 zero-number : (f : Format) → T (number f plus-zero)
 zero-number f = real-number f plus-zero (real-zero f false)

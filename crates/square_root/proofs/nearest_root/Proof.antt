@@ -1,9 +1,9 @@
--- `float32::root::nearest_root` meets its contract: with q the whole part of the root, the next number is nearer exactly where the rest is above q. Assumes nothing.
+-- `nearest_root` meets its contract: with q the whole part of the root, the next number is nearer exactly where the rest is above q. Assumes nothing.
 use native.Mathlib.Omega.{arith}
 use borrow.Author.Needs.{needs}
-use Rattle.float32.proofs.RootRounding.{whole-is-nearest}
-use Rattle.float32.proofs.root.nearest_root.Statement.{statement}
-use Rattle.float32.proofs.root.nearest_root.Tie as tie
+use Rattle.square_root.proofs.RootRounding.{whole-is-nearest}
+use Rattle.square_root.proofs.nearest_root.Statement.{statement}
+use Rattle.square_root.proofs.nearest_root.Tie as tie
 
 whole-root-requires : tie.Need-whole-root-requires
 whole-root-requires c κs = search needs

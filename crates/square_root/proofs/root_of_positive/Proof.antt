@@ -1,13 +1,13 @@
--- `float32::root::root_of_positive` meets its contract: the nearest root of the digits has 24 places, and with the exponent above it makes the definition's value. Assumes nothing.
+-- `root_of_positive` meets its contract: the nearest root of the digits has 24 places, and with the exponent above it makes the definition's value. Assumes nothing.
 use mathlib.Core.Path.{sym, ap, _∙_}
 use Prim.Native.Nat.{ℕ}
 use native.Mathlib.Omega.{arith}
 use borrow.Author.Needs.{needs}
 use lib.Ieee.{binary32}
-use Rattle.float32.specs.Root.{nearestRoot}
-use Rattle.float32.proofs.RootRounding.{kept-most, bits-fit, bits-no-nan, bits-are}
-use Rattle.float32.proofs.root.root_of_positive.Statement.{statement}
-use Rattle.float32.proofs.root.root_of_positive.Tie as tie
+use Rattle.square_root.specs.Root.{nearestRoot}
+use Rattle.square_root.proofs.RootRounding.{kept-most, bits-fit, bits-no-nan, bits-are}
+use Rattle.square_root.proofs.root_of_positive.Statement.{statement}
+use Rattle.square_root.proofs.root_of_positive.Tie as tie
 
 even-power-requires : tie.Need-even-power-requires
 even-power-requires c κs = search needs

@@ -1,9 +1,9 @@
--- `float32::root::even_power` meets its contract: the leading zeros of mant are 8 to 31, and what the digits gain the exponent loses. Assumes nothing.
+-- `even_power` meets its contract: the leading zeros of mant are 8 to 31, and what the digits gain the exponent loses. Assumes nothing.
 use native.Mathlib.Omega.{arith}
 use borrow.Author.Needs.{needs}
-use Rattle.float32.proofs.EvenPowers.{zeros-least, zeros-most, by-fours}
-use Rattle.float32.proofs.root.even_power.Statement.{statement}
-use Rattle.float32.proofs.root.even_power.Tie as tie
+use Rattle.square_root.proofs.EvenPowers.{zeros-least, zeros-most, by-fours}
+use Rattle.square_root.proofs.even_power.Statement.{statement}
+use Rattle.square_root.proofs.even_power.Tie as tie
 
 sub-lead : tie.Need-sub-lead
 sub-lead c = zeros-least (c .args .mant) (c .args .expo) (c .pre .0) (c .pre .1) (c .pre .2)

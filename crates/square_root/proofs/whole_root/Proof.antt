@@ -1,11 +1,11 @@
--- `float32::root::whole_root` meets its contract. The loop's invariant: the digits found so far are those of the root from the place k up. Assumes nothing.
+-- `whole_root` meets its contract. The loop's invariant: the digits found so far are those of the root from the place k up. Assumes nothing.
 use mathlib.Core.Path.{_≡_, subst}
 use Prim.Native.Nat.{ℕ}
 use native.Mathlib.Omega.{arith}
 use borrow.Author.Needs.{needs}
-use Rattle.float32.proofs.WholeRoot.{DigitsFrom, no-digits, all-digits, tried-small, tried-square-small, digit-set, digit-clear}
-use Rattle.float32.proofs.root.whole_root.Statement.{statement}
-use Rattle.float32.proofs.root.whole_root.Tie as tie
+use Rattle.square_root.proofs.WholeRoot.{DigitsFrom, no-digits, all-digits, tried-small, tried-square-small, digit-set, digit-clear}
+use Rattle.square_root.proofs.whole_root.Statement.{statement}
+use Rattle.square_root.proofs.whole_root.Tie as tie
 
 abbrev Inv-loop : tie.InvT-loop
 Inv-loop n r₀ k₀ r k = DigitsFrom k n r

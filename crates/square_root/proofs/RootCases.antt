@@ -11,8 +11,8 @@ use lib.Ieee.{Float, nan, inf, fin, binary32, up, down, fits, ne, div, ofBits, o
 use lib.Ieee.Fits.{up-pos, down-pos}
 use lib.Ieee.Compare.{differs-from-itself}
 use Rattle.float_laws.specs.Units.{mag, mag-exact, mag-below}
 use Rattle.float32.specs.Value.{Decoded}
-use Rattle.float32.specs.Root.{nearestRoot, squareRoot}
+use Rattle.square_root.specs.Root.{nearestRoot, squareRoot}
 
 -- NaN
 pub root-of-nan : (x : Float) → ne x x ≡ true → x ≡ squareRoot binary32 x

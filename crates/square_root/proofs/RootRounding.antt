@@ -17,9 +17,9 @@ use Rattle.float_laws.specs.Units.{mag, number, unique}
 use Rattle.float_laws.specs.Order.{fits-number}
 use Rattle.float_laws.specs.Round.{odd-kind, mag-of-value}
 use Rattle.float_laws.specs.Error.{Cmp, cmp}
-use Rattle.float32.specs.Root.{IsRoot, IsNearestRoot, wholeRoot, nearestRoot}
-use Rattle.float32.proofs.WholeRoot.{at-most-root, above-root, square-of-next, square-of-odd, four-is-square, whole-root-is}
+use Rattle.square_root.specs.Root.{IsRoot, IsNearestRoot, wholeRoot, nearestRoot}
+use Rattle.square_root.proofs.WholeRoot.{at-most-root, above-root, square-of-next, square-of-odd, four-is-square, whole-root-is}
 use Rattle.float32.proofs.Made.{made, made-no-nan}
 
 -- ---- the parts of `nearestRoot`: the places dropped, the digits above them, and those digits rounded
 abbrev pub dropped : Format → ℕ → ℕ

@@ -19,9 +19,9 @@ use Rattle.float_laws.specs.Units.{mag, sign, real, real-number, mag-exact, mag
 use Rattle.float_laws.specs.Round.{plus-zero, mag-of-value, mag-zero}
 use Rattle.float_laws.specs.Mono.{above-zero}
 use Rattle.float_laws.specs.Error.{Cmp, cmp}
-use Rattle.float32.specs.Root.{wholeRoot, nearestRoot, squareRoot}
-use Rattle.float32.proofs.WholeRoot.{root-lt, square-of-next, square-of-twice, square-of-odd, four-is-square, whole-root-is}
-use Rattle.float32.proofs.RootRounding.{dropped, leading, kept, nearest-root-is, Between, square-scaled, leading-between}
+use Rattle.square_root.specs.Root.{wholeRoot, nearestRoot, squareRoot}
+use Rattle.square_root.proofs.WholeRoot.{root-lt, square-of-next, square-of-twice, square-of-odd, four-is-square, whole-root-is}
+use Rattle.square_root.proofs.RootRounding.{dropped, leading, kept, nearest-root-is, Between, square-scaled, leading-between}
 
 -- ---- a value of a format has `prec` digits at some place
 record OnGrid (f : Format) (Z : ℕ) : Type 0 where

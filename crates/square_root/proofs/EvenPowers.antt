@@ -5,8 +5,8 @@ use native.Mathlib.Nat.{mul-assoc, le-trans, le-of-eq, lt-of-lt-of-le, mul-le-mu
 use native.Mathlib.Omega.{arith}
 use lib.Count.{leadingZeros, leading-top}
 use lib.Pow.{pow-pos, pow-add, pow-mono}
-use Rattle.float32.specs.Root.{ByFours}
-use Rattle.float32.proofs.WholeRoot.{four-is-square}
+use Rattle.square_root.specs.Root.{ByFours}
+use Rattle.square_root.proofs.WholeRoot.{four-is-square}
 
 module _ (mant expo : ℕ) (positive : 0 < mant) (small : mant < 16777216) (least : expo ≤ 253) where
   abbrev pub zeros : ℕ

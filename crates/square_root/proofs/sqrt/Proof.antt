@@ -1,13 +1,13 @@
--- `float32::root::sqrt` meets its contract: each way out is one case of the definition. Assumes nothing.
+-- `sqrt` meets its contract: each way out is one case of the definition. Assumes nothing.
 use mathlib.Core.Path.{_∙_, sym, subst}
 use mathlib.Core.Bool.{Bool, not}
 use lib.Dec.{T}
 use lib.Ieee.{binary32, fits}
 use borrow.Author.Needs.{needs}
 use Rattle.float32.proofs.Made.{no-nan}
-use Rattle.float32.proofs.RootCases.{root-of-nan, root-of-zero, root-of-negative, root-of-infinity, root-of-number, zero-over-zero}
-use Rattle.float32.proofs.root.sqrt.Statement.{statement}
-use Rattle.float32.proofs.root.sqrt.Tie as tie
+use Rattle.square_root.proofs.RootCases.{root-of-nan, root-of-zero, root-of-negative, root-of-infinity, root-of-number, zero-over-zero}
+use Rattle.square_root.proofs.sqrt.Statement.{statement}
+use Rattle.square_root.proofs.sqrt.Tie as tie
 
 held : (c : tie.Start) → T (fits binary32 (c .args .x))
 held c = subst T (sym (c .good .0 .1)) tt

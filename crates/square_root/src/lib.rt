@@ -6,7 +6,7 @@
 ghost use mathlib.Core.Path.{_≡_};
 ghost use Prim.Native.Nat.{_*_, _^_, _<_, _≤_};
 ghost use lib.Ieee.{binary32};
-ghost use Rattle.float32.specs.Root.{IsRoot, IsNearestRoot, ByFours, nearestRoot, squareRoot};
+ghost use Rattle.square_root.specs.Root.{IsRoot, IsNearestRoot, ByFours, nearestRoot, squareRoot};
 
 // digits * 4^fours
 struct EvenPower {
@@ -72,7 +72,7 @@ pub fn sqrt(x: f32) -> f32
     if x != x {
         return x;
     }
-    let d = crate::bits::decode(x);
+    let d = float32::bits::decode(x);
     let neg = d.neg;
     let mant = d.mant;
     let expo = d.expo;

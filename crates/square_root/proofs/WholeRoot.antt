@@ -10,7 +10,7 @@ use lib.Dec.{T, leb, leb→le, nleb→lt, lit<}
 use lib.Pow.{pow-pos, pow-mono, shl-exact}
 use lib.Ieee.{size}
 use lib.Ieee.Digits.{size-lt}
-use Rattle.float32.specs.Root.{IsRoot, rootBelow, wholeRoot}
+use Rattle.square_root.specs.Root.{IsRoot, rootBelow, wholeRoot}
 
 -- ---- squares
 pub square-of-next : (r : ℕ) → suc r * suc r ≡ r * r + 2 * r + 1
