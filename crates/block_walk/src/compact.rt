@@ -24,7 +24,7 @@ use crate::columns::span_of;
 use crate::most::raise_partials;
 use blocks::BLOCK;
 use blocks::least_from;
-use float32::counts::lesser;
+use counts::lesser;
 use gaussian::GaussianTable;
 use lobe_bounds::bounds_of;
 use lobe_bounds::greatest_at;

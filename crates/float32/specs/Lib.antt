@@ -1,7 +1,5 @@
 pub mod Value
-pub mod Fixed
 pub mod Order
-pub mod Counts
 pub mod Remainder
 pub mod Powers
 pub mod Smoothstep

@@ -13,7 +13,7 @@ ghost use Rattle.lobe_rows.specs.Joined.{noLobe, lobeJoined, lobesJoined
 use crate::Gains;
 use crate::chunk::openings;
 use crate::joins::join;
-use float32::counts::lesser;
+use counts::lesser;
 use gaussian::GaussianTable;
 use lobes::Grid;
 use lobes::Lobe;

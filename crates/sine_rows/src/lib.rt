@@ -12,7 +12,7 @@ ghost use Rattle.lists.specs.Maps.{mapRange};
 ghost use Rattle.sine.specs.Table.{sineTable};
 ghost use Rattle.sine.specs.Sine.{wave, sinOf, cosOf};
 ghost use Rattle.sine.specs.Rows.{placeAhead, indexOf, partOf, valueAt, levelAt};
-use float32::counts::lesser;
+use counts::lesser;
 use sine::table::SineTable;
 use sine::turns::QUARTER;
 use sine::turns::place_ahead;
