@@ -24,7 +24,7 @@ use Rattle.lobe_bounds.specs.Bound.{GreatestAt}
 use Rattle.lobes.proofs.NoteLevels.{zero-is}
 use Rattle.lobe_rows.specs.Joined.{joined, noLobe, lobesJoined}
 use Rattle.lobe_rows.proofs.Maxima.{le-join, BelowWhere, nothing-open}
-use Rattle.lobe_rows.proofs.Entries.{all-places}
+use Rattle.lists.specs.Entries.{all-places}
 use Rattle.block_walk.specs.Compact.{mostOpen, SoundLobes, Opennesses, BoundedLobes, HasMost, NotAbove}
 use Rattle.block_walk.proofs.Highest.{keeps-higher, highest-in-unit, highest-least}
 use Rattle.block_walk.proofs.CompactIsPlain.{reaches, opens, zero-unit, row-run, compact-is-plain}

@@ -29,7 +29,7 @@ use Rattle.lobe_bounds.specs.Bound.{boundOf}
 use Rattle.lobe_bounds.proofs.Nearest.{InBlock}
 use Rattle.lobe_bounds.proofs.Bounded.{bound-in-unit, opening-bounded}
 use Rattle.lobe_rows.specs.Joined.{joined, lobeJoined, noLobe, lobesJoined}
-use Rattle.lobe_rows.proofs.Entries.{all-places}
+use Rattle.lists.specs.Entries.{all-places}
 use Rattle.block_walk.specs.Compact.{mostOpen, SoundLobes, Opennesses, BoundedLobes, RealTable, Within, InColumns}
 use Rattle.block_walk.proofs.Highest.{keeps}
 use Rattle.block_walk.proofs.CompactIsPlain.{compact-is-plain}

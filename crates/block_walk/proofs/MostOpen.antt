@@ -20,7 +20,7 @@ use Rattle.lobes.specs.Distance.{lent}
 use Rattle.lobe_bounds.proofs.Bounded.{Measured, opening-in-unit}
 use Rattle.lobe_rows.specs.Joined.{lobeJoined, noLobe, lobesJoined}
 use Rattle.lobe_rows.proofs.Maxima.{le-join, joinWhere, FitWhere, BelowWhere, where-join, nothing-open}
-use Rattle.lobe_rows.proofs.Entries.{all-places}
+use Rattle.lists.specs.Entries.{all-places}
 use Rattle.block_walk.specs.Compact.{mostOpen, SoundLobes, Opennesses}
 use Rattle.block_walk.proofs.Highest.{InUnit, highest-reaches, once-before}
 use Rattle.block_walk.proofs.CompactIsPlain.{reaches, opens, AllInUnit, row-step, row-run}

@@ -2,4 +2,3 @@ pub mod Staged
 pub mod Walk
 pub mod EachLobe
 pub mod Maxima
-pub mod Entries

@@ -23,7 +23,7 @@ use Rattle.scene.specs.declared.MaskVoice.{MaskVoice}
 use Rattle.scene.specs.declared.MaskConfig.{MaskConfig}
 use Rattle.scene.specs.Accepted.{noVoice, sizeAccepted, settingsAccepted}
 use Rattle.scene.proofs.Voices.{RealVoice, accepted-real}
-use Rattle.lobe_rows.proofs.Entries.{all-places}
+use Rattle.lists.specs.Entries.{all-places}
 use Rattle.lobes.specs.Grid.{gridOf}
 use Rattle.lobe_bounds.proofs.Bounded.{grid-width}
 use Rattle.openness.specs.Scene.{SoundScene}

@@ -27,7 +27,7 @@ use Rattle.lobes.proofs.NoteLevels.{zero-is}
 use Rattle.lobes.proofs.Raised.{Raised, same-bins, opened-rises}
 use Rattle.lobe_rows.specs.Joined.{lobeJoined}
 use Rattle.lobe_rows.proofs.Maxima.{Openness, nothing-open, Join, le-join, FitWhere, BelowWhere, where-join, AllBelow, fold-join}
-use Rattle.lobe_rows.proofs.Entries.{all-range, all-until, all-weaken, all-both, all-places}
+use Rattle.lists.specs.Entries.{all-range, all-until, all-weaken, all-both, all-places}
 use Rattle.openness.specs.Openness.{SKIPPED-LEVEL, partialsOf, toneJoined, voiceJoined, openness}
 
 pub raised-self : (a : MaskVoice) → RealVoice a → Raised a a
