@@ -148,9 +148,9 @@ pub fn exp2_row(row: &mut [f32], powers: &PowerTable, count: usize)
     requires { ⌜ (now powers ≡ powerTable) × (count ≤ length (now row)) ⌝ }
     ensures { λ _. ⌜ now (row .exit) ≡ mapRange (λ i x. E2 x) 0 count (now (row .entry)) ⌝ }
 {
-    let mut inside = [0.0f32; 64];
-    let mut found = [0u32; 64];
-    let mut values = [0u32; 64];
+    let mut inside = [0.0f32; ROW];
+    let mut found = [0u32; ROW];
+    let mut values = [0u32; ROW];
     let mut start: usize = 0;
     while start < count {
         let few = lesser(count - start, ROW);

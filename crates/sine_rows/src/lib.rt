@@ -135,9 +135,9 @@ fn waves_ahead(row: &mut [f32], sines: &SineTable, count: usize, ahead: u64)
     requires { ⌜ (now sines ≡ sineTable) × (count ≤ length (now row)) × (ahead ≤ 2 ^ 22) ⌝ }
     ensures { λ _. ⌜ now (row .exit) ≡ mapRange (λ i angle. wave (placeAhead ahead angle)) 0 count (now (row .entry)) ⌝ }
 {
-    let mut found = [0u32; 64];
-    let mut indexes = [0u32; 64];
-    let mut parts = [0u32; 64];
+    let mut found = [0u32; ROW];
+    let mut indexes = [0u32; ROW];
+    let mut parts = [0u32; ROW];
     let mut start: usize = 0;
     while start < count {
         let few = lesser(count - start, ROW);
