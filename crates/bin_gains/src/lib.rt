@@ -11,7 +11,7 @@ ghost use Rattle.sine.specs.Table.{sineTable};
 ghost use Rattle.masks.specs.Manual.{MANUAL-MASK-POINTS};
 ghost use Rattle.bin_gains.specs.Gains.{gateAt, ceilingAt, gainAt};
 ghost use Rattle.bin_gains.specs.Shared.{sharedOf};
-use float32::counts::lesser;
+use counts::lesser;
 use motion::field::RESTING_DEPTH_DB;
 use power::table::PowerTable;
 use scene::MaskConfig;

@@ -11,6 +11,7 @@ use lib.Ieee.{Float, nan, binary32, le}
 use Rattle.lists.specs.Folds.{fold, fold-step, fold-end, rest-next, rest-none}
 use Rattle.lists.specs.Maps.{tabulate, mapRange, between-in, getD-tabulate, length-tab, getD-mapRange, length-mapRange}
 use Rattle.lists.specs.Totals.{all-at}
+use Rattle.lists.specs.Entries.{all-places}
 use Rattle.float_laws.specs.Rise.{Upto, upto-weaken}
 use Rattle.float32.specs.Remainder.{zero, one}
 use Rattle.blocks.specs.Least.{Numbers}
@@ -20,7 +21,6 @@ use Rattle.lobes.specs.Distance.{lent}
 use Rattle.lobe_bounds.proofs.Bounded.{Measured, opening-in-unit}
 use Rattle.lobe_joins.specs.Joined.{lobeJoined, noLobe, lobesJoined}
 use Rattle.lobe_joins.proofs.Maxima.{le-join, joinWhere, FitWhere, BelowWhere, where-join, nothing-open}
-use Rattle.lobe_joins.proofs.Entries.{all-places}
 use Rattle.block_rows.specs.Most.{mostOpen, SoundLobes, Opennesses}
 use Rattle.block_rows.proofs.Highest.{InUnit, highest-reaches, once-before}
 use Rattle.block_rows.proofs.RowJoined.{reaches, opens, AllInUnit, row-step, row-run}

@@ -10,6 +10,8 @@ use lib.ListN.{length, getD, take}
 use lib.Seq.{ext-getD, getD-take, length-take-le}
 use lib.Ieee.{Float, nan, binary32, le, mul}
 use Rattle.lists.specs.Maps.{mapRange, between, between-in, between-low, between-high, getD-mapRange, length-mapRange}
+use Rattle.lists.specs.Stages.{range-held}
+use Rattle.lists.specs.Entries.{all-places}
 use Rattle.float_laws.specs.Mono.{mul-mono-l}
 use Rattle.float_laws.specs.Rise.{Upto, upto-weaken, upto-mul}
 use Rattle.float32.specs.Remainder.{zero}
@@ -20,28 +22,13 @@ use Rattle.lobe_bounds.specs.Bound.{GreatestAt}
 use Rattle.lobes.proofs.NoteLevels.{zero-is}
 use Rattle.lobe_joins.specs.Joined.{joined, noLobe, lobesJoined}
 use Rattle.lobe_joins.proofs.Maxima.{le-join, BelowWhere, nothing-open}
-use Rattle.lobe_joins.proofs.Entries.{all-places}
 use Rattle.block_rows.specs.Most.{mostOpen, SoundLobes, Opennesses, BoundedLobes, HasMost, NotAbove}
 use Rattle.block_rows.proofs.Highest.{keeps-higher, highest-in-unit, highest-least}
 use Rattle.block_rows.proofs.RowJoined.{reaches, opens, row-run}
 use Rattle.block_walk.proofs.CompactIsPlain.{zero-unit, compact-is-plain}
 use Rattle.block_rows.proofs.MostOpen.{lobe-in-unit, all-in-unit}
 
--- two functions that agree at the entries of a range
-range-entries : (f g : ℕ → Float → Float) (lo hi : ℕ) (xs : List Float) → ((k : ℕ) → k < length xs → lo ≤ k → k < hi → f k (getD xs k nan) ≡ g k (getD xs k nan)) → mapRange f lo hi xs ≡ mapRange g lo hi xs
-range-entries f g lo hi xs e =
-    ext-getD nan (mapRange f lo hi xs) (mapRange g lo hi xs) (length-mapRange f lo hi xs ∙ sym (length-mapRange g lo hi xs))
-    (λ k h. at k (subst (λ n. k < n) (length-mapRange f lo hi xs) h) (decLt k lo) (decLt k hi))
-  where
-    at : (k : ℕ) → k < length xs → Dec (k < lo) → Dec (k < hi) → getD (mapRange f lo hi xs) k nan ≡ getD (mapRange g lo hi xs) k nan
-    at k h p q = getD-mapRange f lo hi xs k nan h ∙ same p q ∙ sym (getD-mapRange g lo hi xs k nan h)
-      where
-        same : Dec (k < lo) → Dec (k < hi) → between lo hi f k (getD xs k nan) ≡ between lo hi g k (getD xs k nan)
-        same (yes p) q = between-low f lo hi k (getD xs k nan) p ∙ sym (between-low g lo hi k (getD xs k nan) p)
-        same (no p) (yes q) = between-in f lo hi k (getD xs k nan) (omega arith) q ∙ e k h (omega arith) q ∙ sym (between-in g lo hi k (getD xs k nan) (omega arith) q)
-        same (no p) (no q) = between-high f lo hi k (getD xs k nan) (omega arith) ∙ sym (between-high g lo hi k (getD xs k nan) (omega arith))
-
--- a function that changes none of them
+-- a function that changes none of a range's entries
 range-kept : (g : ℕ → Float → Float) (lo hi : ℕ) (xs : List Float) → ((k : ℕ) → k < length xs → lo ≤ k → k < hi → g k (getD xs k nan) ≡ getD xs k nan) → xs ≡ mapRange g lo hi xs
 range-kept g lo hi xs e =
     ext-getD nan xs (mapRange g lo hi xs) (sym (length-mapRange g lo hi xs)) (λ k h. sym (getD-mapRange g lo hi xs k nan h ∙ same k h (decLt k lo) (decLt k hi)))
@@ -65,7 +52,7 @@ module _ (grid : Grid) (table : List Float) (lobes : List Lobe) (count : ℕ) (s
   pub block-joined : (row : List Float) (start end : ℕ) {gain : Float} → Upto binary32 3 gain → HasMost grid table (take count lobes) start end row → (xs : List Float) → Opennesses xs
       → {ys : List Float} → ys ≡ mapRange (λ bin held. joined gain held (getD row (bin - start) nan)) start end xs → ys ≡ mapRange (lobesJoined grid (lent table) gain (take count lobes)) start end xs
   block-joined row start end {gain} g e xs u {ys} w =
-      w ∙ range-entries (λ bin held. joined gain held (getD row (bin - start) nan)) (lobesJoined grid (lent table) gain (take count lobes)) start end xs at
+      w ∙ range-held nan (λ bin held. joined gain held (getD row (bin - start) nan)) (lobesJoined grid (lent table) gain (take count lobes)) start end xs at
     where
       at : (k : ℕ) → k < length xs → start ≤ k → k < end → joined gain (getD xs k nan) (getD row (k - start) nan) ≡ lobesJoined grid (lent table) gain (take count lobes) k (getD xs k nan)
       at k h p q =

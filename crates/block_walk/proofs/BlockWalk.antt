@@ -16,6 +16,7 @@ use Rattle.lists.specs.Turned.{Turned, turned-none}
 use Rattle.lists.specs.Runs.{map-same, turned-part}
 use Rattle.lists.specs.Folds.{fold}
 use Rattle.lists.specs.Totals.{All}
+use Rattle.lists.specs.Entries.{all-places}
 use Rattle.float_laws.specs.Units.{real}
 use Rattle.float_laws.specs.Rise.{Upto, upto-mul}
 use Rattle.power.specs.Log.{L2}
@@ -29,7 +30,6 @@ use Rattle.lobe_bounds.specs.Bound.{boundOf}
 use Rattle.lobe_bounds.proofs.Nearest.{InBlock}
 use Rattle.lobe_bounds.proofs.Bounded.{bound-in-unit, opening-bounded}
 use Rattle.lobe_joins.specs.Joined.{joined, lobeJoined, noLobe, lobesJoined}
-use Rattle.lobe_joins.proofs.Entries.{all-places}
 use Rattle.block_rows.specs.Most.{mostOpen, SoundLobes, Opennesses, BoundedLobes}
 use Rattle.block_walk.specs.Compact.{RealTable, Within, InColumns}
 use Rattle.block_rows.proofs.Highest.{keeps}

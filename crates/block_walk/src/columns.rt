@@ -6,8 +6,8 @@ ghost use Rattle.lists.specs.Maps.{mapRange};
 ghost use Rattle.blocks.specs.Ends.{blockOf};
 ghost use Rattle.lobe_joins.specs.Joined.{noLobe};
 use blocks::BLOCK;
-use float32::counts::greater;
-use float32::counts::lesser;
+use counts::greater;
+use counts::lesser;
 use lobes::Grid;
 use lobes::Lobe;
 

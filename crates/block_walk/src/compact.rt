@@ -25,7 +25,7 @@ use crate::columns::span_of;
 use block_rows::raise_partials;
 use block_rows::rises::nothing_rises;
 use blocks::BLOCK;
-use float32::counts::lesser;
+use counts::lesser;
 use gaussian::GaussianTable;
 use lobe_bounds::bounds_of;
 use lobe_bounds::greatest_at;

@@ -5,7 +5,7 @@ ghost use lib.ListN.{length};
 ghost use Rattle.blocks.specs.Least.{Numbers, Least, Greatest, largest, lowest};
 ghost use Rattle.blocks.specs.Row.{RowOf};
 ghost use Rattle.blocks.specs.Ends.{Ends};
-use float32::counts::lesser;
+use counts::lesser;
 use rows::copy_row;
 use rows::least_of;
 use rows::negate;

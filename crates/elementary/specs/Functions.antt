@@ -2,7 +2,7 @@
 use lib.Ieee.{Float, binary32}
 use Rattle.elementary.specs.declared.Function.{Function}
 use Rattle.elementary.specs.declared.Function.the-variants.{Exp2, Log2, Sin, Cos, Sqrt, Pow10, Exp, Log10, RemEuclid, Powi2, Powi5, Abs}
-use Rattle.float32.specs.Root.{squareRoot}
+use Rattle.square_root.specs.Root.{squareRoot}
 use Rattle.float32.specs.Remainder.{remEuclidOne}
 use Rattle.float32.specs.Powers.{square, fifth}
 use Rattle.float32.specs.Order.{magnitude}

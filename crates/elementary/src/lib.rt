@@ -32,7 +32,7 @@ pub fn value(function: Function, powers: &PowerTable, sines: &SineTable, x: f32)
         Function::Log2 => power::log2::log2(powers, x),
         Function::Sin => sine::sin(sines, x),
         Function::Cos => sine::cos(sines, x),
-        Function::Sqrt => float32::root::sqrt(x),
+        Function::Sqrt => square_root::sqrt(x),
         Function::Pow10 => power::decimal::pow10(powers, x),
         Function::Exp => power::decimal::exp(powers, x),
         Function::Log10 => power::decimal::log10(powers, x),

@@ -1,10 +1,7 @@
-// f32 beside the language's own operators, by topic. Every function is equal to a definition in specs/, and none but the inner ones of bits, counts, fixed and root
+// f32 beside the language's own operators, by topic. Every function is equal to a definition in specs/, and none but the inner ones of bits and remainder
 // asks anything of its arguments.
 pub mod bits;
 pub mod constants;
-pub mod counts;
-pub mod fixed;
 pub mod order;
 pub mod powers;
 pub mod remainder;
-pub mod root;

@@ -16,8 +16,8 @@ abbrev pub hertz : Float → ℕ → Float
 hertz spacing bin = mul binary32 (ofInt binary32 (pos bin)) spacing
 
 -- a bin's frequency, of bin 0 just 0, which L2 takes to 0 too
-unfoldable pub counted : Float → ℕ → Float
-counted spacing bin = cond (eqb bin 0) zero (hertz spacing bin)
+unfoldable pub hertzOrZero : Float → ℕ → Float
+hertzOrZero spacing bin = cond (eqb bin 0) zero (hertz spacing bin)
 
 unfoldable pub log2Hz : Float → ℕ → Float
 log2Hz spacing bin = cond (eqb bin 0) zero (L2 (hertz spacing bin))

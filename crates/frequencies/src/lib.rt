@@ -6,7 +6,7 @@ ghost use Prim.Native.Nat.{_^_, _≤_};
 ghost use lib.ListN.{length};
 ghost use Rattle.lists.specs.Maps.{tabulate};
 ghost use Rattle.power.specs.Table.{powerTable};
-ghost use Rattle.frequencies.specs.Frequency.{binHz, counted, prepared};
+ghost use Rattle.frequencies.specs.Frequency.{binHz, hertzOrZero, prepared};
 use power::table::PowerTable;
 use power::table::power_table;
 
@@ -21,7 +21,7 @@ pub fn bin_hz(sample_rate: f32, fft_size: usize) -> f32
 // A bin's frequency; that of bin 0 counts as 0, which has no logarithm.
 fn hertz(bin: usize, bin_hz: f32) -> f32
     requires { ⌜ bin ≤ 2 ^ 24 ⌝ }
-    ensures { λ r. ⌜ r ≡ counted «bin_hz» bin ⌝ }
+    ensures { λ r. ⌜ r ≡ hertzOrZero «bin_hz» bin ⌝ }
 {
     if bin == 0 {
         return 0.0;
@@ -31,7 +31,7 @@ fn hertz(bin: usize, bin_hz: f32) -> f32
 
 fn fill_hertz(table: &mut [f32], bin_hz: f32)
     requires { ⌜ length (now table) ≤ 2 ^ 24 ⌝ }
-    ensures { λ _. ⌜ now (table .exit) ≡ tabulate (length (now (table .entry))) (counted «bin_hz») ⌝ }
+    ensures { λ _. ⌜ now (table .exit) ≡ tabulate (length (now (table .entry))) (hertzOrZero «bin_hz») ⌝ }
 {
     let mut bin: usize = 0;
     while bin < table.len() {

@@ -16,8 +16,8 @@ use Rattle.float_laws.specs.Round.{plus-zero, real-zero}
 use Rattle.float_laws.specs.Mono.{nonneg-key, size-nonneg, sub-mono, sub-number}
 use Rattle.float_laws.specs.Bounds.{one, real-one, real-between, sub-nonneg}
 use Rattle.float_laws.specs.Exact.{mag-whole, sign-whole, real-whole, whole-sub, whole-power}
-use Rattle.float32.specs.Counts.{countOf, floorCount}
-use Rattle.float32.proofs.CountBounds.{floor-under-value, next-over-value}
+use Rattle.counts.specs.Counts.{countOf, floorCount}
+use Rattle.counts.proofs.CountBounds.{floor-under-value, next-over-value}
 
 -- ---- whole numbers
 module _ (f : Format) where

@@ -18,10 +18,10 @@ use Rattle.float_laws.specs.Bounds as bounds
 use Rattle.float_laws.specs.Bounds.{real-between}
 use Rattle.float_laws.specs.Range.{toward, toward-lower-nonneg, toward-lower-most, toward-lower-real}
 use Rattle.float_laws.specs.Rise.{Upto}
-use Rattle.float32.specs.Counts.{floorCount}
+use Rattle.counts.specs.Counts.{floorCount}
 use Rattle.float32.specs.Order.{clamp}
 use Rattle.float32.specs.Remainder.{zero}
-use Rattle.float32.proofs.CountBounds.{count-to-1024}
+use Rattle.counts.proofs.CountBounds.{count-to-1024}
 use Rattle.gaussian.specs.Table.{GAUSSIAN-LUT-STEPS, G}
 use Rattle.gaussian.specs.Bell.{GAUSSIAN-MAX-RELATIVE-SQUARED, STEPS-PER-SQUARE, LAST-ENTRY, Place, position, between, gaussian}
 use Rattle.gaussian.proofs.Fraction.{fraction-nonneg, fraction-at-most-one, fraction-real}

@@ -12,7 +12,7 @@ use Rattle.float_laws.specs.Units.{real-number}
 use Rattle.float_laws.specs.Order.{le-trans-f}
 use Rattle.float_laws.specs.Power.{power}
 use Rattle.float_laws.specs.Steps.{number-no-nan, whole-real-32, whole-floor-32}
-use Rattle.float32.specs.Counts.{floorCount}
+use Rattle.counts.specs.Counts.{floorCount}
 use Rattle.gaussian.specs.Bell.{LAST-ENTRY, Place, indexOf}
 use Rattle.gaussian.proofs.Fraction.{floor-by-size}
 use Rattle.gaussian.proofs.InUnit.{left-most, room}

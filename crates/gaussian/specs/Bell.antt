@@ -5,7 +5,7 @@ use lib.IntN.{pos}
 use lib.Ieee.{Float, binary32, ofBits, ofInt, add, sub, mul, le}
 use Rattle.float_laws.specs.Units.{real}
 use Rattle.float_laws.specs.Round.{plus-zero}
-use Rattle.float32.specs.Counts.{floorCount}
+use Rattle.counts.specs.Counts.{floorCount}
 use Rattle.float32.specs.Order.{clamp}
 use Rattle.float32.specs.Remainder.{zero}
 use Rattle.gaussian.specs.Table.{GAUSSIAN-LUT-STEPS, G}

@@ -5,7 +5,7 @@ ghost use mathlib.Core.Path.{_≡_};
 ghost use Prim.Native.Nat.{_≤_};
 ghost use Rattle.gaussian.specs.Table.{gaussianTable};
 ghost use Rattle.gaussian.specs.Bell.{Place, position, indexOf, partOf, line};
-use float32::counts::lesser;
+use counts::lesser;
 use float32::order::clamp;
 
 pub const GAUSSIAN_LUT_STEPS: usize = 1024;

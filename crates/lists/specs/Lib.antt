@@ -4,6 +4,7 @@ pub mod Parts
 pub mod Folds
 pub mod Runs
 pub mod Totals
+pub mod Entries
 pub mod Tested
 pub mod Pairs
 pub mod Interpolation

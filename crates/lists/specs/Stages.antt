@@ -1,6 +1,6 @@
 -- A row of entries worked out in stages, each a map of the same part: two stages are one map of the part; and what is done with a row that holds f at each of its places is done with f.
 -- Assumes nothing.
-use mathlib.Core.Path.{_≡_, refl, sym, ap, _∙_}
+use mathlib.Core.Path.{_≡_, refl, sym, ap, _∙_, subst}
 use mathlib.Core.Bool.{Bool, true, false, cond, _&&_}
 use mathlib.Core.List.{List, [], _∷_}
 use Prim.Native.Nat.{ℕ, suc, _+_, _-_, _≤_, _<_}
@@ -8,7 +8,8 @@ use native.Mathlib.Decide.{decLt}
 use native.Mathlib.Omega.{arith}
 use lib.Dec.{leb, ltb}
 use lib.ListN.{length, getD, set}
-use Rattle.lists.specs.Maps.{mapFrom, mapAt, mapRange, between, between-in, between-low, between-high, getD-mapRange, mapFrom-same}
+use lib.Seq.{ext-getD}
+use Rattle.lists.specs.Maps.{mapFrom, mapAt, mapRange, between, between-in, between-low, between-high, length-mapRange, getD-mapRange, mapFrom-same}
 use Rattle.lists.specs.Turned.{Turned, turned-read, turned-more}
 
 module _ {A : Type 0} where
@@ -28,6 +29,18 @@ module _ {A : Type 0} where
       at k x (yes p) w = between-low f lo hi k x p ∙ sym (between-low g lo hi k x p)
       at k x (no p) (yes q) = between-in f lo hi k x (omega arith) q ∙ e k x (omega arith) q ∙ sym (between-in g lo hi k x (omega arith) q)
       at k x (no p) (no q) = between-high f lo hi k x (omega arith) ∙ sym (between-high g lo hi k x (omega arith))
+
+  -- functions that agree at the entries that the list has there
+  pub range-held : (d : A) (f g : ℕ → A → A) (lo hi : ℕ) (xs : List A) → ((k : ℕ) → k < length xs → lo ≤ k → k < hi → f k (getD xs k d) ≡ g k (getD xs k d))
+      → mapRange f lo hi xs ≡ mapRange g lo hi xs
+  range-held d f g lo hi xs e =
+      ext-getD d (mapRange f lo hi xs) (mapRange g lo hi xs) (length-mapRange f lo hi xs ∙ sym (length-mapRange g lo hi xs))
+      (λ k h. let l = subst (λ n. k < n) (length-mapRange f lo hi xs) h in getD-mapRange f lo hi xs k d l ∙ at k l (decLt k lo) (decLt k hi) ∙ sym (getD-mapRange g lo hi xs k d l))
+    where
+      at : (k : ℕ) → k < length xs → Dec (k < lo) → Dec (k < hi) → between lo hi f k (getD xs k d) ≡ between lo hi g k (getD xs k d)
+      at k l (yes p) w = between-low f lo hi k (getD xs k d) p ∙ sym (between-low g lo hi k (getD xs k d) p)
+      at k l (no p) (yes q) = between-in f lo hi k (getD xs k d) (omega arith) q ∙ e k l (omega arith) q ∙ sym (between-in g lo hi k (getD xs k d) (omega arith) q)
+      at k l (no p) (no q) = between-high f lo hi k (getD xs k d) (omega arith) ∙ sym (between-high g lo hi k (getD xs k d) (omega arith))
 
   -- a stage g and then a stage f
   pub stages : (f g : ℕ → A → A) (lo hi : ℕ) (xs : List A) → mapRange f lo hi (mapRange g lo hi xs) ≡ mapRange (λ k x. f k (g k x)) lo hi xs

@@ -19,11 +19,11 @@ use Rattle.float_laws.specs.Ops.{mul-comm-f, mul-neg, neg-neg}
 use Rattle.float_laws.specs.Mono.{sub-number, mul-number, mul-nonneg}
 use Rattle.float_laws.specs.Inf.{mul-by, sub-mono-inf, mul-mono-inf}
 use Rattle.float_laws.specs.Rise.{Upto, Rise, Up, rise-refl, up-scale, up-clamp}
-use Rattle.float32.specs.Counts.{floorCount}
+use Rattle.counts.specs.Counts.{floorCount}
 use Rattle.float32.specs.Order.{maximum, clamp, magnitude}
 use Rattle.float32.specs.Powers.{square}
 use Rattle.float32.specs.Remainder.{zero, one}
-use Rattle.float32.proofs.CountBounds.{count-never-falls}
+use Rattle.counts.proofs.CountBounds.{count-never-falls}
 use Rattle.float32.proofs.Magnitude.{magnitude-is-number}
 use Rattle.float32.proofs.OrderAgrees.{clamp-agrees, maximum-nan-first, maximum-larger}
 use Rattle.power.specs.Log.{L2}

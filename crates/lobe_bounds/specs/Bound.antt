@@ -6,7 +6,7 @@ use lib.Dec.{T}
 use lib.ListN.{getD}
 use lib.Ieee.{Float, nan, binary32, le, sub, mul}
 use Rattle.float_laws.specs.Units.{number}
-use Rattle.float32.specs.Counts.{floorCount}
+use Rattle.counts.specs.Counts.{floorCount}
 use Rattle.float32.specs.Order.{maximum, clamp}
 use Rattle.float32.specs.Powers.{square}
 use Rattle.float32.specs.Remainder.{zero, one}

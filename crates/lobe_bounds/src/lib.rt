@@ -11,7 +11,7 @@ ghost use lib.Ieee.{nan, lt};
 ghost use Rattle.lists.specs.Maps.{mapRange};
 ghost use Rattle.gaussian.specs.Table.{gaussianTable};
 ghost use Rattle.lobe_bounds.specs.Bound.{leastDistance, nearestPlace, boundAt, boundOf, Numbers, GreatestAt};
-use float32::counts::lesser;
+use counts::lesser;
 use float32::order::clamp;
 use float32::order::max;
 use gaussian::GAUSSIAN_LUT_STEPS;
@@ -57,7 +57,7 @@ fn bound_at(gaussians: &GaussianTable, strength: f32, place: f32) -> f32
     requires { ⌜ now gaussians ≡ gaussianTable ⌝ }
     ensures { λ r. ⌜ r ≡ boundAt strength place ⌝ }
 {
-    let left = lesser(float32::counts::floor_to_count(place), GAUSSIAN_LUT_STEPS);
+    let left = lesser(counts::floor_to_count(place), GAUSSIAN_LUT_STEPS);
     clamp(strength * gaussians[left], 0.0, 1.0)
 }
 

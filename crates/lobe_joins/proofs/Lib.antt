@@ -1,2 +1,1 @@
 pub mod Maxima
-pub mod Entries

@@ -5,7 +5,7 @@ ghost use lib.ListN.{length, getD};
 ghost use lib.Ieee.{nan};
 ghost use Rattle.lists.specs.Maps.{mapRange};
 ghost use Rattle.lobe_joins.specs.Joined.{joined};
-use float32::counts::lesser;
+use counts::lesser;
 
 // What a bin holds, and what a lobe opens there under a voice's expression.
 fn joined(held: f32, opening: f32, gain: f32) -> f32

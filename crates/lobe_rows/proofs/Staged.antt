@@ -10,7 +10,7 @@ use lib.Ieee.Fits.{sub-fits}
 use Rattle.lists.specs.Maps.{mapRange, between-in, getD-mapRange}
 use Rattle.lists.specs.Runs.{range-range, range-same}
 use Rattle.lists.specs.Stages.{stages, stage-same}
-use Rattle.float32.specs.Counts.{floorCount}
+use Rattle.counts.specs.Counts.{floorCount}
 use Rattle.float32.specs.Powers.{square}
 use Rattle.power.specs.Log.{L2}
 use Rattle.power.specs.Decimal.{exp}

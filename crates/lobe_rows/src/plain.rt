@@ -12,7 +12,7 @@ ghost use Rattle.lobes.specs.Distance.{logsOf};
 ghost use Rattle.lobe_joins.specs.Joined.{noLobe, lobeJoined, lobesJoined};
 use crate::Gains;
 use crate::chunk::openings;
-use float32::counts::lesser;
+use counts::lesser;
 use gaussian::GaussianTable;
 use lobe_joins::join;
 use lobes::Grid;

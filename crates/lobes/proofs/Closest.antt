@@ -5,7 +5,7 @@ use Prim.Native.Nat.{ℕ, _+_, _≤_, min, max}
 use native.Mathlib.Nat.{min-le-right, le-min, le-max-right}
 use native.Mathlib.Omega.{arith}
 use lib.Ieee.{Float, binary32, div, lt}
-use Rattle.float32.specs.Counts.{floorCount}
+use Rattle.counts.specs.Counts.{floorCount}
 use Rattle.lobes.specs.Peak.{cents, closestBin}
 
 pub chosen : (center spacing : Float) (last lower upper : ℕ) → lower ≡ min (max (floorCount (div binary32 center spacing)) 1) last → upper ≡ min (lower + 1) last

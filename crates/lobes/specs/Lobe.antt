@@ -2,7 +2,7 @@
 -- weaker than one on a bin. Assumes nothing.
 use Prim.Native.Nat.{ℕ, min, max}
 use lib.Ieee.{Float, binary32, sub, mul, div}
-use Rattle.float32.specs.Counts.{floorCount, ceilCount}
+use Rattle.counts.specs.Counts.{floorCount, ceilCount}
 use Rattle.float32.specs.Order.{maximum, clamp}
 use Rattle.float32.specs.Powers.{square}
 use Rattle.float32.specs.Remainder.{zero, one}

@@ -3,7 +3,7 @@
 use mathlib.Core.Bool.{cond}
 use Prim.Native.Nat.{ℕ, _+_, min, max}
 use lib.Ieee.{Float, binary32, mul, div, lt}
-use Rattle.float32.specs.Counts.{floorCount}
+use Rattle.counts.specs.Counts.{floorCount}
 use Rattle.float32.specs.Order.{magnitude}
 use Rattle.power.specs.Log.{L2}
 use Rattle.frequencies.specs.Frequency.{hertz}

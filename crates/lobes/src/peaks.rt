@@ -4,8 +4,8 @@ ghost use Prim.Native.Nat.{_^_, _≤_};
 ghost use Rattle.power.specs.Table.{powerTable};
 ghost use Rattle.lobes.specs.Peak.{cents, closestBin};
 use crate::grids::CENTS_PER_OCTAVE;
-use float32::counts::greater;
-use float32::counts::lesser;
+use counts::greater;
+use counts::lesser;
 use power::table::PowerTable;
 
 fn cents(powers: &PowerTable, bin_hz: f32, center: f32, bin: usize) -> f32
@@ -21,10 +21,7 @@ pub fn closest_bin_in_cents(powers: &PowerTable, center: f32, bin_hz: f32, last:
     requires { ⌜ (now powers ≡ powerTable) × (last ≤ 2 ^ 24) ⌝ }
     ensures { λ r. ⌜ r ≡ closestBin center «bin_hz» last ⌝ }
 {
-    let lower = lesser(
-        greater(float32::counts::floor_to_count(center / bin_hz), 1),
-        last,
-    );
+    let lower = lesser(greater(counts::floor_to_count(center / bin_hz), 1), last);
     let upper = lesser(lower + 1, last);
     if cents(powers, bin_hz, center, upper) < cents(powers, bin_hz, center, lower) {
         return upper;

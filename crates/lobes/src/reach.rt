@@ -17,8 +17,8 @@ use crate::octaves::PartialOctaves;
 use crate::peaks::closest_bin_in_cents;
 use crate::tones::center_of;
 use crate::tones::harmonic_gain;
-use float32::counts::greater;
-use float32::counts::lesser;
+use counts::greater;
+use counts::lesser;
 use power::table::PowerTable;
 
 // Never bin 0.
@@ -26,14 +26,14 @@ pub fn first_bin(grid: Grid, center: f32) -> usize
     ensures { λ r. ⌜ r ≡ firstBin grid center ⌝ }
 {
     let place = center * grid.lower_ratio / grid.bin_hz;
-    greater(float32::counts::floor_to_count(place), 1)
+    greater(counts::floor_to_count(place), 1)
 }
 
 pub fn last_bin(grid: Grid, center: f32) -> usize
     ensures { λ r. ⌜ r ≡ lastBin grid center ⌝ }
 {
     let place = center * grid.upper_ratio / grid.bin_hz;
-    lesser(float32::counts::ceil_to_count(place), grid.last_bin)
+    lesser(counts::ceil_to_count(place), grid.last_bin)
 }
 
 // A bin's distance from a centre: by the table where one was lent.

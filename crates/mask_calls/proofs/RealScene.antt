@@ -12,6 +12,7 @@ use lib.Count.{trailingZeros}
 use lib.Ieee.{Float, nan, binary32, fits, ofBits, ofFields, odd}
 use lib.Ieee.Fits.{and-r}
 use Rattle.lists.specs.Totals.{All}
+use Rattle.lists.specs.Entries.{all-places}
 use Rattle.float_laws.specs.Units.{number, real}
 use Rattle.float32.proofs.Limits.{within-number, within-real}
 use Rattle.answer.specs.Reply.{Reply}
@@ -23,7 +24,6 @@ use Rattle.scene.specs.declared.MaskVoice.{MaskVoice}
 use Rattle.scene.specs.declared.MaskConfig.{MaskConfig}
 use Rattle.scene.specs.Accepted.{noVoice, sizeAccepted, settingsAccepted}
 use Rattle.scene.proofs.Voices.{RealVoice, accepted-real}
-use Rattle.lobe_joins.proofs.Entries.{all-places}
 use Rattle.lobes.specs.Grid.{gridOf}
 use Rattle.lobe_bounds.proofs.Bounded.{grid-width}
 use Rattle.openness.specs.Scene.{SoundScene}

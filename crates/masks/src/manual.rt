@@ -3,7 +3,7 @@ ghost use mathlib.Core.Path.{_≡_};
 ghost use lib.ListN.{length};
 ghost use Rattle.power.specs.Table.{powerTable};
 ghost use Rattle.masks.specs.Manual.{MANUAL-MASK-POINTS, curvePoint, curveGain, manualGain};
-use float32::counts::lesser;
+use counts::lesser;
 use float32::order::min;
 use power::table::PowerTable;
 

@@ -11,7 +11,7 @@ ghost use Rattle.masks.specs.Counted.{countedAs};
 use crate::manual::LAST_POINT;
 use crate::manual::MANUAL_CURVE_MUTE_DB;
 use crate::manual::curve_point;
-use float32::counts::lesser;
+use counts::lesser;
 use float32::order::min;
 use power::table::PowerTable;
 

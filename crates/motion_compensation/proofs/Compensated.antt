@@ -25,10 +25,10 @@ use Rattle.float_laws.specs.Exact.{real-whole, whole-add, whole-power}
 use Rattle.float_laws.specs.Rise.{Upto, upto-mul}
 use Rattle.float32.specs.Order.{minimum}
 use Rattle.float32.specs.Remainder as remainder
-use Rattle.float32.specs.Root.{squareRoot}
+use Rattle.square_root.specs.Root.{squareRoot}
 use Rattle.float32.specs.Value.{moved}
 use Rattle.float32.proofs.OrderAgrees.{minimum-smaller}
-use Rattle.float32.proofs.RootOrder.{root-number, root-keeps-plus, root-at-most-one}
+use Rattle.square_root.proofs.RootOrder.{root-number, root-keeps-plus, root-at-most-one}
 use Rattle.power.specs.Table.{powerTable}
 use Rattle.power.specs.Power.{powerAt, powerOf, E2}
 use Rattle.scene.specs.declared.MotionConfig.{MotionConfig}

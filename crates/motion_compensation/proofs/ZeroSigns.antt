@@ -14,7 +14,7 @@ use Rattle.float32.specs.Order.{maximum, minimum, clamp, magnitude}
 use Rattle.float32.specs.Remainder.{zero, one, half, remEuclidOne}
 use Rattle.float32.specs.Value.{moved}
 use Rattle.float32.specs.Powers.{square}
-use Rattle.float32.specs.Root.{squareRoot}
+use Rattle.square_root.specs.Root.{squareRoot}
 use Rattle.power.specs.Log.{L2}
 use Rattle.decibels.specs.Gain.{gainOf}
 use Rattle.sine.specs.Sine.{U, wave, sinOf, cosOf}

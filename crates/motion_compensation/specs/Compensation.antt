@@ -7,7 +7,7 @@ use Rattle.lists.specs.Folds.{fold, range}
 use Rattle.float32.specs.Order.{minimum}
 use Rattle.float32.specs.Powers.{square}
 use Rattle.float32.specs.Remainder.{zero, one, half}
-use Rattle.float32.specs.Root.{squareRoot}
+use Rattle.square_root.specs.Root.{squareRoot}
 use Rattle.power.specs.Power.{E2}
 use Rattle.scene.specs.declared.MotionConfig.{MotionConfig}
 use Rattle.motion.specs.Shapes.{DISPLAY-OCTAVES}

@@ -20,7 +20,6 @@ use decibels::gain;
 use decibels::rows::gains;
 use float32::order::min;
 use float32::powers::powi2;
-use float32::root::sqrt;
 use motion::field::RESTING_DEPTH_DB;
 use motion_rows::lowerings;
 use motion_rows::settled;
@@ -28,6 +27,7 @@ use motion_rows::shapes::shape_row;
 use power::table::PowerTable;
 use scene::MotionConfig;
 use sine::table::SineTable;
+use square_root::sqrt;
 
 const MOTION_COMPENSATION_SAMPLES: usize = 256;
 

@@ -15,8 +15,8 @@ ghost use Rattle.power.specs.Table.{powerTable};
 ghost use Rattle.sine.specs.Table.{sineTable};
 ghost use Rattle.motion.specs.Shapes.{ripple, harmonic, broadAngle, middleAngle, detailAngle, layered, drift, windowExponent, window, saw};
 ghost use Rattle.motion_rows.specs.Rows.{shaped};
+use counts::lesser;
 use float32::constants::TAU;
-use float32::counts::lesser;
 use float32::order::clamp;
 use float32::powers::powi5;
 use motion::shapes::broad_angle;
@@ -32,6 +32,9 @@ use scene::MotionShape;
 use sine::table::SineTable;
 use sine_rows::cos_row;
 use sine_rows::sin_row;
+
+// The places whose drift is worked out together.
+const ROW: usize = 64;
 
 fn angles(row: &mut [f32], size: f32, phase: f32, count: usize)
     requires { ⌜ count ≤ length (now row) ⌝ }
@@ -155,12 +158,12 @@ fn drifts(row: &mut [f32], sines: &SineTable, size: f32, phase: f32, count: usiz
     requires { ⌜ (now sines ≡ sineTable) × (count ≤ length (now row)) ⌝ }
     ensures { λ _. ⌜ now (row .exit) ≡ mapRange (λ k x. drift x size phase) 0 count (now (row .entry)) ⌝ }
 {
-    let mut broad = [0.0f32; 64];
-    let mut middle = [0.0f32; 64];
-    let mut detail = [0.0f32; 64];
+    let mut broad = [0.0f32; ROW];
+    let mut middle = [0.0f32; ROW];
+    let mut detail = [0.0f32; ROW];
     let mut start: usize = 0;
     while start < count {
-        let few = lesser(count - start, 64);
+        let few = lesser(count - start, ROW);
         few_drifts(
             row,
             &mut broad,

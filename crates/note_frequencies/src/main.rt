@@ -11,7 +11,7 @@ fn print_note(powers: &PowerTable, note: u8)
     io::write_all(STDOUT_FILENO, b" ");
     io::print_decimal(
         STDOUT_FILENO,
-        float32::counts::millionths(pitch::note_hertz(powers, note, 0.0)),
+        counts::millionths(pitch::note_hertz(powers, note, 0.0)),
     );
     io::write_all(STDOUT_FILENO, b"\n");
 }

@@ -10,6 +10,7 @@ use lib.ListN.{length, getD}
 use lib.Ieee.{Float, binary32, fits, le, mul, ofBits}
 use Rattle.lists.specs.Folds.{fold, range}
 use Rattle.lists.specs.Totals.{All, all-at}
+use Rattle.lists.specs.Entries.{all-range, all-until, all-weaken, all-both, all-places}
 use Rattle.float_laws.specs.Units.{number, real, real-number}
 use Rattle.float_laws.specs.Order.{le-trans-f, le-refl-f}
 use Rattle.float_laws.specs.Rise.{Rise, rise-refl}
@@ -27,7 +28,6 @@ use Rattle.lobes.proofs.NoteLevels.{zero-is}
 use Rattle.lobes.proofs.Raised.{Raised, same-bins, opened-rises}
 use Rattle.lobe_joins.specs.Joined.{lobeJoined}
 use Rattle.lobe_joins.proofs.Maxima.{Openness, nothing-open, Join, le-join, FitWhere, BelowWhere, where-join, AllBelow, fold-join}
-use Rattle.lobe_joins.proofs.Entries.{all-range, all-until, all-weaken, all-both, all-places}
 use Rattle.tone_lobes.specs.ToneLobes.{partialsOf}
 use Rattle.openness.specs.Openness.{SKIPPED-LEVEL, toneJoined, voiceJoined, openness}
 

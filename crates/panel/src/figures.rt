@@ -50,7 +50,7 @@ fn print_hundredths(width: usize, sign: &[u8], n: u64) {
 
 // How far from 0, in hundredths to the nearest, a half away from 0.
 fn hundredths(db: f32) -> u64 {
-    float32::counts::floor_to_count(float32::order::abs(db) * 100.0 + 0.5) as u64
+    counts::floor_to_count(float32::order::abs(db) * 100.0 + 0.5) as u64
 }
 
 // To the nearest hundredth; silence has no logarithm.

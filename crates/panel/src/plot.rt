@@ -3,7 +3,7 @@ use crate::chord::BINS;
 use crate::figures::decibels;
 use crate::figures::print;
 use crate::figures::print_count;
-use float32::counts::floor_to_count;
+use counts::floor_to_count;
 
 const HIGHEST_DB: f32 = 12.0;
 

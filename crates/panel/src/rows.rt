@@ -6,7 +6,7 @@ use crate::figures::print;
 use crate::figures::print_decibels;
 use crate::figures::print_in_column;
 use answer::Answer;
-use float32::counts::floor_to_count;
+use counts::floor_to_count;
 use scene::MaskVoice;
 
 fn mark(marked: &mut [bool; BINS], bin: usize) {
@@ -43,8 +43,8 @@ fn mark_chord(marked: &mut [bool; BINS]) {
 fn print_row(bin: u16, left: f32, right: f32) {
     print_in_column(4, bin as u64);
     print_in_column(7, floor_to_count(bin as f32 * BIN_HZ) as u64);
-    print_in_column(12, float32::counts::millionths(left));
-    print_in_column(12, float32::counts::millionths(right));
+    print_in_column(12, counts::millionths(left));
+    print_in_column(12, counts::millionths(right));
     print_decibels(10, left);
     print_decibels(10, right);
     print(b"\n");

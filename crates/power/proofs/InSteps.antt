@@ -10,9 +10,9 @@ use Rattle.float_laws.specs.Units.{number}
 use Rattle.float_laws.specs.Order.{le-right, le-trans-f, lt-of-le-of-lt-f, lt→le-f, not-lt-f, not-le-f}
 use Rattle.float32.specs.Value.{moved}
 use Rattle.float32.specs.Order.{within}
-use Rattle.float32.specs.Fixed.{nearby, farthest}
+use Rattle.fixed_point.specs.Fixed.{nearby, farthest}
 use Rattle.float32.proofs.Limits.{within-low, within-high}
-use Rattle.float32.proofs.Wide.{moved-more}
+use Rattle.fixed_point.proofs.Wide.{moved-more}
 use Rattle.power.specs.Power.{positiveZero, largest, E2}
 use Rattle.power.proofs.Ends.{lowest, limit, high-of-le, under-of-lt, E2-nan, E2-below, E2-from}
 

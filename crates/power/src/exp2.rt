@@ -4,9 +4,9 @@ ghost use Rattle.power.specs.Table.{lowBits, powerTable, P};
 ghost use Rattle.power.specs.Power.{powerAt, E2};
 use crate::table::PowerTable;
 use crate::table::interpolate;
-use float32::fixed::LEAST;
-use float32::fixed::far_steps;
-use float32::fixed::near_steps;
+use fixed_point::LEAST;
+use fixed_point::far_steps;
+use fixed_point::near_steps;
 use float32::order::abs;
 use float32::order::in_range;
 
@@ -36,7 +36,7 @@ fn power_of_steps(powers: &PowerTable, y: u64) -> f32
 
 // 2^x: E2 of document 01.
 //
-// Method. x is moved up by 128, so that it is not negative, and cut down to a multiple of 2^-24: by one sum, which for most x is exact (float32::fixed).
+// Method. x is moved up by 128, so that it is not negative, and cut down to a multiple of 2^-24: by one sum, which for most x is exact (fixed_point).
 // The table holds 2^(30 + h/256) rounded down, and a straight line joins its entries.
 // The 24 leading bits of that are added to the field of the exponent, into which their leading one carries.
 // Error, measured over the floats from -126 to 128: from -1.6e-7 to 9.2e-7 of 2^x, the line being above the curve and the cuts taking away.

@@ -13,10 +13,10 @@ ghost use Rattle.power.specs.Table.{lowBits, powerTable, P};
 ghost use Rattle.power.specs.Power.{powerAt, E2};
 ghost use Rattle.power.specs.Decimal.{pow10, exp};
 ghost use Rattle.power_rows.specs.Exp2.{between, clipped, digits, Found};
+use counts::lesser;
+use fixed_point::far_steps;
 use float32::constants::LOG2_10;
 use float32::constants::LOG2_E;
-use float32::counts::lesser;
-use float32::fixed::far_steps;
 use power::exp2::FAR_MORE;
 use power::exp2::LARGEST;
 use power::exp2::LIMIT;
@@ -148,9 +148,9 @@ pub fn exp2_row(row: &mut [f32], powers: &PowerTable, count: usize)
     requires { ⌜ (now powers ≡ powerTable) × (count ≤ length (now row)) ⌝ }
     ensures { λ _. ⌜ now (row .exit) ≡ mapRange (λ i x. E2 x) 0 count (now (row .entry)) ⌝ }
 {
-    let mut inside = [0.0f32; 64];
-    let mut found = [0u32; 64];
-    let mut values = [0u32; 64];
+    let mut inside = [0.0f32; ROW];
+    let mut found = [0u32; ROW];
+    let mut values = [0u32; ROW];
     let mut start: usize = 0;
     while start < count {
         let few = lesser(count - start, ROW);

@@ -37,13 +37,13 @@ fn print_clamp(a: u32, b: u32, c: u32) {
 fn print_floor(a: u32) {
     text::print(b"floor_to_count");
     text::print_word(a);
-    text::print_count(float32::counts::floor_to_count(of_bits(a)));
+    text::print_count(counts::floor_to_count(of_bits(a)));
 }
 
 fn print_ceil(a: u32) {
     text::print(b"ceil_to_count");
     text::print_word(a);
-    text::print_count(float32::counts::ceil_to_count(of_bits(a)));
+    text::print_count(counts::ceil_to_count(of_bits(a)));
 }
 
 fn print_bits(name: &[u8], a: u32) {

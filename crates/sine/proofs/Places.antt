@@ -18,9 +18,9 @@ use Rattle.float_laws.specs.Signs.{sub-mul}
 use Rattle.float_laws.specs.Exact.{held-multiple}
 use Rattle.float32.specs.Value.{floorAt, moved}
 use Rattle.float32.specs.Order.{within}
-use Rattle.float32.specs.Fixed.{nearby, farthest}
+use Rattle.fixed_point.specs.Fixed.{nearby, farthest}
 use Rattle.float32.proofs.Floor.{floorAt-same}
-use Rattle.float32.proofs.Wide.{moved-more}
+use Rattle.fixed_point.proofs.Wide.{moved-more}
 use Rattle.sine.specs.Sine.{u, U}
 
 pub place-below : (θ : Float) → U θ < 16777216

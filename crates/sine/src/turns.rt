@@ -1,6 +1,6 @@
 // The place of an angle in its turn.
 //
-// Method. The angle times 0.15915494, rounded once, is u, the angle in turns. Its floor in units of 2^-24 of a turn is one sum with whole turns (float32::fixed), which makes a negative
+// Method. The angle times 0.15915494, rounded once, is u, the angle in turns. Its floor in units of 2^-24 of a turn is one sum with whole turns (fixed_point), which makes a negative
 // u too a matter of whole numbers, and a mask takes the turns away again. From 2^23 turns on every u is a whole number of turns, and the place is 0.
 ghost use mathlib.Core.Path.{_≡_};
 ghost use Prim.Native.Nat.{_%_, _^_, _≤_};
@@ -8,12 +8,12 @@ ghost use lib.Dec.{T};
 ghost use lib.Ieee.{binary32, fits, neg};
 ghost use Rattle.float32.specs.Value.{moved};
 ghost use Rattle.float32.specs.Order.{within};
-ghost use Rattle.float32.specs.Fixed.{farthest};
+ghost use Rattle.fixed_point.specs.Fixed.{farthest};
 ghost use Rattle.sine.specs.Sine.{U};
 ghost use Rattle.sine.specs.Rows.{placeAhead};
-use float32::fixed::LEAST;
-use float32::fixed::far_steps;
-use float32::fixed::near_steps;
+use fixed_point::LEAST;
+use fixed_point::far_steps;
+use fixed_point::near_steps;
 use float32::order::abs;
 use float32::order::in_range;
 

@@ -2,29 +2,15 @@
 use mathlib.Core.Path.{_≡_, sym, ap, _∙_, subst}
 use mathlib.Core.List.{List}
 use Prim.Native.Nat.{ℕ, _+_, _-_, _/_, _≤_, _<_}
-use native.Mathlib.Decide.{decLt}
 use native.Mathlib.Omega.{arith}
 use lib.ListN.{length, getD}
-use lib.Seq.{ext-getD}
 use lib.Ieee.{Float, nan}
-use Rattle.lists.specs.Maps.{mapRange, between, between-low, between-in, between-high, length-mapRange, getD-mapRange}
-use Rattle.lists.specs.Stages.{row-at}
+use Rattle.lists.specs.Maps.{mapRange, between-in, getD-mapRange}
+use Rattle.lists.specs.Stages.{row-at, range-held}
 use Rattle.sine.specs.Sine.{v, wave}
 use Rattle.sine.specs.Rows.{placeAhead, indexOf, partOf, valueAt, levelAt}
 use Rattle.sine.proofs.Waves.{wave-is, wave-small}
 use Rattle.sine_rows.proofs.Stepped.{index-small, part-small, value-is}
-
--- ---- functions that agree at the entries that the list has
-module _ {A : Type 0} (d : A) (f g : ℕ → A → A) (lo hi : ℕ) (xs : List A) (same : (k : ℕ) → lo ≤ k → k < hi → f k (getD xs k d) ≡ g k (getD xs k d)) where
-  at : (k : ℕ) → Dec (k < lo) → Dec (k < hi) → between lo hi f k (getD xs k d) ≡ between lo hi g k (getD xs k d)
-  at k (yes a) w = between-low f lo hi k (getD xs k d) a ∙ sym (between-low g lo hi k (getD xs k d) a)
-  at k (no a) (yes b) = between-in f lo hi k (getD xs k d) (omega arith) b ∙ same k (omega arith) b ∙ sym (between-in g lo hi k (getD xs k d) (omega arith) b)
-  at k (no a) (no b) = between-high f lo hi k (getD xs k d) (omega arith) ∙ sym (between-high g lo hi k (getD xs k d) (omega arith))
-
-  range-held : mapRange f lo hi xs ≡ mapRange g lo hi xs
-  range-held =
-      ext-getD d (mapRange f lo hi xs) (mapRange g lo hi xs) (length-mapRange f lo hi xs ∙ sym (length-mapRange g lo hi xs))
-      (λ k h. let l : k < length xs = simp (length-mapRange f lo hi xs) at h in getD-mapRange f lo hi xs k d l ∙ at k (decLt k lo) (decLt k hi) ∙ sym (getD-mapRange g lo hi xs k d l))
 
 module _ (ahead start count : ℕ) (xs : List Float) (found₀ indexes₀ parts₀ : List ℕ) (room : (count ≤ length found₀) × (count ≤ length indexes₀) × (count ≤ length parts₀)) where
   -- an angle's place
@@ -68,4 +54,4 @@ module _ (ahead start count : ℕ) (xs : List Float) (found₀ indexes₀ parts�
       staged e =
           e
           ∙ range-held nan (λ i held. levelAt (getD found (i - start) 0) (getD values (i - start) 0)) (λ i angle. wave (placeAhead ahead angle)) start (start + count) xs
-          (λ i h l. let z : start + (i - start) ≡ i = omega arith in level-there (i - start) (omega arith) ∙ ap (λ (n : ℕ). wave (placeAhead ahead (getD xs n nan))) z)
+          (λ i u h l. let z : start + (i - start) ≡ i = omega arith in level-there (i - start) (omega arith) ∙ ap (λ (n : ℕ). wave (placeAhead ahead (getD xs n nan))) z)

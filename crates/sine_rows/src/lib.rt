@@ -12,7 +12,7 @@ ghost use Rattle.lists.specs.Maps.{mapRange};
 ghost use Rattle.sine.specs.Table.{sineTable};
 ghost use Rattle.sine.specs.Sine.{wave, sinOf, cosOf};
 ghost use Rattle.sine.specs.Rows.{placeAhead, indexOf, partOf, valueAt, levelAt};
-use float32::counts::lesser;
+use counts::lesser;
 use sine::table::SineTable;
 use sine::turns::QUARTER;
 use sine::turns::place_ahead;
@@ -135,9 +135,9 @@ fn waves_ahead(row: &mut [f32], sines: &SineTable, count: usize, ahead: u64)
     requires { ⌜ (now sines ≡ sineTable) × (count ≤ length (now row)) × (ahead ≤ 2 ^ 22) ⌝ }
     ensures { λ _. ⌜ now (row .exit) ≡ mapRange (λ i angle. wave (placeAhead ahead angle)) 0 count (now (row .entry)) ⌝ }
 {
-    let mut found = [0u32; 64];
-    let mut indexes = [0u32; 64];
-    let mut parts = [0u32; 64];
+    let mut found = [0u32; ROW];
+    let mut indexes = [0u32; ROW];
+    let mut parts = [0u32; ROW];
     let mut start: usize = 0;
     while start < count {
         let few = lesser(count - start, ROW);

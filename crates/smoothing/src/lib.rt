@@ -99,7 +99,7 @@ fn soften_inside(powers: &PowerTable, source: &[f32], output: &mut [f32])
     let mut row = [0.0f32; ROW];
     let mut start: usize = 1;
     while start < last {
-        let count = float32::counts::lesser(last - start, INSIDE);
+        let count = counts::lesser(last - start, INSIDE);
         let stop = start + count;
         decibel_row(&mut row, source, powers, start - 1, count + 2);
         soften_row(output, &row, powers, start, stop);
@@ -167,7 +167,7 @@ fn smooth_all(powers: &PowerTable, current: &mut [f32], target: &[f32], elapsed_
     let mut target_db = [0.0f32; ROW];
     let mut start: usize = 0;
     while start < current.len() {
-        let count = float32::counts::lesser(current.len() - start, ROW);
+        let count = counts::lesser(current.len() - start, ROW);
         let stop = start + count;
         decibel_row(&mut current_db, current, powers, start, count);
         decibel_row(&mut target_db, target, powers, start, count);

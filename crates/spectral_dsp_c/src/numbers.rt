@@ -3,10 +3,10 @@ ghost use mathlib.Core.Path.{_≡_};
 ghost use lib.Ieee.{binary32, toBits, ofBits};
 ghost use Rattle.lists.specs.Maps.{mapAt};
 ghost use Rattle.float32.specs.Order.{maximum, minimum, clamp, magnitude};
-ghost use Rattle.float32.specs.Counts.{floorCount, ceilCount};
+ghost use Rattle.counts.specs.Counts.{floorCount, ceilCount};
 ghost use Rattle.float32.specs.Remainder.{remEuclidOne};
 ghost use Rattle.float32.specs.Powers.{square, fifth};
-ghost use Rattle.float32.specs.Root.{squareRoot};
+ghost use Rattle.square_root.specs.Root.{squareRoot};
 ghost use Rattle.power.specs.Power.{E2};
 ghost use Rattle.power.specs.Log.{L2};
 ghost use Rattle.power.specs.Decimal.{pow10, exp, log10};
@@ -124,14 +124,14 @@ pub extern "C" fn dovetable_clamp(x: f32, lo: f32, hi: f32) -> f32
 pub extern "C" fn dovetable_floor_to_count(x: f32) -> usize
     ensures { λ r. ⌜ r ≡ floorCount x ⌝ }
 {
-    float32::counts::floor_to_count(x)
+    counts::floor_to_count(x)
 }
 
 #[no_mangle]
 pub extern "C" fn dovetable_ceil_to_count(x: f32) -> usize
     ensures { λ r. ⌜ r ≡ ceilCount x ⌝ }
 {
-    float32::counts::ceil_to_count(x)
+    counts::ceil_to_count(x)
 }
 
 #[no_mangle]

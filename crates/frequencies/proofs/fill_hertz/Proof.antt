@@ -5,12 +5,12 @@ use lib.ListN.{length}
 use lib.Ieee.{nan}
 use borrow.Author.Needs.{needs}
 use Rattle.lists.specs.Turned.{Turned, turned-none, turned-more, turned-fill}
-use Rattle.frequencies.specs.Frequency.{counted}
+use Rattle.frequencies.specs.Frequency.{hertzOrZero}
 use Rattle.frequencies.proofs.fill_hertz.Statement.{statement}
 use Rattle.frequencies.proofs.fill_hertz.Tie as tie
 
 abbrev Inv-loop : tie.InvT-loop
-Inv-loop table₀ bin-hz bin₀ table bin = Turned (λ b x. counted bin-hz b) 0 table₀ table bin × (bin ≤ length table₀)
+Inv-loop table₀ bin-hz bin₀ table bin = Turned (λ b x. hertzOrZero bin-hz b) 0 table₀ table bin × (bin ≤ length table₀)
 
 abbrev μ-loop : tie.MeasureT-loop
 μ-loop table₀ bin-hz bin₀ table bin = length table₀ - bin

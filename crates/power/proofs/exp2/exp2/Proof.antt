@@ -8,7 +8,7 @@ use lib.Ieee.{Float, binary32, fits, le, lt, isNan, ofBits}
 use borrow.Author.Needs.{needs}
 use Rattle.float32.specs.Value.{moved}
 use Rattle.float32.specs.Order.{within, magnitude}
-use Rattle.float32.specs.Fixed.{least}
+use Rattle.fixed_point.specs.Fixed.{least}
 use Rattle.power.specs.Table.{lowBits, P}
 use Rattle.power.specs.Power.{powerAt, E2}
 use Rattle.power.proofs.Ends.{lowest, limit}

@@ -6,7 +6,7 @@ use lib.Ieee.{Float, binary32, neg, le, fits, ofBits}
 use lib.Ieee.Fits.{mul-fits}
 use Rattle.float32.specs.Value.{moved}
 use Rattle.float32.specs.Order.{within}
-use Rattle.float32.specs.Fixed.{farthest}
+use Rattle.fixed_point.specs.Fixed.{farthest}
 use Rattle.sine.specs.Sine.{u, U, TURNS-PER-RADIAN}
 use Rattle.sine.proofs.Places.{beyond-place}
 use borrow.Author.Needs.{needs}

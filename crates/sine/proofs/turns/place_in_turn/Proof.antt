@@ -8,7 +8,7 @@ use lib.Dec.{T}
 use lib.Ieee.{Float, binary32, neg, le, fits, ofBits}
 use lib.Ieee.Fits.{mul-fits}
 use Rattle.float32.specs.Order.{within, magnitude}
-use Rattle.float32.specs.Fixed.{nearby, farthest, least}
+use Rattle.fixed_point.specs.Fixed.{nearby, farthest, least}
 use Rattle.sine.specs.Sine.{u, U, TURNS-PER-RADIAN}
 use Rattle.sine.proofs.Places.{near-place, far-place, beyond-place}
 use Rattle.sine.proofs.turns.place_in_turn.Statement.{statement}

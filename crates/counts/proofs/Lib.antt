@@ -1,0 +1,5 @@
+pub mod Whole
+pub mod Counted
+pub mod CountBounds
+pub mod InMillionths
+pub mod BeyondFloor

@@ -1,0 +1,3 @@
+pub mod Wide
+pub mod FarSteps
+pub mod NearSteps
