@@ -58,7 +58,7 @@ pub fn advance_bank(levels: &mut [f32], held: &[u8], elapsed_seconds: f32, fade_
     }
     let bank = bank_of(levels);
     let bytes = held_of(held);
-    let next = spectral_dsp::advance_note_envelopes(bank, bytes, elapsed_seconds, fade_ms);
+    let next = list_calls::advance_note_envelopes(bank, bytes, elapsed_seconds, fade_ms);
     let after = next.levels;
     slices::copy(&after, levels);
     next.outcome

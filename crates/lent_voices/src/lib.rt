@@ -57,7 +57,7 @@ pub fn build_mask_with_voices(
     ensures { λ r. ⌜ ofOutcome r ≡ voicesMaskReply (length (now (output .entry))) (now («manual_mask_db» .entry)) (now (voices .entry)) (length (now (voices .entry))) config ⌝ }
     ensures { λ r. ⌜ now (output .exit) ≡ written (ofOutcome r) (maskOf (now («manual_mask_db» .entry)) config none side.mono (now (voices .entry))) (now (output .entry)) ⌝ }
 {
-    spectral_dsp::build_mask_with_voices(
+    mask_calls::build_mask_with_voices(
         output,
         manual_mask_db,
         gather(voices),
@@ -77,7 +77,7 @@ pub fn build_mask_with_voices_precomputed(
     ensures { λ r. ⌜ ofOutcome r ≡ tabledMaskReply (length (now (output .entry))) (now («manual_mask_db» .entry)) (now (voices .entry)) (length (now (voices .entry))) config (now (table .entry)) ⌝ }
     ensures { λ r. ⌜ now (output .exit) ≡ written (ofOutcome r) (maskOf (now («manual_mask_db» .entry)) config (lent (now (table .entry))) side.mono (now (voices .entry))) (now (output .entry)) ⌝ }
 {
-    spectral_dsp::build_mask_with_voices_precomputed(
+    mask_calls::build_mask_with_voices_precomputed(
         output,
         manual_mask_db,
         gather(voices),
@@ -100,7 +100,7 @@ pub fn build_stereo_masks_with_voices_precomputed(
     ensures { λ r. ⌜ now (left .exit) ≡ written (ofOutcome r) (maskOf (now («manual_mask_db» .entry)) config (lent (now (table .entry))) side.left (now (voices .entry))) (now (left .entry)) ⌝ }
     ensures { λ r. ⌜ now (right .exit) ≡ written (ofOutcome r) (maskOf (now («manual_mask_db» .entry)) config (lent (now (table .entry))) side.right (now (voices .entry))) (now (right .entry)) ⌝ }
 {
-    spectral_dsp::build_stereo_masks_with_voices_precomputed(
+    mask_calls::build_stereo_masks_with_voices_precomputed(
         left,
         right,
         manual_mask_db,
@@ -124,7 +124,7 @@ pub fn build_stereo_masks_with_prepared_spectrum(
     ensures { λ r. ⌜ now (left .exit) ≡ written (ofOutcome r) (maskOf (now («manual_mask_db» .entry)) config (lent (drop (4 * config .«fft_size») (now (block .entry)))) side.left (now (voices .entry))) (now (left .entry)) ⌝ }
     ensures { λ r. ⌜ now (right .exit) ≡ written (ofOutcome r) (maskOf (now («manual_mask_db» .entry)) config (lent (drop (4 * config .«fft_size») (now (block .entry)))) side.right (now (voices .entry))) (now (right .entry)) ⌝ }
 {
-    spectral_dsp::build_stereo_masks_with_prepared_spectrum(
+    mask_calls::build_stereo_masks_with_prepared_spectrum(
         left,
         right,
         manual_mask_db,
