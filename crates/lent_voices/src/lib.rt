@@ -57,13 +57,7 @@ pub fn build_mask_with_voices(
     ensures { λ r. ⌜ ofOutcome r ≡ voicesMaskReply (length (now (output .entry))) (now («manual_mask_db» .entry)) (now (voices .entry)) (length (now (voices .entry))) config ⌝ }
     ensures { λ r. ⌜ now (output .exit) ≡ written (ofOutcome r) (maskOf (now («manual_mask_db» .entry)) config none side.mono (now (voices .entry))) (now (output .entry)) ⌝ }
 {
-    mask_calls::build_mask_with_voices(
-        output,
-        manual_mask_db,
-        gather(voices),
-        voices.len(),
-        config,
-    )
+    mask_calls::build_mask_with_voices(output, manual_mask_db, gather(voices), voices.len(), config)
 }
 
 // With the table of the bins' logarithms.

@@ -1,13 +1,11 @@
 -- Lists that are written over and over, entry by entry: a map of a map, a map of a part after a map of the part before it, and a run over a list at each entry. Assumes nothing.
 use mathlib.Core.Path.{_≡_, refl, sym, ap, _∙_}
-use mathlib.Core.Bool.{Bool, true, false, cond, _&&_}
 use mathlib.Core.Logic.{_⊎_}
 use mathlib.Core.List.{List, [], _∷_}
 use Prim.Native.Nat.{ℕ, zero, suc, _+_, _≤_, _<_, min}
 use native.Mathlib.Decide.{decLt}
 use native.Mathlib.Omega.{arith}
 use borrow.Author.Tests.{lt-ltb, le-ltb}
-use lib.Dec.{leb, ltb}
 use lib.ListN.{length, getD, set}
 use Rattle.lists.specs.Maps.{mapFrom, mapAt, mapRange, tabFrom, tabulate, between, between-in, between-low, between-high, length-mapRange, mapFrom-same}
 use Rattle.lists.specs.Turned.{Turned, turned-read, turned-more, turned-to}
@@ -41,24 +39,6 @@ module _ {A : Type 0} where
   -- functions that agree at the list's places
   pub map-same : (f g : ℕ → A → A) (xs : List A) → ((k : ℕ) (x : A) → k < length xs → f k x ≡ g k x) → mapAt f xs ≡ mapAt g xs
   map-same f g xs e = mapFrom-same f g 0 xs (λ k x p q. e k x (omega arith))
-
-  -- functions that agree from lo on and below hi
-  pub range-same : (f g : ℕ → A → A) (lo hi : ℕ) (xs : List A) → ((k : ℕ) (x : A) → lo ≤ k → k < hi → f k x ≡ g k x) → mapRange f lo hi xs ≡ mapRange g lo hi xs
-  range-same f g lo hi xs e = map-same (between lo hi f) (between lo hi g) xs (λ k x p. at k x (decLt k lo) (decLt k hi))
-    where
-      at : (k : ℕ) (x : A) → Dec (k < lo) → Dec (k < hi) → between lo hi f k x ≡ between lo hi g k x
-      at k x (yes p) w = between-low f lo hi k x p ∙ sym (between-low g lo hi k x p)
-      at k x (no p) (yes q) = between-in f lo hi k x (omega arith) q ∙ e k x (omega arith) q ∙ sym (between-in g lo hi k x (omega arith) q)
-      at k x (no p) (no q) = between-high f lo hi k x (omega arith) ∙ sym (between-high g lo hi k x (omega arith))
-
-  -- two maps of one part
-  pub range-range : (f g : ℕ → A → A) (lo hi : ℕ) (xs : List A) → mapRange f lo hi (mapRange g lo hi xs) ≡ mapRange (λ k x. f k (g k x)) lo hi xs
-  range-range f g lo hi xs =
-      map-map (between lo hi f) (between lo hi g) xs ∙ map-same (λ k x. between lo hi f k (between lo hi g k x)) (between lo hi (λ k x. f k (g k x))) xs (λ k x p. at k x (leb lo k && ltb k hi))
-    where
-      at : (k : ℕ) (x : A) (b : Bool) → cond b (f k (cond b (g k x) x)) (cond b (g k x) x) ≡ cond b (f k (g k x)) x
-      at k x true = refl
-      at k x false = refl
 
   -- a part may end where the list ends
   range-cut : (g : ℕ → A → A) (lo hi : ℕ) (xs : List A) → mapRange g lo (min hi (length xs)) xs ≡ mapRange g lo hi xs

@@ -2,28 +2,21 @@
 -- Assumes nothing.
 use mathlib.Core.Path.{_≡_, refl, sym, ap, _∙_, subst}
 use mathlib.Core.Bool.{Bool, true, false, cond, _&&_}
-use mathlib.Core.List.{List, [], _∷_}
-use Prim.Native.Nat.{ℕ, suc, _+_, _-_, _≤_, _<_}
+use mathlib.Core.List.{List}
+use Prim.Native.Nat.{ℕ, _+_, _-_, _≤_, _<_}
 use native.Mathlib.Decide.{decLt}
 use native.Mathlib.Omega.{arith}
 use lib.Dec.{leb, ltb}
 use lib.ListN.{length, getD, set}
 use lib.Seq.{ext-getD}
-use Rattle.lists.specs.Maps.{mapFrom, mapAt, mapRange, between, between-in, between-low, between-high, length-mapRange, getD-mapRange, mapFrom-same}
+use Rattle.lists.specs.Maps.{mapRange, between, between-in, between-low, between-high, length-mapRange, getD-mapRange}
 use Rattle.lists.specs.Turned.{Turned, turned-read, turned-more}
+use Rattle.lists.specs.Runs.{map-map, map-same}
 
 module _ {A : Type 0} where
-  from-from : (f g : ℕ → A → A) (j : ℕ) (xs : List A) → mapFrom f j (mapFrom g j xs) ≡ mapFrom (λ k x. f k (g k x)) j xs
-  unfolding mapFrom
-  from-from f g j [] = refl
-  from-from f g j (x ∷ xs) = ap (λ l. f j (g j x) ∷ l) (from-from f g (suc j) xs)
-
-  same : (f g : ℕ → A → A) (xs : List A) → ((k : ℕ) (x : A) → f k x ≡ g k x) → mapAt f xs ≡ mapAt g xs
-  same f g xs e = mapFrom-same f g 0 xs (λ k x p q. e k x)
-
   -- functions that agree from lo on and below hi
   pub stage-same : (f g : ℕ → A → A) (lo hi : ℕ) (xs : List A) → ((k : ℕ) (x : A) → lo ≤ k → k < hi → f k x ≡ g k x) → mapRange f lo hi xs ≡ mapRange g lo hi xs
-  stage-same f g lo hi xs e = same (between lo hi f) (between lo hi g) xs (λ k x. at k x (decLt k lo) (decLt k hi))
+  stage-same f g lo hi xs e = map-same (between lo hi f) (between lo hi g) xs (λ k x p. at k x (decLt k lo) (decLt k hi))
     where
       at : (k : ℕ) (x : A) → Dec (k < lo) → Dec (k < hi) → between lo hi f k x ≡ between lo hi g k x
       at k x (yes p) w = between-low f lo hi k x p ∙ sym (between-low g lo hi k x p)
@@ -45,7 +38,7 @@ module _ {A : Type 0} where
   -- a stage g and then a stage f
   pub stages : (f g : ℕ → A → A) (lo hi : ℕ) (xs : List A) → mapRange f lo hi (mapRange g lo hi xs) ≡ mapRange (λ k x. f k (g k x)) lo hi xs
   stages f g lo hi xs =
-      from-from (between lo hi f) (between lo hi g) 0 xs ∙ same (λ k x. between lo hi f k (between lo hi g k x)) (between lo hi (λ k x. f k (g k x))) xs (λ k x. at k x (leb lo k && ltb k hi))
+      map-map (between lo hi f) (between lo hi g) xs ∙ map-same (λ k x. between lo hi f k (between lo hi g k x)) (between lo hi (λ k x. f k (g k x))) xs (λ k x p. at k x (leb lo k && ltb k hi))
     where
       at : (k : ℕ) (x : A) (b : Bool) → cond b (f k (cond b (g k x) x)) (cond b (g k x) x) ≡ cond b (f k (g k x)) x
       at k x true = refl

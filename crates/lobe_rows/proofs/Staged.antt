@@ -8,7 +8,6 @@ use lib.ListN.{length, getD}
 use lib.Ieee.{Float, nan, binary32, sub, mul, div}
 use lib.Ieee.Fits.{sub-fits}
 use Rattle.lists.specs.Maps.{mapRange, between-in, getD-mapRange}
-use Rattle.lists.specs.Runs.{range-range, range-same}
 use Rattle.lists.specs.Stages.{stages, stage-same}
 use Rattle.counts.specs.Counts.{floorCount}
 use Rattle.float32.specs.Powers.{square}
@@ -63,9 +62,9 @@ module _ (place : ℕ → Float) (count : ℕ) (before : List Float) (room : cou
     pub belled : {ys zs : List Float} → ys ≡ mapRange (λ k x. partOf x) 0 count xs → zs ≡ mapRange there 0 count ys → zs ≡ mapRange (λ k x. between (place k)) 0 count before
     belled b c =
         c
-        ∙ ap (mapRange there 0 count) (b ∙ ap (mapRange (λ k x. partOf x) 0 count) e ∙ range-range (λ k x. partOf x) (λ k x. place k) 0 count before)
-        ∙ range-range there (λ k x. partOf (place k)) 0 count before
-        ∙ range-same (λ k x. there k (partOf (place k))) (λ k x. between (place k)) 0 count before (λ k x p q. there-is k q)
+        ∙ ap (mapRange there 0 count) (b ∙ ap (mapRange (λ k x. partOf x) 0 count) e ∙ stages (λ k x. partOf x) (λ k x. place k) 0 count before)
+        ∙ stages there (λ k x. partOf (place k)) 0 count before
+        ∙ stage-same (λ k x. there k (partOf (place k))) (λ k x. between (place k)) 0 count before (λ k x p q. there-is k q)
 
 -- ---- and what a lobe opens under them
 module _ (grid : Grid) (lobe : Lobe) (table : List Float) (center : Float) (start count : ℕ) where
@@ -76,8 +75,8 @@ module _ (grid : Grid) (lobe : Lobe) (table : List Float) (center : Float) (star
       → mapRange (λ k bell. openedBy (lobe .strength) bell) 0 count (mapRange (λ k x. between (place k)) 0 count xs)
       ≡ mapRange (λ k held. opening grid (lent table) lobe (start + k)) 0 count xs
   staged e xs =
-      range-range (λ k bell. openedBy (lobe .strength) bell) (λ k x. between (place k)) 0 count xs
-      ∙ range-same (λ k x. openedBy (lobe .strength) (between (place k))) (λ k held. opening grid (lent table) lobe (start + k)) 0 count xs
+      stages (λ k bell. openedBy (lobe .strength) bell) (λ k x. between (place k)) 0 count xs
+      ∙ stage-same (λ k x. openedBy (lobe .strength) (between (place k))) (λ k held. opening grid (lent table) lobe (start + k)) 0 count xs
       (λ k held p q. rw e (sym (opening-lent grid lobe (start + k) table)))
 
 -- ---- and by the bins' own frequencies: ratios, octaves, exponents and bells

@@ -15,7 +15,8 @@ use Rattle.lobes.specs.declared.Lobe.{Lobe}
 use Rattle.lobes.specs.Distance.{Logs}
 use Rattle.lobes.specs.Lobe.{opening}
 use Rattle.lobe_joins.specs.Joined.{joined, lobeJoined}
-use Rattle.lists.specs.Runs.{map-same, range-same, turned-part}
+use Rattle.lists.specs.Runs.{map-same, turned-part}
+use Rattle.lists.specs.Stages.{stage-same}
 
 module _ (grid : Grid) (logs : Logs) (lobe : Lobe) (gain : Float) where
   -- the lobe joined to a bin that it reaches
@@ -27,7 +28,7 @@ module _ (grid : Grid) (logs : Logs) (lobe : Lobe) (gain : Float) where
       → chunk ≡ mapRange (λ k held. opening grid logs lobe (start + k)) 0 count before → {xs₀ xs ys : List Float} {lo : ℕ} → Turned reached lo xs₀ xs start
       → ys ≡ mapRange (λ bin held. joined gain held (getD chunk (bin - start) nan)) start (start + count) xs → Turned reached lo xs₀ ys (start + count)
   chunk-joined start count before chunk room e {xs₀} {xs} {ys} {lo} t w =
-      rw (w ∙ range-same (λ bin held. joined gain held (getD chunk (bin - start) nan)) reached start (start + count) xs at) (turned-part (start + count) t (omega arith))
+      rw (w ∙ stage-same (λ bin held. joined gain held (getD chunk (bin - start) nan)) reached start (start + count) xs at) (turned-part (start + count) t (omega arith))
     where
       f : ℕ → Float → Float
       f k held = opening grid logs lobe (start + k)
