@@ -1,2 +1,3 @@
 pub mod Partials
 pub mod Listed
+pub mod Threes

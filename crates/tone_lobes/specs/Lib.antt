@@ -1,1 +1,2 @@
 pub mod ToneLobes
+pub mod Threes
