@@ -18,8 +18,8 @@ use scene::MaskConfig;
 use scene::MotionConfig;
 use sine::table::SineTable;
 
-// So many bins are finished at a time.
-const ROW: usize = 64;
+// So many bins are finished at a time: each stage that looks numbers up copies its table of 1 KB, which a long row makes up for, and the row still stays close at hand.
+const ROW: usize = 256;
 
 // What all bins of a mask share, worked out once from its settings.
 pub struct Shared {

@@ -34,7 +34,7 @@ use sine_rows::cos_row;
 use sine_rows::sin_row;
 
 // The places whose drift is worked out together.
-const ROW: usize = 64;
+const ROW: usize = 256;
 
 fn angles(row: &mut [f32], size: f32, phase: f32, count: usize)
     requires { ⌜ count ≤ length (now row) ⌝ }

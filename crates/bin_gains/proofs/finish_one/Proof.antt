@@ -12,7 +12,7 @@ use Rattle.bin_gains.proofs.finish_one.Statement.{statement}
 use Rattle.bin_gains.proofs.finish_one.Tie as tie
 
 abbrev Inv-loop : tie.InvT-loop
-Inv-loop powers sines out₀ curve config shared row₀ field₀ start₀ out row field start = (length row ≡ 64) × (length field ≡ 64) × (start ≤ length out₀) × Turned (gainAt curve config) 0 out₀ out start
+Inv-loop powers sines out₀ curve config shared row₀ field₀ start₀ out row field start = (length row ≡ 256) × (length field ≡ 256) × (start ≤ length out₀) × Turned (gainAt curve config) 0 out₀ out start
 
 abbrev μ-loop : tie.MeasureT-loop
 μ-loop powers sines out₀ curve config shared row₀ field₀ start₀ out row field start = length out₀ - start

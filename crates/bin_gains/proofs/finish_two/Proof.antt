@@ -13,7 +13,7 @@ use Rattle.bin_gains.proofs.finish_two.Tie as tie
 
 abbrev Inv-loop : tie.InvT-loop
 Inv-loop powers sines left₀ right₀ curve config shared row₀ field₀ start₀ left right row field start =
-    (length row ≡ 64) × (length field ≡ 64) × (start ≤ length left₀) × Turned (gainAt curve config) 0 left₀ left start × Turned (gainAt curve config) 0 right₀ right start
+    (length row ≡ 256) × (length field ≡ 256) × (start ≤ length left₀) × Turned (gainAt curve config) 0 left₀ left start × Turned (gainAt curve config) 0 right₀ right start
 
 abbrev μ-loop : tie.MeasureT-loop
 μ-loop powers sines left₀ right₀ curve config shared row₀ field₀ start₀ left right row field start = length left₀ - start

@@ -15,7 +15,7 @@ use Rattle.motion_rows.proofs.shapes.drifts.Tie as tie
 
 abbrev Inv-loop : tie.InvT-loop
 Inv-loop row₀ sines size phase count broad₀ middle₀ detail₀ start₀ row broad middle detail start =
-    Turned (λ i x. drift x size phase) 0 row₀ row start × (start ≤ count) × (length broad ≡ 64) × (length middle ≡ 64) × (length detail ≡ 64)
+    Turned (λ i x. drift x size phase) 0 row₀ row start × (start ≤ count) × (length broad ≡ 256) × (length middle ≡ 256) × (length detail ≡ 256)
 
 abbrev μ-loop : tie.MeasureT-loop
 μ-loop row₀ sines size phase count broad₀ middle₀ detail₀ start₀ row broad middle detail start = count - start
