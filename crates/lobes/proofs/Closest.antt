@@ -4,32 +4,14 @@ use mathlib.Core.Bool.{Bool, true, false, cond}
 use Prim.Native.Nat.{ℕ, _+_, _≤_, min, max}
 use native.Mathlib.Nat.{min-le-right, le-min, le-max-right}
 use native.Mathlib.Omega.{arith}
-use lib.Ieee.{Float, binary32, mul, div, lt}
+use lib.Ieee.{Float, binary32, div, lt}
 use Rattle.counts.specs.Counts.{floorCount}
-use Rattle.float32.specs.Order.{magnitude}
-use Rattle.power.specs.Log.{L2}
-use Rattle.lobes.specs.declared.Grid.{Grid}
-use Rattle.lobes.specs.declared.Around.{Around}
-use Rattle.lobes.specs.Grid.{CENTS-PER-OCTAVE}
 use Rattle.lobes.specs.Peak.{cents, closestBin}
-use Rattle.lobes.specs.Around.{lowerBin, aroundOf, logsAround}
 
 pub chosen : (center spacing : Float) (last lower upper : ℕ) → lower ≡ min (max (floorCount (div binary32 center spacing)) 1) last → upper ≡ min (lower + 1) last
     → closestBin center spacing last ≡ cond (lt (cents spacing center upper) (cents spacing center lower)) upper lower
 unfolding closestBin
 chosen center spacing last lower upper l u = rw (u, l) refl
-
--- by the logarithms of the two bins' frequencies over the centre
-pub chosen-by-logs : (grid : Grid) (center : Float) (logs : Around) (lower upper : ℕ) → logs ≡ logsAround (aroundOf grid center)
-    → lower ≡ lowerBin center (grid .«bin_hz») (grid .«last_bin») → upper ≡ min (lower + 1) (grid .«last_bin»)
-    → closestBin center (grid .«bin_hz») (grid .«last_bin»)
-    ≡ cond (lt (magnitude (mul binary32 CENTS-PER-OCTAVE (logs .upper))) (magnitude (mul binary32 CENTS-PER-OCTAVE (logs .lower)))) upper lower
-unfolding closestBin cents aroundOf
-chosen-by-logs grid center logs lower upper e l u = rw (u, l, e) refl
-
-pub log-of-center : (grid : Grid) (center : Float) (logs : Around) → logs ≡ logsAround (aroundOf grid center) → logs .center ≡ L2 center
-unfolding aroundOf
-log-of-center grid center logs e = rw e refl
 
 -- what holds of both holds of the one that is chosen
 of-both : (P : ℕ → Type 0) (b : Bool) (m n : ℕ) → P m → P n → P (cond b m n)

@@ -3,5 +3,4 @@ pub mod Pan
 pub mod Tone
 pub mod Distance
 pub mod Peak
-pub mod Around
 pub mod Lobe

@@ -28,13 +28,6 @@ pub struct Tone {
     pub rolloff: f32,
 }
 
-// What a lobe needs the logarithms of, and then these logarithms: its centre, and the frequencies of the two bins around it over the centre.
-pub struct Around {
-    pub center: f32,
-    pub upper: f32,
-    pub lower: f32,
-}
-
 // A partial's lobe.
 pub struct Lobe {
     pub center: f32,

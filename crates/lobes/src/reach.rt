@@ -5,11 +5,9 @@ ghost use Prim.Native.Nat.{_^_, _≤_, _<_};
 ghost use lib.ListN.{length};
 ghost use Rattle.power.specs.Table.{powerTable};
 ghost use Rattle.power.specs.Log.{L2};
-ghost use Rattle.lobes.specs.Tone.{partialOctaves, centerOf};
+ghost use Rattle.lobes.specs.Tone.{partialOctaves};
 ghost use Rattle.lobes.specs.Distance.{logsOf, distance};
 ghost use Rattle.lobes.specs.Lobe.{firstBin, lastBin, lobeOf};
-ghost use Rattle.lobes.specs.Around.{aroundOf, logsAround};
-use crate::Around;
 use crate::Grid;
 use crate::Lobe;
 use crate::Tone;
@@ -57,7 +55,6 @@ fn distance(
     distance_by_hertz(powers, grid, center, bin)
 }
 
-// The logarithms come from the caller, who takes those of many lobes at once.
 pub fn lobe_of(
     powers: &PowerTable,
     octaves: &PartialOctaves,
@@ -66,18 +63,18 @@ pub fn lobe_of(
     grid: Grid,
     tone: Tone,
     partial: usize,
-    logs: Around,
 ) -> Lobe
-    requires { ⌜ (now powers ≡ powerTable) × (now octaves ≡ partialOctaves) × (grid .«last_bin» ≤ 2 ^ 24) × (partial ≤ 24) × (tabled ≡ true → grid .«last_bin» < length (now table)) × (logs ≡ logsAround (aroundOf grid (centerOf tone partial))) ⌝ }
+    requires { ⌜ (now powers ≡ powerTable) × (now octaves ≡ partialOctaves) × (grid .«last_bin» ≤ 2 ^ 24) × (partial ≤ 24) × (tabled ≡ true → grid .«last_bin» < length (now table)) ⌝ }
     ensures { λ r. ⌜ r ≡ lobeOf grid (logsOf tabled (now (table .entry))) tone partial ⌝ }
 {
     let center = center_of(tone, partial);
+    let center_log2 = power::log2::log2(powers, center);
     let strength = tone.level * harmonic_gain(powers, octaves, tone.rolloff, partial);
-    let peak_bin = closest_bin_in_cents(grid, center, logs);
-    let peak = distance(powers, tabled, table, grid, center, logs.center, peak_bin);
+    let peak_bin = closest_bin_in_cents(powers, center, grid.bin_hz, grid.last_bin);
+    let peak = distance(powers, tabled, table, grid, center, center_log2, peak_bin);
     Lobe {
         center,
-        center_log2: logs.center,
+        center_log2,
         strength,
         first_bin: first_bin(grid, center),
         last_bin: last_bin(grid, center),

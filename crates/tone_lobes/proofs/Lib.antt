@@ -1,3 +1,2 @@
 pub mod Partials
 pub mod Listed
-pub mod Threes

@@ -1,2 +1,1 @@
 pub mod ToneLobes
-pub mod Threes
