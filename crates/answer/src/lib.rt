@@ -1,4 +1,5 @@
-// What a call answers: the number asked for or that it is done, or a refusal with document 01's number and the place it names.
+// What a call answers: the number asked for or that it is done, or a refusal with document 01's
+// number and the place it names.
 ghost use mathlib.Core.Path.{_≡_};
 ghost use Rattle.answer.specs.Reply.{number, place, ofAnswer, ofOutcome, ofPrepared};
 

@@ -1,6 +1,7 @@
 // From the openness that the voices leave in each bin to the bin's gain.
 //
-// Method. A few bins at a time: what the bins get where the gate is 1 is worked out in a row, and each side is then finished from that row.
+// Method. A few bins at a time: what the bins get where the gate is 1 is worked out in a row, and
+// each side is then finished from that row.
 ghost use mathlib.Core.Path.{_≡_};
 ghost use Prim.Native.Nat.{_+_, _-_, _^_, _≤_};
 ghost use lib.ListN.{length, getD};
@@ -18,7 +19,8 @@ use scene::MaskConfig;
 use scene::MotionConfig;
 use sine::table::SineTable;
 
-// So many bins are finished at a time: each stage that looks numbers up copies its table of 1 KB, which a long row makes up for, and the row still stays close at hand.
+// So many bins are finished at a time: each stage that looks numbers up copies its table of 1 KB,
+// which a long row makes up for, and the row still stays close at hand.
 const ROW: usize = 256;
 
 // What all bins of a mask share, worked out once from its settings.
@@ -33,7 +35,9 @@ pub struct Shared {
 }
 
 fn shared_of(powers: &PowerTable, sines: &SineTable, config: MaskConfig) -> Shared
-    requires { ⌜ (now powers ≡ powerTable) × (now sines ≡ sineTable) × (config .«fft_size» ≤ 2 ^ 24) ⌝ }
+    requires { ⌜ (now powers ≡ powerTable)
+        × (now sines ≡ sineTable)
+        × (config .«fft_size» ≤ 2 ^ 24) ⌝ }
     ensures { λ r. ⌜ r ≡ sharedOf config ⌝ }
 {
     let motion = config.motion;
@@ -49,7 +53,9 @@ fn shared_of(powers: &PowerTable, sines: &SineTable, config: MaskConfig) -> Shar
 // A row of the drawn curve's gains times the moving field's, made up for.
 fn move_row(row: &mut [f32], field: &[f32], compensation: f32, count: usize)
     requires { ⌜ (count ≤ length (now row)) × (count ≤ length (now field)) ⌝ }
-    ensures { λ _. ⌜ now (row .exit) ≡ mapRange (λ k held. mul binary32 held (mul binary32 (getD (now (field .entry)) k nan) compensation)) 0 count (now (row .entry)) ⌝ }
+    ensures { λ _. ⌜ now (row .exit) ≡ mapRange
+        (λ k held. mul binary32 held (mul binary32 (getD (now (field .entry)) k nan) compensation))
+        0 count (now (row .entry)) ⌝ }
 {
     let mut k: usize = 0;
     while k < count {
@@ -58,7 +64,8 @@ fn move_row(row: &mut [f32], field: &[f32], compensation: f32, count: usize)
     }
 }
 
-// What the bins from `start` on get where the gate is 1: the drawn curve's gain times the moving field's.
+// What the bins from `start` on get where the gate is 1: the drawn curve's gain times the moving
+// field's.
 fn ceilings(
     row: &mut [f32],
     field: &mut [f32],
@@ -70,8 +77,15 @@ fn ceilings(
     start: usize,
     count: usize,
 )
-    requires { ⌜ (now powers ≡ powerTable) × (now sines ≡ sineTable) × (length (now curve) ≡ MANUAL-MASK-POINTS) × (shared ≡ sharedOf config) × (count ≤ length (now row)) × (count ≤ length (now field)) × (start + count ≤ 2 ^ 24 + 1) ⌝ }
-    ensures { λ _. ⌜ now (row .exit) ≡ mapRange (λ k held. ceilingAt (now (curve .entry)) config (start + k)) 0 count (now (row .entry)) ⌝ }
+    requires { ⌜ (now powers ≡ powerTable)
+        × (now sines ≡ sineTable)
+        × (length (now curve) ≡ MANUAL-MASK-POINTS)
+        × (shared ≡ sharedOf config)
+        × (count ≤ length (now row))
+        × (count ≤ length (now field))
+        × (start + count ≤ 2 ^ 24 + 1) ⌝ }
+    ensures { λ _. ⌜ now (row .exit) ≡ mapRange
+        (λ k held. ceilingAt (now (curve .entry)) config (start + k)) 0 count (now (row .entry)) ⌝ }
 {
     let motion = config.motion;
     masks::rows::manual_gains(row, powers, curve, config.fft_size, start, count);
@@ -99,7 +113,8 @@ fn gate_at(config: MaskConfig, shared: Shared, opened: f32) -> f32
     1.0
 }
 
-// The bins from `start` on and below `end`, from openness to gain, by the ceilings that the row has for them.
+// The bins from `start` on and below `end`, from openness to gain, by the ceilings that the row has
+// for them.
 fn finish_row(
     out: &mut [f32],
     ceilings: &[f32],
@@ -108,8 +123,13 @@ fn finish_row(
     start: usize,
     end: usize,
 )
-    requires { ⌜ (shared ≡ sharedOf config) × (start ≤ end) × (end ≤ length (now out)) × (end ≤ start + length (now ceilings)) ⌝ }
-    ensures { λ _. ⌜ now (out .exit) ≡ mapRange (λ bin opened. mul binary32 (getD (now (ceilings .entry)) (bin - start) nan) (gateAt config opened)) start end (now (out .entry)) ⌝ }
+    requires { ⌜ (shared ≡ sharedOf config)
+        × (start ≤ end)
+        × (end ≤ length (now out))
+        × (end ≤ start + length (now ceilings)) ⌝ }
+    ensures { λ _. ⌜ now (out .exit) ≡ mapRange (λ bin opened. mul binary32
+        (getD (now (ceilings .entry)) (bin - start) nan) (gateAt config opened)) start end
+        (now (out .entry)) ⌝ }
 {
     let mut bin = start;
     while bin < end {
@@ -126,8 +146,13 @@ pub fn finish_one(
     curve: &[f32],
     config: MaskConfig,
 )
-    requires { ⌜ (now powers ≡ powerTable) × (now sines ≡ sineTable) × (length (now curve) ≡ MANUAL-MASK-POINTS) × (config .«fft_size» ≤ 2 ^ 24) × (length (now out) ≤ 2 ^ 24) ⌝ }
-    ensures { λ _. ⌜ now (out .exit) ≡ mapAt (gainAt (now (curve .entry)) config) (now (out .entry)) ⌝ }
+    requires { ⌜ (now powers ≡ powerTable)
+        × (now sines ≡ sineTable)
+        × (length (now curve) ≡ MANUAL-MASK-POINTS)
+        × (config .«fft_size» ≤ 2 ^ 24)
+        × (length (now out) ≤ 2 ^ 24) ⌝ }
+    ensures { λ _. ⌜ now (out .exit)
+        ≡ mapAt (gainAt (now (curve .entry)) config) (now (out .entry)) ⌝ }
 {
     let shared = shared_of(powers, sines, config);
     let mut row = [0.0f32; ROW];
@@ -161,9 +186,16 @@ pub fn finish_two(
     curve: &[f32],
     config: MaskConfig,
 )
-    requires { ⌜ (now powers ≡ powerTable) × (now sines ≡ sineTable) × (length (now curve) ≡ MANUAL-MASK-POINTS) × (config .«fft_size» ≤ 2 ^ 24) × (length (now left) ≤ 2 ^ 24) × (length (now right) ≡ length (now left)) ⌝ }
-    ensures { λ _. ⌜ now (left .exit) ≡ mapAt (gainAt (now (curve .entry)) config) (now (left .entry)) ⌝ }
-    ensures { λ _. ⌜ now (right .exit) ≡ mapAt (gainAt (now (curve .entry)) config) (now (right .entry)) ⌝ }
+    requires { ⌜ (now powers ≡ powerTable)
+        × (now sines ≡ sineTable)
+        × (length (now curve) ≡ MANUAL-MASK-POINTS)
+        × (config .«fft_size» ≤ 2 ^ 24)
+        × (length (now left) ≤ 2 ^ 24)
+        × (length (now right) ≡ length (now left)) ⌝ }
+    ensures { λ _. ⌜ now (left .exit)
+        ≡ mapAt (gainAt (now (curve .entry)) config) (now (left .entry)) ⌝ }
+    ensures { λ _. ⌜ now (right .exit)
+        ≡ mapAt (gainAt (now (curve .entry)) config) (now (right .entry)) ⌝ }
 {
     let shared = shared_of(powers, sines, config);
     let mut row = [0.0f32; ROW];

@@ -1,5 +1,6 @@
-// The most that the lobes of a tone open over a block of bins, worked out in a row: each lobe only where it can count. The chunk has the openings of one lobe until they
-// are joined, and is then the room in which the least of the row is found.
+// The most that the lobes of a tone open over a block of bins, worked out in a row: each lobe only
+// where it can count. The chunk has the openings of one lobe until they are joined, and is then the
+// room in which the least of the row is found.
 ghost use mathlib.Core.Path.{_≡_};
 ghost use mathlib.Core.Bool.{true};
 ghost use Prim.Native.Nat.{_+_, _-_, _^_, _≤_, _<_};
@@ -39,8 +40,17 @@ fn raise_in_row(
     start: usize,
     end: usize,
 )
-    requires { ⌜ (now gaussians ≡ gaussianTable) × (SoundLobe grid lobe) × (start ≤ end) × (end ≤ start + length (now row)) × (end ≤ start + length (now chunk)) × (end ≤ start + length (now indexes)) × (end ≤ length (now table)) × (grid .«last_bin» ≤ 2 ^ 24) ⌝ }
-    ensures { λ _. ⌜ now (row .exit) ≡ mapRange (λ k held. lobeJoined grid (lent (now (table .entry))) one (start + k) held lobe) 0 (end - start) (now (row .entry)) ⌝ }
+    requires { ⌜ (now gaussians ≡ gaussianTable)
+        × (SoundLobe grid lobe)
+        × (start ≤ end)
+        × (end ≤ start + length (now row))
+        × (end ≤ start + length (now chunk))
+        × (end ≤ start + length (now indexes))
+        × (end ≤ length (now table))
+        × (grid .«last_bin» ≤ 2 ^ 24) ⌝ }
+    ensures { λ _. ⌜ now (row .exit) ≡ mapRange
+        (λ k held. lobeJoined grid (lent (now (table .entry))) one (start + k) held lobe) 0
+        (end - start) (now (row .entry)) ⌝ }
 {
     let from = greater(lobe.first_bin, start);
     let to = lesser(lobe.last_bin + 1, end);
@@ -59,7 +69,8 @@ fn raise_in_row(
     }
 }
 
-// A lobe joined to a row, unless it is there already or its bound is not above the least of the row. Answers the least of the row, or less.
+// A lobe joined to a row, unless it is there already or its bound is not above the least of the
+// row. Answers the least of the row, or less.
 fn raise_above(
     row: &mut [f32],
     chunk: &mut [f32],
@@ -74,8 +85,26 @@ fn raise_above(
     start: usize,
     end: usize,
 ) -> f32
-    requires { ⌜ (now gaussians ≡ gaussianTable) × (SoundLobe grid lobe) × (start ≤ end) × (length (now row) ≡ 64) × (length (now chunk) ≡ 64) × (length (now indexes) ≡ 64) × (end ≤ start + 64) × (end ≤ length (now table)) × (grid .«last_bin» ≤ 2 ^ 24) × (Opennesses (now row)) × (Least least 0 64 (now row)) × (Upto binary32 0 bound) × (Bounded grid (now table) lobe bound start end) × (there ≡ true → now row ≡ mapRange (λ k held. lobeJoined grid (lent (now table)) one (start + k) held lobe) 0 (end - start) (now row)) ⌝ }
-    ensures { λ r. ⌜ (now (row .exit) ≡ mapRange (λ k held. lobeJoined grid (lent (now (table .entry))) one (start + k) held lobe) 0 (end - start) (now (row .entry))) × (Least r 0 64 (now (row .exit))) ⌝ }
+    requires { ⌜ (now gaussians ≡ gaussianTable)
+        × (SoundLobe grid lobe)
+        × (start ≤ end)
+        × (length (now row) ≡ 64)
+        × (length (now chunk) ≡ 64)
+        × (length (now indexes) ≡ 64)
+        × (end ≤ start + 64)
+        × (end ≤ length (now table))
+        × (grid .«last_bin» ≤ 2 ^ 24)
+        × (Opennesses (now row))
+        × (Least least 0 64 (now row))
+        × (Upto binary32 0 bound)
+        × (Bounded grid (now table) lobe bound start end)
+        × (there ≡ true →
+        now row ≡ mapRange (λ k held. lobeJoined grid (lent (now table)) one (start + k) held lobe)
+        0 (end - start) (now row)) ⌝ }
+    ensures { λ r. ⌜ (now (row .exit) ≡ mapRange
+        (λ k held. lobeJoined grid (lent (now (table .entry))) one (start + k) held lobe) 0
+        (end - start) (now (row .entry)))
+        × (Least r 0 64 (now (row .exit))) ⌝ }
 {
     if there {
         return least;
@@ -97,7 +126,8 @@ fn raise_above(
     least_from(chunk, row, 0)
 }
 
-// The most that one of the lobes opens at each bin from `start` on and below `end`. The lobe at `top` comes first.
+// The most that one of the lobes opens at each bin from `start` on and below `end`. The lobe at
+// `top` comes first.
 pub fn raise_partials(
     row: &mut [f32],
     chunk: &mut [f32],
@@ -112,8 +142,21 @@ pub fn raise_partials(
     start: usize,
     end: usize,
 )
-    requires { ⌜ (now gaussians ≡ gaussianTable) × (SoundLobes grid lobes count) × (count ≤ 24) × (top < count) × (count ≤ length (now bounds)) × (start ≤ end) × (length (now row) ≡ 64) × (length (now chunk) ≡ 64) × (length (now indexes) ≡ 64) × (end ≤ start + 64) × (end ≤ length (now table)) × (grid .«last_bin» ≤ 2 ^ 24) × (BoundedLobes grid (now table) lobes count (now bounds) start end) ⌝ }
-    ensures { λ _. ⌜ HasMost grid (now (table .entry)) (take count lobes) start end (now (row .exit)) ⌝ }
+    requires { ⌜ (now gaussians ≡ gaussianTable)
+        × (SoundLobes grid lobes count)
+        × (count ≤ 24)
+        × (top < count)
+        × (count ≤ length (now bounds))
+        × (start ≤ end)
+        × (length (now row) ≡ 64)
+        × (length (now chunk) ≡ 64)
+        × (length (now indexes) ≡ 64)
+        × (end ≤ start + 64)
+        × (end ≤ length (now table))
+        × (grid .«last_bin» ≤ 2 ^ 24)
+        × (BoundedLobes grid (now table) lobes count (now bounds) start end) ⌝ }
+    ensures { λ _. ⌜ HasMost grid (now (table .entry)) (take count lobes) start end
+        (now (row .exit)) ⌝ }
 {
     slices::fill(row, 0.0);
     let first = lobes[top];

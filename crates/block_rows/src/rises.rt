@@ -9,7 +9,8 @@ ghost use Rattle.block_rows.specs.Most.{Opennesses, NotAbove};
 use blocks::least_from;
 use lobe_rows::Gains;
 
-// Whether a bound, under either gain, is not above the least bin that its side holds from `start` on.
+// Whether a bound, under either gain, is not above the least bin that its side holds from `start`
+// on.
 pub fn nothing_rises(
     first: &[f32],
     second: &[f32],
@@ -18,8 +19,16 @@ pub fn nothing_rises(
     gains: Gains,
     start: usize,
 ) -> bool
-    requires { ⌜ (length (now scratch) ≡ 64) × (Opennesses (now first)) × (Opennesses (now second)) × (Upto binary32 0 bound) × (Upto binary32 3 (gains .first)) × (Upto binary32 3 (gains .second)) ⌝ }
-    ensures { λ r. ⌜ (r ≡ true → (NotAbove (mul binary32 bound (gains .first)) start (start + 64) (now (first .entry))) × (NotAbove (mul binary32 bound (gains .second)) start (start + 64) (now (second .entry)))) ⌝ }
+    requires { ⌜ (length (now scratch) ≡ 64)
+        × (Opennesses (now first))
+        × (Opennesses (now second))
+        × (Upto binary32 0 bound)
+        × (Upto binary32 3 (gains .first))
+        × (Upto binary32 3 (gains .second)) ⌝ }
+    ensures { λ r. ⌜ (r ≡ true →
+        (NotAbove (mul binary32 bound (gains .first)) start (start + 64) (now (first .entry))) ×
+        (NotAbove (mul binary32 bound (gains .second)) start (start + 64)
+        (now (second .entry)))) ⌝ }
 {
     if bound * gains.first <= least_from(scratch, first, start) {
         return bound * gains.second <= least_from(scratch, second, start);

@@ -1,4 +1,5 @@
-// What the walk by blocks takes from the lobes of a tone before it begins: the bins that they reach, their columns, and whether it can pay at all.
+// What the walk by blocks takes from the lobes of a tone before it begins: the bins that they
+// reach, their columns, and whether it can pay at all.
 ghost use mathlib.Core.Path.{_≡_};
 ghost use Prim.Native.Nat.{ℕ, _+_, _*_, _≤_, _<_};
 ghost use lib.ListN.{length, getD};
@@ -11,7 +12,8 @@ use counts::lesser;
 use lobes::Grid;
 use lobes::Lobe;
 
-// The bins that lobes reach, from the first to the last, and how many the plain way works out for them.
+// The bins that lobes reach, from the first to the last, and how many the plain way works out for
+// them.
 pub struct Span {
     pub first_bin: usize,
     pub last_bin: usize,
@@ -30,8 +32,14 @@ pub fn bins_between(first_bin: usize, last_bin: usize) -> usize
 }
 
 pub fn span_of(lobes: [Lobe; 24], count: usize, last_bin: usize) -> Span
-    requires { ⌜ (count ≤ 24) × («last_bin» ≤ 8192) × ((p : ℕ) → p < count → getD lobes p noLobe .«last_bin» ≤ «last_bin») ⌝ }
-    ensures { λ r. ⌜ (r .«last_bin» ≤ «last_bin») × (r .«plain_cost» ≤ 24 * 8193) × ((p : ℕ) → p < count → (r .«first_bin» ≤ getD lobes p noLobe .«first_bin») × (getD lobes p noLobe .«last_bin» ≤ r .«last_bin»)) ⌝ }
+    requires { ⌜ (count ≤ 24)
+        × («last_bin» ≤ 8192)
+        × ((p : ℕ) → p < count → getD lobes p noLobe .«last_bin» ≤ «last_bin») ⌝ }
+    ensures { λ r. ⌜ (r .«last_bin» ≤ «last_bin»)
+        × (r .«plain_cost» ≤ 24 * 8193)
+        × ((p : ℕ) → p < count →
+        (r .«first_bin» ≤ getD lobes p noLobe .«first_bin») ×
+        (getD lobes p noLobe .«last_bin» ≤ r .«last_bin»)) ⌝ }
 {
     let mut first = last_bin + 1;
     let mut last: usize = 0;
@@ -59,8 +67,16 @@ pub fn columns_of(
     lobes: [Lobe; 24],
     count: usize,
 )
-    requires { ⌜ (count ≤ 24) × (count ≤ length (now centers)) × (count ≤ length (now strengths)) × (count ≤ length (now peaks)) ⌝ }
-    ensures { λ _. ⌜ (now (centers .exit) ≡ mapRange (λ p held. getD lobes p noLobe .«center_log2») 0 count (now (centers .entry))) × (now (strengths .exit) ≡ mapRange (λ p held. getD lobes p noLobe .strength) 0 count (now (strengths .entry))) × (now (peaks .exit) ≡ mapRange (λ p held. getD lobes p noLobe .«peak_squared») 0 count (now (peaks .entry))) ⌝ }
+    requires { ⌜ (count ≤ 24)
+        × (count ≤ length (now centers))
+        × (count ≤ length (now strengths))
+        × (count ≤ length (now peaks)) ⌝ }
+    ensures { λ _. ⌜ (now (centers .exit)
+        ≡ mapRange (λ p held. getD lobes p noLobe .«center_log2») 0 count (now (centers .entry)))
+        × (now (strengths .exit)
+        ≡ mapRange (λ p held. getD lobes p noLobe .strength) 0 count (now (strengths .entry)))
+        × (now (peaks .exit)
+        ≡ mapRange (λ p held. getD lobes p noLobe .«peak_squared») 0 count (now (peaks .entry))) ⌝ }
 {
     let mut p: usize = 0;
     while p < count {
@@ -82,7 +98,8 @@ pub fn block_of(bin: usize) -> usize
     (bin - 1) / BLOCK
 }
 
-// Whether the walk can pay on a grid: the lobes of so many partials overlap where twice the sum of their lengths is above three times what they span. In units of the fundamental partial n reaches
+// Whether the walk can pay on a grid: the lobes of so many partials overlap where twice the sum of
+// their lengths is above three times what they span. In units of the fundamental partial n reaches
 // from n times the lower ratio to n times the upper one.
 pub fn block_walk_pays(grid: Grid) -> bool {
     if grid.partials < 3 {

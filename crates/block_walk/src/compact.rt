@@ -1,10 +1,16 @@
-// The partials of a tone raised together, block by block of 64 bins: each partial only where it can count, and the gains applied once.
+// The partials of a tone raised together, block by block of 64 bins: each partial only where it can
+// count, and the gains applied once.
 //
-// Method. Over a block whose logarithms lie from `low` to `high` no lobe opens more than its bound (`opening-bounded`): its bell at the nearer end. The lobe with the greatest bound is worked out
-// first, in a row; then each other one whose bound is above the least number of the row. A lobe that is left out is nowhere above the row, so that joining it would change nothing; and since what
-// a maximum takes is above 0, equal values are equal bits, and the order in which lobes are joined does not count (`once-before`). A gain that is not negative keeps the order, so the row, which
-// has the most that any lobe opens, is joined once to each side (`gain-last`). A block where the greatest bound, under either gain, is not above the least bin that the side holds is left as it
-// is. So the compact way gives each bin what the plain way gives it, for every accepted table (`compact-is-plain`).
+// Method. Over a block whose logarithms lie from `low` to `high` no lobe opens more than its bound
+// (`opening-bounded`): its bell at the nearer end. The lobe with the greatest bound is worked out
+// first, in a row; then each other one whose bound is above the least number of the row. A lobe
+// that is left out is nowhere above the row, so that joining it would change nothing; and since
+// what a maximum takes is above 0, equal values are equal bits, and the order in which lobes are
+// joined does not count (`once-before`). A gain that is not negative keeps the order, so the row,
+// which has the most that any lobe opens, is joined once to each side (`gain-last`). A block where
+// the greatest bound, under either gain, is not above the least bin that the side holds is left as
+// it is. So the compact way gives each bin what the plain way gives it, for every accepted table
+// (`compact-is-plain`).
 ghost use mathlib.Core.Path.{_≡_};
 ghost use mathlib.Core.Bool.{cond};
 ghost use Prim.Native.Nat.{_+_, _*_, _^_, _≤_, _<_};
@@ -50,8 +56,28 @@ fn raise_block(
     start: usize,
     end: usize,
 )
-    requires { ⌜ (now gaussians ≡ gaussianTable) × (SoundLobes grid lobes count) × (0 < count) × (count ≤ 24) × (count ≤ length (now bounds)) × (start ≤ end) × (length (now chunk) ≡ 64) × (length (now indexes) ≡ 64) × (end ≤ start + 64) × (end ≤ length (now table)) × (grid .«last_bin» ≤ 2 ^ 24) × (Opennesses (now first)) × (Opennesses (now second)) × (Upto binary32 3 (gains .first)) × (Upto binary32 3 (gains .second)) × (BoundedLobes grid (now table) lobes count (now bounds) start end) ⌝ }
-    ensures { λ _. ⌜ (now (first .exit) ≡ mapRange (lobesJoined grid (lent (now (table .entry))) (gains .first) (take count lobes)) start end (now (first .entry))) × (now (second .exit) ≡ mapRange (lobesJoined grid (lent (now (table .entry))) (gains .second) (take count lobes)) start end (now (second .entry))) ⌝ }
+    requires { ⌜ (now gaussians ≡ gaussianTable)
+        × (SoundLobes grid lobes count)
+        × (0 < count)
+        × (count ≤ 24)
+        × (count ≤ length (now bounds))
+        × (start ≤ end)
+        × (length (now chunk) ≡ 64)
+        × (length (now indexes) ≡ 64)
+        × (end ≤ start + 64)
+        × (end ≤ length (now table))
+        × (grid .«last_bin» ≤ 2 ^ 24)
+        × (Opennesses (now first))
+        × (Opennesses (now second))
+        × (Upto binary32 3 (gains .first))
+        × (Upto binary32 3 (gains .second))
+        × (BoundedLobes grid (now table) lobes count (now bounds) start end) ⌝ }
+    ensures { λ _. ⌜ (now (first .exit) ≡ mapRange
+        (lobesJoined grid (lent (now (table .entry))) (gains .first) (take count lobes)) start end
+        (now (first .entry)))
+        × (now (second .exit) ≡ mapRange
+        (lobesJoined grid (lent (now (table .entry))) (gains .second) (take count lobes)) start end
+        (now (second .entry))) ⌝ }
 {
     let top = greatest_at(bounds, count);
     if nothing_rises(first, second, chunk, bounds[top], gains, start) {
@@ -95,8 +121,29 @@ fn raise_blocks(
     gains: Gains,
     span: Span,
 )
-    requires { ⌜ (now gaussians ≡ gaussianTable) × (SoundLobes grid lobes count) × (0 < count) × (count ≤ 24) × (length (now chunk) ≡ 64) × (length (now indexes) ≡ 64) × (Ready grid (now table) (now lows) (now highs)) × (count ≤ length (now centers)) × (count ≤ length (now strengths)) × (count ≤ length (now peaks)) × (InColumns lobes count (now centers) (now strengths) (now peaks)) × (Opennesses (now first)) × (Opennesses (now second)) × (Upto binary32 3 (gains .first)) × (Upto binary32 3 (gains .second)) × (span .«last_bin» ≤ grid .«last_bin») × (Within lobes count (span .«first_bin») (span .«last_bin»)) ⌝ }
-    ensures { λ _. ⌜ (now (first .exit) ≡ mapAt (lobesJoined grid (lent (now (table .entry))) (gains .first) (take count lobes)) (now (first .entry))) × (now (second .exit) ≡ mapAt (lobesJoined grid (lent (now (table .entry))) (gains .second) (take count lobes)) (now (second .entry))) ⌝ }
+    requires { ⌜ (now gaussians ≡ gaussianTable)
+        × (SoundLobes grid lobes count)
+        × (0 < count)
+        × (count ≤ 24)
+        × (length (now chunk) ≡ 64)
+        × (length (now indexes) ≡ 64)
+        × (Ready grid (now table) (now lows) (now highs))
+        × (count ≤ length (now centers))
+        × (count ≤ length (now strengths))
+        × (count ≤ length (now peaks))
+        × (InColumns lobes count (now centers) (now strengths) (now peaks))
+        × (Opennesses (now first))
+        × (Opennesses (now second))
+        × (Upto binary32 3 (gains .first))
+        × (Upto binary32 3 (gains .second))
+        × (span .«last_bin» ≤ grid .«last_bin»)
+        × (Within lobes count (span .«first_bin») (span .«last_bin»)) ⌝ }
+    ensures { λ _. ⌜ (now (first .exit) ≡ mapAt
+        (lobesJoined grid (lent (now (table .entry))) (gains .first) (take count lobes))
+        (now (first .entry)))
+        × (now (second .exit) ≡ mapAt
+        (lobesJoined grid (lent (now (table .entry))) (gains .second) (take count lobes))
+        (now (second .entry))) ⌝ }
 {
     let mut bounds = [0.0f32; 24];
     let mut block = block_of(lesser(span.first_bin, span.last_bin));
@@ -133,7 +180,8 @@ fn raise_blocks(
     }
 }
 
-// What the walk costs, in bins of the plain way, by measurement; with many voices it passes over most blocks.
+// What the walk costs, in bins of the plain way, by measurement; with many voices it passes over
+// most blocks.
 fn compact_cost(span: Span, crowded: bool) -> usize
     requires { ⌜ span .«last_bin» ≤ 8192 ⌝ }
     ensures { λ r. ⌜ r ≤ 6 * 8193 + 512 ⌝ }
@@ -161,8 +209,25 @@ fn walk(
     gains: Gains,
     span: Span,
 )
-    requires { ⌜ (now gaussians ≡ gaussianTable) × (SoundLobes grid lobes count) × (0 < count) × (count ≤ 24) × (length (now chunk) ≡ 64) × (length (now indexes) ≡ 64) × (Ready grid (now table) (now lows) (now highs)) × (Opennesses (now first)) × (Opennesses (now second)) × (Upto binary32 3 (gains .first)) × (Upto binary32 3 (gains .second)) × (span .«last_bin» ≤ grid .«last_bin») × (Within lobes count (span .«first_bin») (span .«last_bin»)) ⌝ }
-    ensures { λ _. ⌜ (now (first .exit) ≡ mapAt (lobesJoined grid (lent (now (table .entry))) (gains .first) (take count lobes)) (now (first .entry))) × (now (second .exit) ≡ mapAt (lobesJoined grid (lent (now (table .entry))) (gains .second) (take count lobes)) (now (second .entry))) ⌝ }
+    requires { ⌜ (now gaussians ≡ gaussianTable)
+        × (SoundLobes grid lobes count)
+        × (0 < count)
+        × (count ≤ 24)
+        × (length (now chunk) ≡ 64)
+        × (length (now indexes) ≡ 64)
+        × (Ready grid (now table) (now lows) (now highs))
+        × (Opennesses (now first))
+        × (Opennesses (now second))
+        × (Upto binary32 3 (gains .first))
+        × (Upto binary32 3 (gains .second))
+        × (span .«last_bin» ≤ grid .«last_bin»)
+        × (Within lobes count (span .«first_bin») (span .«last_bin»)) ⌝ }
+    ensures { λ _. ⌜ (now (first .exit) ≡ mapAt
+        (lobesJoined grid (lent (now (table .entry))) (gains .first) (take count lobes))
+        (now (first .entry)))
+        × (now (second .exit) ≡ mapAt
+        (lobesJoined grid (lent (now (table .entry))) (gains .second) (take count lobes))
+        (now (second .entry))) ⌝ }
 {
     let mut centers = [0.0f32; 24];
     let mut strengths = [0.0f32; 24];
@@ -188,7 +253,8 @@ fn walk(
     );
 }
 
-// Raises the partials of a tone together, where there are two and that costs less than raising each, and answers whether it did.
+// Raises the partials of a tone together, where there are two and that costs less than raising
+// each, and answers whether it did.
 pub fn rasterize_compact_harmonic_envelope(
     first: &mut [f32],
     second: &mut [f32],
@@ -204,8 +270,22 @@ pub fn rasterize_compact_harmonic_envelope(
     gains: Gains,
     crowded: bool,
 ) -> bool
-    requires { ⌜ (now gaussians ≡ gaussianTable) × (SoundLobes grid lobes count) × (count ≤ 24) × (length (now chunk) ≡ 64) × (length (now indexes) ≡ 64) × (Ready grid (now table) (now lows) (now highs)) × (Opennesses (now first)) × (Opennesses (now second)) × (Upto binary32 3 (gains .first)) × (Upto binary32 3 (gains .second)) ⌝ }
-    ensures { λ r. ⌜ (now (first .exit) ≡ cond r (mapAt (lobesJoined grid (lent (now (table .entry))) (gains .first) (take count lobes)) (now (first .entry))) (now (first .entry))) × (now (second .exit) ≡ cond r (mapAt (lobesJoined grid (lent (now (table .entry))) (gains .second) (take count lobes)) (now (second .entry))) (now (second .entry))) ⌝ }
+    requires { ⌜ (now gaussians ≡ gaussianTable)
+        × (SoundLobes grid lobes count)
+        × (count ≤ 24)
+        × (length (now chunk) ≡ 64)
+        × (length (now indexes) ≡ 64)
+        × (Ready grid (now table) (now lows) (now highs))
+        × (Opennesses (now first))
+        × (Opennesses (now second))
+        × (Upto binary32 3 (gains .first))
+        × (Upto binary32 3 (gains .second)) ⌝ }
+    ensures { λ r. ⌜ (now (first .exit) ≡ cond r (mapAt
+        (lobesJoined grid (lent (now (table .entry))) (gains .first) (take count lobes))
+        (now (first .entry))) (now (first .entry)))
+        × (now (second .exit) ≡ cond r (mapAt
+        (lobesJoined grid (lent (now (table .entry))) (gains .second) (take count lobes))
+        (now (second .entry))) (now (second .entry))) ⌝ }
 {
     if count < 2 {
         return false;

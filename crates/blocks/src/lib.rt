@@ -1,4 +1,5 @@
-// The least and the greatest number of each block of 64 bins, by which whole blocks can be passed over.
+// The least and the greatest number of each block of 64 bins, by which whole blocks can be passed
+// over.
 ghost use mathlib.Core.Path.{_≡_};
 ghost use Prim.Native.Nat.{_+_, _*_, _≤_, _<_};
 ghost use lib.ListN.{length};
@@ -18,7 +19,8 @@ const LARGEST: f32 = 3.4028235e38;
 
 const LOWEST: f32 = -3.4028235e38;
 
-// The numbers of the slice from `start` on, as far as it goes and the row has room; the first of them again in what is left of the row.
+// The numbers of the slice from `start` on, as far as it goes and the row has room; the first of
+// them again in what is left of the row.
 fn take_row(row: &mut [f32], from: &[f32], start: usize)
     requires { ⌜ (length (now row) ≡ 64) × (start < length (now from)) ⌝ }
     ensures { λ _. ⌜ RowOf start (now (from .entry)) (now (row .exit)) ⌝ }
@@ -27,10 +29,12 @@ fn take_row(row: &mut [f32], from: &[f32], start: usize)
     copy_row(row, from, start, lesser(BLOCK, from.len() - start));
 }
 
-// The least of the 64 numbers from `start` on, as far as the slice goes; the largest f32 where it has none there.
+// The least of the 64 numbers from `start` on, as far as the slice goes; the largest f32 where it
+// has none there.
 pub fn least_from(row: &mut [f32], from: &[f32], start: usize) -> f32
     requires { ⌜ (length (now row) ≡ 64) × Numbers start (start + 64) (now from) ⌝ }
-    ensures { λ r. ⌜ Least r start (start + 64) (now (from .entry)) × (length (now (from .entry)) ≤ start → r ≡ largest) ⌝ }
+    ensures { λ r. ⌜ Least r start (start + 64) (now (from .entry))
+        × (length (now (from .entry)) ≤ start → r ≡ largest) ⌝ }
 {
     if from.len() <= start {
         return LARGEST;
@@ -42,7 +46,8 @@ pub fn least_from(row: &mut [f32], from: &[f32], start: usize) -> f32
 // The greatest of them, which is the least of the negated numbers, negated.
 pub fn greatest_from(row: &mut [f32], from: &[f32], start: usize) -> f32
     requires { ⌜ (length (now row) ≡ 64) × Numbers start (start + 64) (now from) ⌝ }
-    ensures { λ r. ⌜ Greatest r start (start + 64) (now (from .entry)) × (length (now (from .entry)) ≤ start → r ≡ lowest) ⌝ }
+    ensures { λ r. ⌜ Greatest r start (start + 64) (now (from .entry))
+        × (length (now (from .entry)) ≤ start → r ≡ lowest) ⌝ }
 {
     if from.len() <= start {
         return LOWEST;
@@ -54,7 +59,10 @@ pub fn greatest_from(row: &mut [f32], from: &[f32], start: usize) -> f32
 
 // The least and the greatest number of each block of a table. Bin 0 is in no block.
 pub fn block_ends(lows: &mut [f32], highs: &mut [f32], row: &mut [f32], table: &[f32])
-    requires { ⌜ (length (now row) ≡ 64) × (length (now lows) ≡ length (now highs)) × (length (now table) ≤ 64 * length (now lows) + 1) × Numbers 1 (length (now table)) (now table) ⌝ }
+    requires { ⌜ (length (now row) ≡ 64)
+        × (length (now lows) ≡ length (now highs))
+        × (length (now table) ≤ 64 * length (now lows) + 1)
+        × Numbers 1 (length (now table)) (now table) ⌝ }
     ensures { λ _. ⌜ Ends (now (table .entry)) (now (lows .exit)) (now (highs .exit)) ⌝ }
 {
     let mut block: usize = 0;

@@ -1,6 +1,7 @@
 // A row of 64 numbers, and the least of them.
 //
-// Method. One running minimum waits for itself at each step. So the second half of the row is joined to the first, entry by entry, then the second quarter to the first, and so on:
+// Method. One running minimum waits for itself at each step. So the second half of the row is
+// joined to the first, entry by entry, then the second quarter to the first, and so on:
 // the steps of one such loop do not wait for each other, and several are done at once.
 ghost use mathlib.Core.Path.{_≡_};
 ghost use Prim.Native.Nat.{_+_, _≤_};
@@ -13,7 +14,8 @@ ghost use Rattle.blocks.specs.Least.{Numbers, Least};
 // The first `count` numbers of the row become those of the slice from `start` on.
 pub(crate) fn copy_row(row: &mut [f32], from: &[f32], start: usize, count: usize)
     requires { ⌜ (count ≤ length (now row)) × (start + count ≤ length (now from)) ⌝ }
-    ensures { λ _. ⌜ now (row .exit) ≡ mapRange (λ k held. getD (now (from .entry)) (start + k) nan) 0 count (now (row .entry)) ⌝ }
+    ensures { λ _. ⌜ now (row .exit) ≡ mapRange (λ k held. getD (now (from .entry)) (start + k) nan)
+        0 count (now (row .entry)) ⌝ }
 {
     let mut k: usize = 0;
     while k < count {
@@ -42,7 +44,9 @@ fn lesser(a: f32, b: f32) -> f32
 // Each of the first `count` numbers becomes the lesser of itself and the one `count` places on.
 fn halve(row: &mut [f32], count: usize)
     requires { ⌜ count + count ≤ length (now row) ⌝ }
-    ensures { λ _. ⌜ now (row .exit) ≡ mapRange (λ k held. smaller held (getD (now (row .entry)) (k + count) nan)) 0 count (now (row .entry)) ⌝ }
+    ensures { λ _. ⌜ now (row .exit) ≡ mapRange
+        (λ k held. smaller held (getD (now (row .entry)) (k + count) nan)) 0 count
+        (now (row .entry)) ⌝ }
 {
     let mut k: usize = 0;
     while k < count {

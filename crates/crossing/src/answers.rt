@@ -1,4 +1,5 @@
-// An open call's answer, given to a C caller: the number comes back, the values or the place are written.
+// An open call's answer, given to a C caller: the number comes back, the values or the place are
+// written.
 ghost use Rattle.answer.specs.Reply.{ofAnswer, ofOutcome, ofPrepared};
 ghost use Rattle.crossing.specs.Given.{Given, GivenValue, GivenValues};
 use answer::Answer;
@@ -6,7 +7,8 @@ use answer::Outcome;
 use answer::Prepared;
 
 pub fn give_answer(answer: Answer, value: &mut f32, place: &mut usize) -> u32
-    ensures { λ r. ⌜ GivenValue (ofAnswer answer) r (now (place .entry)) (now (place .exit)) (now (value .entry)) (now (value .exit)) ⌝ }
+    ensures { λ r. ⌜ GivenValue (ofAnswer answer) r (now (place .entry)) (now (place .exit))
+        (now (value .entry)) (now (value .exit)) ⌝ }
 {
     match answer {
         Answer::Gain(x) => {
@@ -38,7 +40,8 @@ pub fn give_prepared(
     second: &mut f32,
     place: &mut usize,
 ) -> u32
-    ensures { λ r. ⌜ GivenValues (ofPrepared prepared) r (now (place .entry)) (now (place .exit)) (now (first .entry)) (now (first .exit)) (now (second .entry)) (now (second .exit)) ⌝ }
+    ensures { λ r. ⌜ GivenValues (ofPrepared prepared) r (now (place .entry)) (now (place .exit))
+        (now (first .entry)) (now (first .exit)) (now (second .entry)) (now (second .exit)) ⌝ }
 {
     match prepared {
         Prepared::Gains(x, y) => {

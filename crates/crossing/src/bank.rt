@@ -1,4 +1,5 @@
-// The envelope bank as a slice of 128 levels that is changed in place, and the held notes as a slice of 16 bytes.
+// The envelope bank as a slice of 128 levels that is changed in place, and the held notes as a
+// slice of 16 bytes.
 ghost use mathlib.Core.Path.{_≡_};
 ghost use lib.ListN.{length};
 ghost use Rattle.answer.specs.Reply.{ofOutcome};
@@ -41,8 +42,11 @@ fn held_of(held: &[u8]) -> [u8; 16]
 }
 
 pub fn advance_bank(levels: &mut [f32], held: &[u8], elapsed_seconds: f32, fade_ms: f32) -> Outcome
-    ensures { λ r. ⌜ ofOutcome r ≡ bankReply (now (levels .entry)) (now (held .entry)) «elapsed_seconds» «fade_ms» ⌝ }
-    ensures { λ r. ⌜ now (levels .exit) ≡ written (ofOutcome r) (advanced (now (held .entry)) «elapsed_seconds» «fade_ms» (now (levels .entry))) (now (levels .entry)) ⌝ }
+    ensures { λ r. ⌜ ofOutcome r
+        ≡ bankReply (now (levels .entry)) (now (held .entry)) «elapsed_seconds» «fade_ms» ⌝ }
+    ensures { λ r. ⌜ now (levels .exit) ≡ written (ofOutcome r)
+        (advanced (now (held .entry)) «elapsed_seconds» «fade_ms» (now (levels .entry)))
+        (now (levels .entry)) ⌝ }
 {
     if !limits::elapsed(elapsed_seconds) {
         return Outcome::Refused(2, 0);

@@ -1,4 +1,5 @@
-// The gains of a row of decibels: the quotients, and then the powers. A row that is level, as that of a curve with nothing drawn or of a field that is open, has its gain worked out once.
+// The gains of a row of decibels: the quotients, and then the powers. A row that is level, as that
+// of a curve with nothing drawn or of a field that is open, has its gain worked out once.
 ghost use mathlib.Core.Path.{_≡_};
 ghost use mathlib.Core.Bool.{true, false};
 ghost use Prim.Native.Nat.{ℕ, _≤_, _<_};
@@ -16,7 +17,8 @@ use slices::fill_first;
 
 fn decades(row: &mut [f32], count: usize)
     requires { ⌜ count ≤ length (now row) ⌝ }
-    ensures { λ _. ⌜ now (row .exit) ≡ mapRange (λ k db. div binary32 db DECIBELS-PER-DECADE) 0 count (now (row .entry)) ⌝ }
+    ensures { λ _. ⌜ now (row .exit)
+        ≡ mapRange (λ k db. div binary32 db DECIBELS-PER-DECADE) 0 count (now (row .entry)) ⌝ }
 {
     let mut k: usize = 0;
     while k < count {
@@ -28,7 +30,8 @@ fn decades(row: &mut [f32], count: usize)
 // Whether one of the first `count` entries is not the number at the start of the row.
 fn differs(row: &[f32], first: f32, count: usize) -> bool
     requires { ⌜ count ≤ length (now row) ⌝ }
-    ensures { λ r. ⌜ (r ≡ false → (k : ℕ) → k < count → T (eq (getD (now (row .entry)) k nan) first)) ⌝ }
+    ensures { λ r. ⌜ (r ≡ false → (k : ℕ) → k < count →
+        T (eq (getD (now (row .entry)) k nan) first)) ⌝ }
 {
     let mut other = false;
     let mut k: usize = 0;
@@ -42,7 +45,10 @@ fn differs(row: &[f32], first: f32, count: usize) -> bool
 // Whether the first `count` entries are one number. A drawn row is mostly told by its ends.
 fn is_level(row: &[f32], count: usize) -> bool
     requires { ⌜ count ≤ length (now row) ⌝ }
-    ensures { λ r. ⌜ (r ≡ true → (0 < count) × ((k : ℕ) → k < count → T (eq (getD (now (row .entry)) k nan) (getD (now (row .entry)) 0 nan)))) ⌝ }
+    ensures { λ r. ⌜ (r ≡ true →
+        (0 < count) ×
+        ((k : ℕ) → k < count →
+        T (eq (getD (now (row .entry)) k nan) (getD (now (row .entry)) 0 nan)))) ⌝ }
 {
     if count == 0 {
         return false;

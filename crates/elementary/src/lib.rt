@@ -1,4 +1,5 @@
-// The functions of one number by name, for what applies one of them to a whole list: the static library and the replay program.
+// The functions of one number by name, for what applies one of them to a whole list: the static
+// library and the replay program.
 ghost use mathlib.Core.Path.{_≡_};
 ghost use Rattle.lists.specs.Maps.{mapAt};
 ghost use Rattle.power.specs.Table.{powerTable};

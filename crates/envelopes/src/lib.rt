@@ -1,4 +1,5 @@
-// The envelopes of the 128 notes: each level moves toward 1 while its note is held and toward 0 while it is not.
+// The envelopes of the 128 notes: each level moves toward 1 while its note is held and toward 0
+// while it is not.
 ghost use mathlib.Core.Path.{_≡_};
 ghost use Prim.Native.Nat.{_+_, _-_, _*_, _/_, _%_, _^_, _<_};
 ghost use lib.Dec.{eqb};
@@ -21,7 +22,8 @@ const SILENCE: f32 = 1.0e-6;
 
 const MINUS_SILENCE: f32 = -1.0e-6;
 
-// The part of the way to its target that a level goes in the seconds elapsed, where a time of 0 or less is no time at all.
+// The part of the way to its target that a level goes in the seconds elapsed, where a time of 0 or
+// less is no time at all.
 pub fn smoothing_alpha(powers: &PowerTable, elapsed_seconds: f32, time_seconds: f32) -> f32
     requires { ⌜ now powers ≡ powerTable ⌝ }
     ensures { λ r. ⌜ r ≡ smoothingAlpha «elapsed_seconds» «time_seconds» ⌝ }
@@ -32,7 +34,8 @@ pub fn smoothing_alpha(powers: &PowerTable, elapsed_seconds: f32, time_seconds: 
     1.0 - power::decimal::exp(powers, -elapsed_seconds / time_seconds)
 }
 
-// A bit of a byte as the target of its note; bit 0 is the top one. The bit itself is the number: a choice by it would be a branch that no processor can foresee.
+// A bit of a byte as the target of its note; bit 0 is the top one. The bit itself is the number: a
+// choice by it would be a branch that no processor can foresee.
 fn target_of(byte: u8, bit: usize) -> f32
     requires { ⌜ bit < 8 ⌝ }
     ensures { λ r. ⌜ r ≡ targetOf (eqb (byte / 2 ^ (7 - bit) % 2) 1) ⌝ }
@@ -63,7 +66,9 @@ fn next_level(target: f32, alpha: f32, level: f32) -> f32
 // The targets of the eight notes of the byte at `index`.
 fn byte_targets(all: &mut [f32], byte: u8, index: usize)
     requires { ⌜ (length (now all) ≡ 128) × (index < 16) ⌝ }
-    ensures { λ _. ⌜ now (all .exit) ≡ mapRange (λ note x. targetOf (eqb (byte / 2 ^ (7 - note % 8) % 2) 1)) (8 * index) (8 * index + 8) (now (all .entry)) ⌝ }
+    ensures { λ _. ⌜ now (all .exit) ≡ mapRange
+        (λ note x. targetOf (eqb (byte / 2 ^ (7 - note % 8) % 2) 1)) (8 * index) (8 * index + 8)
+        (now (all .entry)) ⌝ }
 {
     let mut bit: usize = 0;
     while bit < 8 {
@@ -72,7 +77,8 @@ fn byte_targets(all: &mut [f32], byte: u8, index: usize)
     }
 }
 
-// The targets of all notes, read byte by byte before the loop over the levels, so that both loops are done for several notes at once.
+// The targets of all notes, read byte by byte before the loop over the levels, so that both loops
+// are done for several notes at once.
 fn targets(held: [u8; 16]) -> [f32; 128]
     ensures { λ r. ⌜ r ≡ tabulate 128 (λ note. targetOf (isHeld held note)) ⌝ }
 {
@@ -88,7 +94,9 @@ fn targets(held: [u8; 16]) -> [f32; 128]
 // The bank is changed in place, and not copied.
 fn step(bank: &mut [f32], targets: &[f32], alpha: f32)
     requires { ⌜ (length (now bank) ≡ 128) × (length (now targets) ≡ 128) ⌝ }
-    ensures { λ _. ⌜ now (bank .exit) ≡ mapAt (λ note level. levelToward (getD (now (targets .entry)) note nan) alpha level) (now (bank .entry)) ⌝ }
+    ensures { λ _. ⌜ now (bank .exit) ≡ mapAt
+        (λ note level. levelToward (getD (now (targets .entry)) note nan) alpha level)
+        (now (bank .entry)) ⌝ }
 {
     let mut note: usize = 0;
     while note < NOTES {

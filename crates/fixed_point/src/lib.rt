@@ -17,8 +17,9 @@ const LARGER: f64 = 276824064.0;
 
 // floor((x + 2^10) * 2^24), for an x from 2^-18 to 2^9 in size.
 //
-// Method. The sum with LARGE lies between 2^11 and 2^12, where the digits of an f64 end at 2^-41, and x has none below: so the sum is exact, the low digits of its pattern count
-// it from 2^11 on, and a shift cuts it down to steps of 2^-24.
+// Method. The sum with LARGE lies between 2^11 and 2^12, where the digits of an f64 end at 2^-41,
+// and x has none below: so the sum is exact, the low digits of its pattern count it from 2^11 on,
+// and a shift cuts it down to steps of 2^-24.
 pub fn near_steps(x: f32) -> u64
     requires { ⌜ T (within (neg nearby) nearby x) × T (le least (magnitude x)) ⌝ }
     ensures { λ r. ⌜ r ≡ moved (2 ^ 10) x ⌝ }
@@ -28,8 +29,10 @@ pub fn near_steps(x: f32) -> u64
 
 // floor((x + 2^23) * 2^24), for an x from -2^23 to 2^23.
 //
-// Method. The sum with LARGER lies between 2^28 and 2^29, where the digits of an f64 end at 2^-24. So it is rounded to whole steps, and the low digits of its pattern count them
-// from 2^28 on. Where it was rounded up the floor is one less: there the sum less LARGER, a difference that is exact, is above x.
+// Method. The sum with LARGER lies between 2^28 and 2^29, where the digits of an f64 end at 2^-24.
+// So it is rounded to whole steps, and the low digits of its pattern count them from 2^28 on. Where
+// it was rounded up the floor is one less: there the sum less LARGER, a difference that is exact,
+// is above x.
 pub fn far_steps(x: f32) -> u64
     requires { ⌜ T (within (neg farthest) farthest x) ⌝ }
     ensures { λ r. ⌜ r ≡ moved (2 ^ 23) x ⌝ }

@@ -1,4 +1,5 @@
-// A float and its bit pattern: the sign is the top bit, then 8 bits of exponent, then 23 digits below the leading one.
+// A float and its bit pattern: the sign is the top bit, then 8 bits of exponent, then 23 digits
+// below the leading one.
 ghost use mathlib.Core.Path.{_≡_};
 ghost use mathlib.Core.Bool.{false, not};
 ghost use Prim.Native.Nat.{_≤_, min};
@@ -24,7 +25,8 @@ pub fn of_bits(n: u32) -> f32
     }
 }
 
-// A float that is no NaN, taken apart: mant * 2^(expo - 149), negative where neg is true. An infinity counts as 2^128.
+// A float that is no NaN, taken apart: mant * 2^(expo - 149), negative where neg is true. An
+// infinity counts as 2^128.
 pub struct Parts {
     pub neg: bool,
     pub mant: u32,

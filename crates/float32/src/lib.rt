@@ -1,5 +1,5 @@
-// f32 beside the language's own operators, by topic. Every function is equal to a definition in specs/, and none but the inner ones of bits and remainder
-// asks anything of its arguments.
+// f32 beside the language's own operators, by topic. Every function is equal to a definition in
+// specs/, and none but the inner ones of bits and remainder asks anything of its arguments.
 pub mod bits;
 pub mod constants;
 pub mod order;

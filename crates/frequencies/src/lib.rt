@@ -31,7 +31,8 @@ fn hertz(bin: usize, bin_hz: f32) -> f32
 
 fn fill_hertz(table: &mut [f32], bin_hz: f32)
     requires { ⌜ length (now table) ≤ 2 ^ 24 ⌝ }
-    ensures { λ _. ⌜ now (table .exit) ≡ tabulate (length (now (table .entry))) (hertzOrZero «bin_hz») ⌝ }
+    ensures { λ _. ⌜ now (table .exit)
+        ≡ tabulate (length (now (table .entry))) (hertzOrZero «bin_hz») ⌝ }
 {
     let mut bin: usize = 0;
     while bin < table.len() {
@@ -40,10 +41,14 @@ fn fill_hertz(table: &mut [f32], bin_hz: f32)
     }
 }
 
-// The frequencies and then their logarithms, by the powers that `fill` lends; bin 0, whose frequency has none, has 0.
+// The frequencies and then their logarithms, by the powers that `fill` lends; bin 0, whose
+// frequency has none, has 0.
 fn fill_all(powers: &PowerTable, table: &mut [f32], sample_rate: f32, fft_size: usize)
-    requires { ⌜ (now powers ≡ powerTable) × («fft_size» ≤ 2 ^ 24) × (length (now table) ≤ 2 ^ 24) ⌝ }
-    ensures { λ _. ⌜ now (table .exit) ≡ tabulate (length (now (table .entry))) (prepared «sample_rate» «fft_size») ⌝ }
+    requires { ⌜ (now powers ≡ powerTable)
+        × («fft_size» ≤ 2 ^ 24)
+        × (length (now table) ≤ 2 ^ 24) ⌝ }
+    ensures { λ _. ⌜ now (table .exit)
+        ≡ tabulate (length (now (table .entry))) (prepared «sample_rate» «fft_size») ⌝ }
 {
     let spacing = bin_hz(sample_rate, fft_size);
     fill_hertz(table, spacing);
@@ -54,7 +59,8 @@ fn fill_all(powers: &PowerTable, table: &mut [f32], sample_rate: f32, fft_size: 
 // Fills the table, from bin 0 on.
 pub fn fill(table: &mut [f32], sample_rate: f32, fft_size: usize)
     requires { ⌜ («fft_size» ≤ 2 ^ 24) × (length (now table) ≤ 2 ^ 24) ⌝ }
-    ensures { λ _. ⌜ now (table .exit) ≡ tabulate (length (now (table .entry))) (prepared «sample_rate» «fft_size») ⌝ }
+    ensures { λ _. ⌜ now (table .exit)
+        ≡ tabulate (length (now (table .entry))) (prepared «sample_rate» «fft_size») ⌝ }
 {
     let powers = power_table();
     fill_all(&powers, table, sample_rate, fft_size);

@@ -1,6 +1,7 @@
 // The Gaussian table and the bell that is read from it.
 //
-// Method. The table holds exp(-i/128), which is exp(-square/2) at 64 places to a relative square of 1, up to 16. A straight line joins its entries.
+// Method. The table holds exp(-i/128), which is exp(-square/2) at 64 places to a relative square of
+// 1, up to 16. A straight line joins its entries.
 ghost use mathlib.Core.Path.{_≡_};
 ghost use Prim.Native.Nat.{_≤_};
 ghost use Rattle.gaussian.specs.Table.{gaussianTable};
@@ -41,8 +42,9 @@ pub struct Step {
     pub part: f32,
 }
 
-// The sum has no digits below 1, so its low bits count whole steps: one too many where it was rounded up, and there the place is below what the sum stands for. The count is then
-// lowered without a branch, so that a loop over places is done for several at once.
+// The sum has no digits below 1, so its low bits count whole steps: one too many where it was
+// rounded up, and there the place is below what the sum stands for. The count is then lowered
+// without a branch, so that a loop over places is done for several at once.
 pub fn step_of(place: f32) -> Step
     requires { ⌜ Place place ⌝ }
     ensures { λ r. ⌜ (r .index ≡ indexOf place) × (r .part ≡ partOf place) ⌝ }

@@ -54,8 +54,12 @@ pub fn build_mask_with_voices(
     voices: &[MaskVoice],
     config: MaskConfig,
 ) -> Outcome
-    ensures { λ r. ⌜ ofOutcome r ≡ voicesMaskReply (length (now (output .entry))) (now («manual_mask_db» .entry)) (now (voices .entry)) (length (now (voices .entry))) config ⌝ }
-    ensures { λ r. ⌜ now (output .exit) ≡ written (ofOutcome r) (maskOf (now («manual_mask_db» .entry)) config none side.mono (now (voices .entry))) (now (output .entry)) ⌝ }
+    ensures { λ r. ⌜ ofOutcome r ≡ voicesMaskReply (length (now (output .entry)))
+        (now («manual_mask_db» .entry)) (now (voices .entry))
+        (length (now (voices .entry))) config ⌝ }
+    ensures { λ r. ⌜ now (output .exit) ≡ written (ofOutcome r)
+        (maskOf (now («manual_mask_db» .entry)) config none side.mono (now (voices .entry)))
+        (now (output .entry)) ⌝ }
 {
     mask_calls::build_mask_with_voices(output, manual_mask_db, gather(voices), voices.len(), config)
 }
@@ -68,8 +72,12 @@ pub fn build_mask_with_voices_precomputed(
     config: MaskConfig,
     table: &[f32],
 ) -> Outcome
-    ensures { λ r. ⌜ ofOutcome r ≡ tabledMaskReply (length (now (output .entry))) (now («manual_mask_db» .entry)) (now (voices .entry)) (length (now (voices .entry))) config (now (table .entry)) ⌝ }
-    ensures { λ r. ⌜ now (output .exit) ≡ written (ofOutcome r) (maskOf (now («manual_mask_db» .entry)) config (lent (now (table .entry))) side.mono (now (voices .entry))) (now (output .entry)) ⌝ }
+    ensures { λ r. ⌜ ofOutcome r ≡ tabledMaskReply (length (now (output .entry)))
+        (now («manual_mask_db» .entry)) (now (voices .entry)) (length (now (voices .entry))) config
+        (now (table .entry)) ⌝ }
+    ensures { λ r. ⌜ now (output .exit) ≡ written (ofOutcome r) (maskOf
+        (now («manual_mask_db» .entry)) config (lent (now (table .entry))) side.mono
+        (now (voices .entry))) (now (output .entry)) ⌝ }
 {
     mask_calls::build_mask_with_voices_precomputed(
         output,
@@ -90,9 +98,15 @@ pub fn build_stereo_masks_with_voices_precomputed(
     config: MaskConfig,
     table: &[f32],
 ) -> Outcome
-    ensures { λ r. ⌜ ofOutcome r ≡ stereoReply (length (now (left .entry))) (length (now (right .entry))) (now («manual_mask_db» .entry)) (now (voices .entry)) (length (now (voices .entry))) config (now (table .entry)) ⌝ }
-    ensures { λ r. ⌜ now (left .exit) ≡ written (ofOutcome r) (maskOf (now («manual_mask_db» .entry)) config (lent (now (table .entry))) side.left (now (voices .entry))) (now (left .entry)) ⌝ }
-    ensures { λ r. ⌜ now (right .exit) ≡ written (ofOutcome r) (maskOf (now («manual_mask_db» .entry)) config (lent (now (table .entry))) side.right (now (voices .entry))) (now (right .entry)) ⌝ }
+    ensures { λ r. ⌜ ofOutcome r ≡ stereoReply (length (now (left .entry)))
+        (length (now (right .entry))) (now («manual_mask_db» .entry)) (now (voices .entry))
+        (length (now (voices .entry))) config (now (table .entry)) ⌝ }
+    ensures { λ r. ⌜ now (left .exit) ≡ written (ofOutcome r) (maskOf
+        (now («manual_mask_db» .entry)) config (lent (now (table .entry))) side.left
+        (now (voices .entry))) (now (left .entry)) ⌝ }
+    ensures { λ r. ⌜ now (right .exit) ≡ written (ofOutcome r) (maskOf
+        (now («manual_mask_db» .entry)) config (lent (now (table .entry))) side.right
+        (now (voices .entry))) (now (right .entry)) ⌝ }
 {
     mask_calls::build_stereo_masks_with_voices_precomputed(
         left,
@@ -105,7 +119,8 @@ pub fn build_stereo_masks_with_voices_precomputed(
     )
 }
 
-// The same by the frequency table of a prepared spectrum, which begins after the four windows of its block.
+// The same by the frequency table of a prepared spectrum, which begins after the four windows of
+// its block.
 pub fn build_stereo_masks_with_prepared_spectrum(
     left: &mut [f32],
     right: &mut [f32],
@@ -114,9 +129,18 @@ pub fn build_stereo_masks_with_prepared_spectrum(
     config: MaskConfig,
     block: &[f32],
 ) -> Outcome
-    ensures { λ r. ⌜ ofOutcome r ≡ stereoReply (length (now (left .entry))) (length (now (right .entry))) (now («manual_mask_db» .entry)) (now (voices .entry)) (length (now (voices .entry))) config (drop (4 * config .«fft_size») (now (block .entry))) ⌝ }
-    ensures { λ r. ⌜ now (left .exit) ≡ written (ofOutcome r) (maskOf (now («manual_mask_db» .entry)) config (lent (drop (4 * config .«fft_size») (now (block .entry)))) side.left (now (voices .entry))) (now (left .entry)) ⌝ }
-    ensures { λ r. ⌜ now (right .exit) ≡ written (ofOutcome r) (maskOf (now («manual_mask_db» .entry)) config (lent (drop (4 * config .«fft_size») (now (block .entry)))) side.right (now (voices .entry))) (now (right .entry)) ⌝ }
+    ensures { λ r. ⌜ ofOutcome r ≡ stereoReply (length (now (left .entry)))
+        (length (now (right .entry))) (now («manual_mask_db» .entry)) (now (voices .entry))
+        (length (now (voices .entry))) config
+        (drop (4 * config .«fft_size») (now (block .entry))) ⌝ }
+    ensures { λ r. ⌜ now (left .exit) ≡ written (ofOutcome r) (maskOf
+        (now («manual_mask_db» .entry)) config
+        (lent (drop (4 * config .«fft_size») (now (block .entry)))) side.left (now (voices .entry)))
+        (now (left .entry)) ⌝ }
+    ensures { λ r. ⌜ now (right .exit) ≡ written (ofOutcome r) (maskOf
+        (now («manual_mask_db» .entry)) config
+        (lent (drop (4 * config .«fft_size») (now (block .entry)))) side.right
+        (now (voices .entry))) (now (right .entry)) ⌝ }
 {
     mask_calls::build_stereo_masks_with_prepared_spectrum(
         left,

@@ -1,4 +1,5 @@
-// Document 01's limits, ends included: one test for each, false of NaN. A limit's two ends are constants.
+// Document 01's limits, ends included: one test for each, false of NaN. A limit's two ends are
+// constants.
 ghost use mathlib.Core.Path.{_≡_};
 ghost use Rattle.limits.specs.Limits.{decibels, frequency, noteDepth, width, rolloff, motionDepth, motionSize, elapsed, fade, rate, level, tuning, tableEntry, gain, windowValue, note, partials, bin, size, overlap};
 use float32::order::in_range;

@@ -35,7 +35,8 @@ fn pair_in_range(x: f32, y: f32, lo: f32, hi: f32) -> bool
 // Of two slices of equal length the lowest place at which either is outside, or their length.
 pub fn first_pair_outside(xs: &[f32], ys: &[f32], lo: f32, hi: f32) -> usize
     requires { ⌜ length (now xs) ≡ length (now ys) ⌝ }
-    ensures { λ r. ⌜ r ≡ firstBad (λ k x. within lo hi x && within lo hi (getD (now (ys .entry)) k nan)) (now (xs .entry)) ⌝ }
+    ensures { λ r. ⌜ r ≡ firstBad
+        (λ k x. within lo hi x && within lo hi (getD (now (ys .entry)) k nan)) (now (xs .entry)) ⌝ }
 {
     let mut i: usize = 0;
     while i < xs.len() {

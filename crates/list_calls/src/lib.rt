@@ -1,5 +1,6 @@
-// The open calls that fill or move a list: windows, gain lists, tables and the bank of note levels. Each tests what it is given, in the order of document 01's numbers, and then makes one call of the
-// core. `spectral_dsp` passes them on under the Rust's paths.
+// The open calls that fill or move a list: windows, gain lists, tables and the bank of note levels.
+// Each tests what it is given, in the order of document 01's numbers, and then makes one call of
+// the core. `spectral_dsp` passes them on under the Rust's paths.
 ghost use mathlib.Core.Path.{_≡_};
 ghost use mathlib.Core.List.{[]};
 ghost use Prim.Native.Nat.{_≤_};
@@ -48,9 +49,12 @@ pub fn build_dual_synthesis_window(
     synthesis: &mut [f32],
     overlap: usize,
 ) -> Outcome
-    ensures { λ r. ⌜ ofOutcome r ≡ dualReply (now (analysis .entry)) (length (now (synthesis .entry))) overlap ⌝ }
-    ensures { λ r. ⌜ now (synthesis .exit) ≡ written (ofOutcome r) (dualOf (now (analysis .entry)) overlap) (now (synthesis .entry)) ⌝ }
-    ensures { λ r. ⌜ (ofOutcome r ≡ done [] → IsDual (now (analysis .entry)) (now (synthesis .exit)) overlap) ⌝ }
+    ensures { λ r. ⌜ ofOutcome r
+        ≡ dualReply (now (analysis .entry)) (length (now (synthesis .entry))) overlap ⌝ }
+    ensures { λ r. ⌜ now (synthesis .exit) ≡ written (ofOutcome r)
+        (dualOf (now (analysis .entry)) overlap) (now (synthesis .entry)) ⌝ }
+    ensures { λ r. ⌜ (ofOutcome r ≡ done [] →
+        IsDual (now (analysis .entry)) (now (synthesis .exit)) overlap) ⌝ }
 {
     let length = analysis.len();
     if !window_length(length) {
@@ -72,8 +76,10 @@ pub fn build_dual_synthesis_window(
 
 // Smooth adjacent gain bins in decibels, retaining the edge bins.
 pub fn soften_spectral_edges(source: &[f32], output: &mut [f32]) -> Outcome
-    ensures { λ r. ⌜ ofOutcome r ≡ softenReply (now (source .entry)) (length (now (output .entry))) ⌝ }
-    ensures { λ r. ⌜ now (output .exit) ≡ written (ofOutcome r) (softenedOf (now (source .entry))) (now (output .entry)) ⌝ }
+    ensures { λ r. ⌜ ofOutcome r
+        ≡ softenReply (now (source .entry)) (length (now (output .entry))) ⌝ }
+    ensures { λ r. ⌜ now (output .exit)
+        ≡ written (ofOutcome r) (softenedOf (now (source .entry))) (now (output .entry)) ⌝ }
 {
     let length = source.len();
     if !gains_length(length) {
@@ -92,8 +98,11 @@ pub fn soften_spectral_edges(source: &[f32], output: &mut [f32]) -> Outcome
 
 // Approach a target gain mask with a 30 ms time constant.
 pub fn smooth_mask_in_db(current: &mut [f32], target: &[f32], elapsed_seconds: f32) -> Outcome
-    ensures { λ r. ⌜ ofOutcome r ≡ smoothReply (now (current .entry)) (now (target .entry)) «elapsed_seconds» ⌝ }
-    ensures { λ r. ⌜ now (current .exit) ≡ written (ofOutcome r) (smoothedOf (now (current .entry)) (now (target .entry)) «elapsed_seconds») (now (current .entry)) ⌝ }
+    ensures { λ r. ⌜ ofOutcome r
+        ≡ smoothReply (now (current .entry)) (now (target .entry)) «elapsed_seconds» ⌝ }
+    ensures { λ r. ⌜ now (current .exit) ≡ written (ofOutcome r)
+        (smoothedOf (now (current .entry)) (now (target .entry)) «elapsed_seconds»)
+        (now (current .entry)) ⌝ }
 {
     if !limits::elapsed(elapsed_seconds) {
         return Outcome::Refused(2, 0);
@@ -113,11 +122,13 @@ pub fn smooth_mask_in_db(current: &mut [f32], target: &[f32], elapsed_seconds: f
     Outcome::Done
 }
 
-// Prepared analysis and synthesis windows and frequency lookup for one size, in a block that the caller holds and lends.
+// Prepared analysis and synthesis windows and frequency lookup for one size, in a block that the
+// caller holds and lends.
 pub struct PreparedSpectrum {}
 
 impl PreparedSpectrum {
-    // Fills the block: window, its dual, smooth window, its dual, logarithms. Answers both coherent gains.
+    // Fills the block: window, its dual, smooth window, its dual, logarithms. Answers both coherent
+    // gains.
     pub fn new(
         sample_rate: f32,
         window: &[f32],
@@ -125,8 +136,11 @@ impl PreparedSpectrum {
         overlap: usize,
         block: &mut [f32],
     ) -> Prepared
-        ensures { λ r. ⌜ ofPrepared r ≡ preparedReply «sample_rate» (now (window .entry)) (now («smooth_analysis_window» .entry)) overlap (length (now (block .entry))) ⌝ }
-        ensures { λ r. ⌜ now (block .exit) ≡ written (ofPrepared r) (blockOf «sample_rate» (now (window .entry)) (now («smooth_analysis_window» .entry)) overlap) (now (block .entry)) ⌝ }
+        ensures { λ r. ⌜ ofPrepared r ≡ preparedReply «sample_rate» (now (window .entry))
+            (now («smooth_analysis_window» .entry)) overlap (length (now (block .entry))) ⌝ }
+        ensures { λ r. ⌜ now (block .exit) ≡ written (ofPrepared r) (blockOf «sample_rate»
+            (now (window .entry)) (now («smooth_analysis_window» .entry)) overlap)
+            (now (block .entry)) ⌝ }
     {
         let size = window.len();
         if !limits::size(size) {
@@ -167,8 +181,11 @@ pub struct MaskWorkspace {}
 impl MaskWorkspace {
     // Fills the table after a change of the sample rate or of the size.
     pub fn prepare(table: &mut [f32], sample_rate: f32, fft_size: usize) -> Outcome
-        ensures { λ r. ⌜ ofOutcome r ≡ prepareReply (length (now (table .entry))) «sample_rate» «fft_size» ⌝ }
-        ensures { λ r. ⌜ now (table .exit) ≡ written (ofOutcome r) (tabulate (length (now (table .entry))) (prepared «sample_rate» «fft_size»)) (now (table .entry)) ⌝ }
+        ensures { λ r. ⌜ ofOutcome r
+            ≡ prepareReply (length (now (table .entry))) «sample_rate» «fft_size» ⌝ }
+        ensures { λ r. ⌜ now (table .exit) ≡ written (ofOutcome r)
+            (tabulate (length (now (table .entry))) (prepared «sample_rate» «fft_size»))
+            (now (table .entry)) ⌝ }
     {
         if !limits::size(fft_size) {
             return Outcome::Refused(1, 0);
@@ -184,7 +201,8 @@ impl MaskWorkspace {
     }
 }
 
-// The levels of the 128 notes after one frame: 16 bytes say which notes are held, note 0 by the top bit of byte 0.
+// The levels of the 128 notes after one frame: 16 bytes say which notes are held, note 0 by the top
+// bit of byte 0.
 pub fn advance_note_envelopes(
     levels: [f32; 128],
     held: [u8; 16],

@@ -1,7 +1,10 @@
-// The bounds under which lobes stay over a whole block of bins: where a bound is low enough, the block's bins need not be worked out.
+// The bounds under which lobes stay over a whole block of bins: where a bound is low enough, the
+// block's bins need not be worked out.
 //
-// Method. A bin whose logarithm lies from `low` to `high` is no nearer to a centre than the nearer end, or than 0 where the centre lies between them. The Gaussian table never rises, and the line
-// between two of its entries is never above the left one: so the entry at the least distance bounds the bell at every bin. Over the partials of a voice there are two short loops, and the first,
+// Method. A bin whose logarithm lies from `low` to `high` is no nearer to a centre than the nearer
+// end, or than 0 where the centre lies between them. The Gaussian table never rises, and the line
+// between two of its entries is never above the left one: so the entry at the least distance bounds
+// the bell at every bin. Over the partials of a voice there are two short loops, and the first,
 // without a table lookup, is done for several at once.
 ghost use mathlib.Core.Path.{_≡_};
 ghost use mathlib.Core.Bool.{cond};
@@ -42,8 +45,12 @@ fn nearest_places(
     high: f32,
     count: usize,
 )
-    requires { ⌜ (count ≤ length (now places)) × (count ≤ length (now centers)) × (count ≤ length (now peaks)) ⌝ }
-    ensures { λ _. ⌜ now (places .exit) ≡ mapRange (λ p held. nearestPlace width (getD (now (centers .entry)) p nan) (getD (now (peaks .entry)) p nan) low high) 0 count (now (places .entry)) ⌝ }
+    requires { ⌜ (count ≤ length (now places))
+        × (count ≤ length (now centers))
+        × (count ≤ length (now peaks)) ⌝ }
+    ensures { λ _. ⌜ now (places .exit) ≡ mapRange (λ p held. nearestPlace width
+        (getD (now (centers .entry)) p nan) (getD (now (peaks .entry)) p nan) low high) 0 count
+        (now (places .entry)) ⌝ }
 {
     let mut p: usize = 0;
     while p < count {
@@ -63,8 +70,12 @@ fn bound_at(gaussians: &GaussianTable, strength: f32, place: f32) -> f32
 
 // From each place the bound there.
 fn bounds_at_places(bounds: &mut [f32], gaussians: &GaussianTable, strengths: &[f32], count: usize)
-    requires { ⌜ (now gaussians ≡ gaussianTable) × (count ≤ length (now bounds)) × (count ≤ length (now strengths)) ⌝ }
-    ensures { λ _. ⌜ now (bounds .exit) ≡ mapRange (λ p place. boundAt (getD (now (strengths .entry)) p nan) place) 0 count (now (bounds .entry)) ⌝ }
+    requires { ⌜ (now gaussians ≡ gaussianTable)
+        × (count ≤ length (now bounds))
+        × (count ≤ length (now strengths)) ⌝ }
+    ensures { λ _. ⌜ now (bounds .exit) ≡ mapRange
+        (λ p place. boundAt (getD (now (strengths .entry)) p nan) place) 0 count
+        (now (bounds .entry)) ⌝ }
 {
     let mut p: usize = 0;
     while p < count {
@@ -73,7 +84,8 @@ fn bounds_at_places(bounds: &mut [f32], gaussians: &GaussianTable, strengths: &[
     }
 }
 
-// The bounds of the first `count` lobes, whose centres, strengths and peaks stand in columns, over a block of bins.
+// The bounds of the first `count` lobes, whose centres, strengths and peaks stand in columns, over
+// a block of bins.
 pub fn bounds_of(
     bounds: &mut [f32],
     gaussians: &GaussianTable,
@@ -85,8 +97,14 @@ pub fn bounds_of(
     high: f32,
     count: usize,
 )
-    requires { ⌜ (now gaussians ≡ gaussianTable) × (count ≤ length (now bounds)) × (count ≤ length (now centers)) × (count ≤ length (now strengths)) × (count ≤ length (now peaks)) ⌝ }
-    ensures { λ _. ⌜ now (bounds .exit) ≡ mapRange (λ p held. boundOf width (getD (now (strengths .entry)) p nan) (getD (now (centers .entry)) p nan) (getD (now (peaks .entry)) p nan) low high) 0 count (now (bounds .entry)) ⌝ }
+    requires { ⌜ (now gaussians ≡ gaussianTable)
+        × (count ≤ length (now bounds))
+        × (count ≤ length (now centers))
+        × (count ≤ length (now strengths))
+        × (count ≤ length (now peaks)) ⌝ }
+    ensures { λ _. ⌜ now (bounds .exit) ≡ mapRange (λ p held. boundOf width
+        (getD (now (strengths .entry)) p nan) (getD (now (centers .entry)) p nan)
+        (getD (now (peaks .entry)) p nan) low high) 0 count (now (bounds .entry)) ⌝ }
 {
     nearest_places(bounds, centers, peaks, width, low, high, count);
     bounds_at_places(bounds, gaussians, strengths, count);
@@ -110,7 +128,8 @@ fn greater_at(first: f32, second: f32, first_place: usize, second_place: usize) 
     }
 }
 
-// The place of the greatest of the first `count` numbers. The greatest so far is kept beside its place, so that no turn waits for it to be read.
+// The place of the greatest of the first `count` numbers. The greatest so far is kept beside its
+// place, so that no turn waits for it to be read.
 pub fn greatest_at(bounds: &[f32], count: usize) -> usize
     requires { ⌜ (0 < count) × (count ≤ length (now bounds)) × (Numbers (now bounds) count) ⌝ }
     ensures { λ r. ⌜ GreatestAt (now (bounds .entry)) count r ⌝ }

@@ -14,10 +14,13 @@ fn joined(held: f32, opening: f32, gain: f32) -> f32
     float32::order::max(held, opening * gain)
 }
 
-// The openings of a chunk's bins joined to what the bins hold, as far as there are bins: so the same call serves a side that is not there.
+// The openings of a chunk's bins joined to what the bins hold, as far as there are bins: so the
+// same call serves a side that is not there.
 pub fn join(out: &mut [f32], openings: &[f32], gain: f32, start: usize, end: usize)
     requires { ⌜ end ≤ start + length (now openings) ⌝ }
-    ensures { λ _. ⌜ now (out .exit) ≡ mapRange (λ bin held. joined gain held (getD (now (openings .entry)) (bin - start) nan)) start end (now (out .entry)) ⌝ }
+    ensures { λ _. ⌜ now (out .exit) ≡ mapRange
+        (λ bin held. joined gain held (getD (now (openings .entry)) (bin - start) nan)) start end
+        (now (out .entry)) ⌝ }
 {
     let stop = lesser(end, out.len());
     let mut bin = start;

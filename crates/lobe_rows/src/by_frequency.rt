@@ -1,6 +1,7 @@
 // What a lobe opens at a few bins in a row, by the bins' own frequencies, where no table was lent.
 //
-// Method. As by a table, one short loop after the other over the same few numbers: the bins' frequencies over the lobe's centre, their octaves, the exponents of the bells there, the bells,
+// Method. As by a table, one short loop after the other over the same few numbers: the bins'
+// frequencies over the lobe's centre, their octaves, the exponents of the bells there, the bells,
 // and what the lobe opens under them.
 ghost use mathlib.Core.Path.{_≡_};
 ghost use Prim.Native.Nat.{_+_, _^_, _≤_};
@@ -26,7 +27,9 @@ const MINUS_HALF: f32 = -0.5;
 // A bell is e to the power of minus half the relative square.
 fn exponents(chunk: &mut [f32], count: usize, width: f32, peak_squared: f32)
     requires { ⌜ count ≤ length (now chunk) ⌝ }
-    ensures { λ _. ⌜ now (chunk .exit) ≡ mapRange (λ k octaves. mul binary32 MINUS-HALF (relativeTo «peak_squared» (inWidths width octaves))) 0 count (now (chunk .entry)) ⌝ }
+    ensures { λ _. ⌜ now (chunk .exit) ≡ mapRange
+        (λ k octaves. mul binary32 MINUS-HALF (relativeTo «peak_squared» (inWidths width octaves)))
+        0 count (now (chunk .entry)) ⌝ }
 {
     let mut k: usize = 0;
     while k < count {
@@ -43,8 +46,11 @@ pub fn openings_by_frequency(
     start: usize,
     count: usize,
 )
-    requires { ⌜ (now powers ≡ powerTable) × (count ≤ length (now chunk)) × (start + count ≤ 2 ^ 24 + 1) ⌝ }
-    ensures { λ _. ⌜ now (chunk .exit) ≡ mapRange (λ k held. opening grid none lobe (start + k)) 0 count (now (chunk .entry)) ⌝ }
+    requires { ⌜ (now powers ≡ powerTable)
+        × (count ≤ length (now chunk))
+        × (start + count ≤ 2 ^ 24 + 1) ⌝ }
+    ensures { λ _. ⌜ now (chunk .exit)
+        ≡ mapRange (λ k held. opening grid none lobe (start + k)) 0 count (now (chunk .entry)) ⌝ }
 {
     ratios(chunk, grid.bin_hz, lobe.center, start, count);
     log2_row(chunk, powers, count);

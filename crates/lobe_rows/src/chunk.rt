@@ -1,7 +1,10 @@
-// What a lobe opens at a few bins in a row, as many as there is room for in a chunk that the caller lends.
+// What a lobe opens at a few bins in a row, as many as there is room for in a chunk that the caller
+// lends.
 //
-// Method. One short loop after the other over the same few numbers: the places of the bins in the Gaussian table, the steps that these lie in, the bells there, and what the lobe opens
-// under them. A loop without a table lookup is done for several bins at once, and both sides of a stereo mask are joined from one row.
+// Method. One short loop after the other over the same few numbers: the places of the bins in the
+// Gaussian table, the steps that these lie in, the bells there, and what the lobe opens under them.
+// A loop without a table lookup is done for several bins at once, and both sides of a stereo mask
+// are joined from one row.
 ghost use mathlib.Core.Path.{_≡_};
 ghost use mathlib.Core.Bool.{true};
 ghost use Prim.Native.Nat.{ℕ, _+_, _^_, _≤_, _<_};
@@ -53,7 +56,9 @@ fn places(
     peak_squared: f32,
 )
     requires { ⌜ (count ≤ length (now chunk)) × (start + count ≤ length (now table)) ⌝ }
-    ensures { λ _. ⌜ now (chunk .exit) ≡ mapRange (λ k held. placeOf «peak_squared» (inWidths width (sub binary32 (getD (now (table .entry)) (start + k) nan) «center_log2»))) 0 count (now (chunk .entry)) ⌝ }
+    ensures { λ _. ⌜ now (chunk .exit) ≡ mapRange (λ k held. placeOf «peak_squared»
+        (inWidths width (sub binary32 (getD (now (table .entry)) (start + k) nan) «center_log2»))) 0
+        count (now (chunk .entry)) ⌝ }
 {
     let mut k: usize = 0;
     while k < count {
@@ -65,10 +70,16 @@ fn places(
     }
 }
 
-// Each place as the entry on its left and the part of the step past it, which takes the place's room.
+// Each place as the entry on its left and the part of the step past it, which takes the place's
+// room.
 fn steps(chunk: &mut [f32], indexes: &mut [u32], count: usize)
-    requires { ⌜ (count ≤ length (now chunk)) × (count ≤ length (now indexes)) × ((k : ℕ) → k < count → Place (getD (now chunk) k nan)) ⌝ }
-    ensures { λ _. ⌜ (now (chunk .exit) ≡ mapRange (λ k place. partOf place) 0 count (now (chunk .entry))) × (now (indexes .exit) ≡ mapRange (λ k held. indexOf (getD (now (chunk .entry)) k nan)) 0 count (now (indexes .entry))) ⌝ }
+    requires { ⌜ (count ≤ length (now chunk))
+        × (count ≤ length (now indexes))
+        × ((k : ℕ) → k < count → Place (getD (now chunk) k nan)) ⌝ }
+    ensures { λ _. ⌜ (now (chunk .exit)
+        ≡ mapRange (λ k place. partOf place) 0 count (now (chunk .entry)))
+        × (now (indexes .exit) ≡ mapRange (λ k held. indexOf (getD (now (chunk .entry)) k nan)) 0
+        count (now (indexes .entry))) ⌝ }
 {
     let mut k: usize = 0;
     while k < count {
@@ -81,8 +92,12 @@ fn steps(chunk: &mut [f32], indexes: &mut [u32], count: usize)
 
 // The bell of each step.
 fn lines(chunk: &mut [f32], indexes: &[u32], gaussians: &GaussianTable, count: usize)
-    requires { ⌜ (now gaussians ≡ gaussianTable) × (count ≤ length (now chunk)) × (count ≤ length (now indexes)) × ((k : ℕ) → k < count → getD (now indexes) k 0 ≤ 1024) ⌝ }
-    ensures { λ _. ⌜ now (chunk .exit) ≡ mapRange (λ k part. line (getD (now (indexes .entry)) k 0) part) 0 count (now (chunk .entry)) ⌝ }
+    requires { ⌜ (now gaussians ≡ gaussianTable)
+        × (count ≤ length (now chunk))
+        × (count ≤ length (now indexes))
+        × ((k : ℕ) → k < count → getD (now indexes) k 0 ≤ 1024) ⌝ }
+    ensures { λ _. ⌜ now (chunk .exit) ≡ mapRange
+        (λ k part. line (getD (now (indexes .entry)) k 0) part) 0 count (now (chunk .entry)) ⌝ }
 {
     let mut k: usize = 0;
     while k < count {
@@ -103,8 +118,13 @@ pub fn bells(
     width: f32,
     peak_squared: f32,
 )
-    requires { ⌜ (now gaussians ≡ gaussianTable) × (count ≤ length (now chunk)) × (count ≤ length (now indexes)) × (start + count ≤ length (now table)) ⌝ }
-    ensures { λ _. ⌜ now (chunk .exit) ≡ mapRange (λ k held. between (placeOf «peak_squared» (inWidths width (sub binary32 (getD (now (table .entry)) (start + k) nan) «center_log2»)))) 0 count (now (chunk .entry)) ⌝ }
+    requires { ⌜ (now gaussians ≡ gaussianTable)
+        × (count ≤ length (now chunk))
+        × (count ≤ length (now indexes))
+        × (start + count ≤ length (now table)) ⌝ }
+    ensures { λ _. ⌜ now (chunk .exit) ≡ mapRange (λ k held. between (placeOf «peak_squared»
+        (inWidths width (sub binary32 (getD (now (table .entry)) (start + k) nan) «center_log2»))))
+        0 count (now (chunk .entry)) ⌝ }
 {
     places(chunk, table, start, count, center_log2, width, peak_squared);
     steps(chunk, indexes, count);
@@ -114,7 +134,8 @@ pub fn bells(
 // What a lobe of a strength opens under each bell.
 pub(crate) fn openings_of_bells(chunk: &mut [f32], count: usize, strength: f32)
     requires { ⌜ count ≤ length (now chunk) ⌝ }
-    ensures { λ _. ⌜ now (chunk .exit) ≡ mapRange (λ k bell. openedBy strength bell) 0 count (now (chunk .entry)) ⌝ }
+    ensures { λ _. ⌜ now (chunk .exit)
+        ≡ mapRange (λ k bell. openedBy strength bell) 0 count (now (chunk .entry)) ⌝ }
 {
     let mut k: usize = 0;
     while k < count {
@@ -134,8 +155,14 @@ pub fn openings_by_table(
     start: usize,
     count: usize,
 )
-    requires { ⌜ (now gaussians ≡ gaussianTable) × (lobe .«center_log2» ≡ L2 (lobe .center)) × (count ≤ length (now chunk)) × (count ≤ length (now indexes)) × (start + count ≤ length (now table)) ⌝ }
-    ensures { λ _. ⌜ now (chunk .exit) ≡ mapRange (λ k held. opening grid (lent (now (table .entry))) lobe (start + k)) 0 count (now (chunk .entry)) ⌝ }
+    requires { ⌜ (now gaussians ≡ gaussianTable)
+        × (lobe .«center_log2» ≡ L2 (lobe .center))
+        × (count ≤ length (now chunk))
+        × (count ≤ length (now indexes))
+        × (start + count ≤ length (now table)) ⌝ }
+    ensures { λ _. ⌜ now (chunk .exit) ≡ mapRange
+        (λ k held. opening grid (lent (now (table .entry))) lobe (start + k)) 0 count
+        (now (chunk .entry)) ⌝ }
 {
     bells(
         chunk,
@@ -164,8 +191,16 @@ pub fn openings(
     start: usize,
     count: usize,
 )
-    requires { ⌜ (now powers ≡ powerTable) × (now gaussians ≡ gaussianTable) × (lobe .«center_log2» ≡ L2 (lobe .center)) × (count ≤ length (now chunk)) × (count ≤ length (now indexes)) × (start + count ≤ 2 ^ 24 + 1) × (tabled ≡ true → start + count ≤ length (now table)) ⌝ }
-    ensures { λ _. ⌜ now (chunk .exit) ≡ mapRange (λ k held. opening grid (logsOf tabled (now (table .entry))) lobe (start + k)) 0 count (now (chunk .entry)) ⌝ }
+    requires { ⌜ (now powers ≡ powerTable)
+        × (now gaussians ≡ gaussianTable)
+        × (lobe .«center_log2» ≡ L2 (lobe .center))
+        × (count ≤ length (now chunk))
+        × (count ≤ length (now indexes))
+        × (start + count ≤ 2 ^ 24 + 1)
+        × (tabled ≡ true → start + count ≤ length (now table)) ⌝ }
+    ensures { λ _. ⌜ now (chunk .exit) ≡ mapRange
+        (λ k held. opening grid (logsOf tabled (now (table .entry))) lobe (start + k)) 0 count
+        (now (chunk .entry)) ⌝ }
 {
     if tabled {
         openings_by_table(chunk, indexes, gaussians, table, grid, lobe, start, count);

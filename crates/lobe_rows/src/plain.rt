@@ -1,4 +1,5 @@
-// The plain way: lobes one after the other. What a lobe opens is worked out once, and joined to each side by that side's gain. Of a mono mask the second side has bin 0 alone, which no lobe
+// The plain way: lobes one after the other. What a lobe opens is worked out once, and joined to
+// each side by that side's gain. Of a mono mask the second side has bin 0 alone, which no lobe
 // reaches.
 ghost use mathlib.Core.Path.{_≡_};
 ghost use mathlib.Core.Bool.{true};
@@ -33,8 +34,18 @@ fn raise_lobe(
     lobe: Lobe,
     gains: Gains,
 )
-    requires { ⌜ (now powers ≡ powerTable) × (now gaussians ≡ gaussianTable) × (0 < length (now chunk)) × (length (now chunk) ≤ length (now indexes)) × (lobe .«center_log2» ≡ L2 (lobe .center)) × (lobe .«last_bin» ≤ 2 ^ 24) × (tabled ≡ true → lobe .«last_bin» < length (now table)) ⌝ }
-    ensures { λ _. ⌜ (now (first .exit) ≡ mapAt (λ bin held. lobeJoined grid (logsOf tabled (now (table .entry))) (gains .first) bin held lobe) (now (first .entry))) × (now (second .exit) ≡ mapAt (λ bin held. lobeJoined grid (logsOf tabled (now (table .entry))) (gains .second) bin held lobe) (now (second .entry))) ⌝ }
+    requires { ⌜ (now powers ≡ powerTable)
+        × (now gaussians ≡ gaussianTable)
+        × (0 < length (now chunk))
+        × (length (now chunk) ≤ length (now indexes))
+        × (lobe .«center_log2» ≡ L2 (lobe .center))
+        × (lobe .«last_bin» ≤ 2 ^ 24)
+        × (tabled ≡ true → lobe .«last_bin» < length (now table)) ⌝ }
+    ensures { λ _. ⌜ (now (first .exit) ≡ mapAt (λ bin held. lobeJoined grid
+        (logsOf tabled (now (table .entry))) (gains .first) bin held lobe) (now (first .entry)))
+        × (now (second .exit) ≡ mapAt (λ bin held. lobeJoined grid
+        (logsOf tabled (now (table .entry))) (gains .second) bin held lobe)
+        (now (second .entry))) ⌝ }
 {
     let end = lobe.last_bin + 1;
     let mut start = lobe.first_bin;
@@ -74,8 +85,22 @@ pub fn raise_lobes(
     count: usize,
     gains: Gains,
 )
-    requires { ⌜ (now powers ≡ powerTable) × (now gaussians ≡ gaussianTable) × (0 < length (now chunk)) × (length (now chunk) ≤ length (now indexes)) × (count ≤ 24) × (grid .«last_bin» ≤ 2 ^ 24) × (tabled ≡ true → grid .«last_bin» < length (now table)) × ((p : ℕ) → p < count → (getD lobes p noLobe .«center_log2» ≡ L2 (getD lobes p noLobe .center)) × (getD lobes p noLobe .«last_bin» ≤ grid .«last_bin»)) ⌝ }
-    ensures { λ _. ⌜ (now (first .exit) ≡ mapAt (lobesJoined grid (logsOf tabled (now (table .entry))) (gains .first) (take count lobes)) (now (first .entry))) × (now (second .exit) ≡ mapAt (lobesJoined grid (logsOf tabled (now (table .entry))) (gains .second) (take count lobes)) (now (second .entry))) ⌝ }
+    requires { ⌜ (now powers ≡ powerTable)
+        × (now gaussians ≡ gaussianTable)
+        × (0 < length (now chunk))
+        × (length (now chunk) ≤ length (now indexes))
+        × (count ≤ 24)
+        × (grid .«last_bin» ≤ 2 ^ 24)
+        × (tabled ≡ true → grid .«last_bin» < length (now table))
+        × ((p : ℕ) → p < count →
+        (getD lobes p noLobe .«center_log2» ≡ L2 (getD lobes p noLobe .center)) ×
+        (getD lobes p noLobe .«last_bin» ≤ grid .«last_bin»)) ⌝ }
+    ensures { λ _. ⌜ (now (first .exit) ≡ mapAt
+        (lobesJoined grid (logsOf tabled (now (table .entry))) (gains .first) (take count lobes))
+        (now (first .entry)))
+        × (now (second .exit) ≡ mapAt
+        (lobesJoined grid (logsOf tabled (now (table .entry))) (gains .second) (take count lobes))
+        (now (second .entry))) ⌝ }
 {
     let mut p: usize = 0;
     while p < count {

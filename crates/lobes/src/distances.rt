@@ -15,10 +15,12 @@ pub fn in_widths(width: f32, octaves: f32) -> f32
     CENTS_PER_OCTAVE * octaves / width
 }
 
-// By the table that was lent. The centre comes as its logarithm, which a lobe takes once for all its bins.
+// By the table that was lent. The centre comes as its logarithm, which a lobe takes once for all
+// its bins.
 pub fn distance_by_table(table: &[f32], width: f32, center_log2: f32, bin: usize) -> f32
     requires { ⌜ bin < length (now table) ⌝ }
-    ensures { λ r. ⌜ r ≡ inWidths width (sub binary32 (getD (now (table .entry)) bin nan) «center_log2») ⌝ }
+    ensures { λ r. ⌜ r
+        ≡ inWidths width (sub binary32 (getD (now (table .entry)) bin nan) «center_log2») ⌝ }
 {
     in_widths(width, table[bin] - center_log2)
 }

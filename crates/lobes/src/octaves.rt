@@ -1,4 +1,5 @@
-// The octaves of the partials above their fundamental, as constants: they are the same for every voice.
+// The octaves of the partials above their fundamental, as constants: they are the same for every
+// voice.
 ghost use mathlib.Core.Path.{_≡_};
 ghost use Rattle.lobes.specs.Tone.{partialOctaves};
 

@@ -1,4 +1,5 @@
-// A partial's lobe: the bins that it reaches, its strength, and the bin where it is at its full height.
+// A partial's lobe: the bins that it reaches, its strength, and the bin where it is at its full
+// height.
 ghost use mathlib.Core.Path.{_≡_};
 ghost use mathlib.Core.Bool.{true};
 ghost use Prim.Native.Nat.{_^_, _≤_, _<_};
@@ -46,7 +47,10 @@ fn distance(
     center_log2: f32,
     bin: usize,
 ) -> f32
-    requires { ⌜ (now powers ≡ powerTable) × («center_log2» ≡ L2 center) × (bin ≤ 2 ^ 24) × (tabled ≡ true → bin < length (now table)) ⌝ }
+    requires { ⌜ (now powers ≡ powerTable)
+        × («center_log2» ≡ L2 center)
+        × (bin ≤ 2 ^ 24)
+        × (tabled ≡ true → bin < length (now table)) ⌝ }
     ensures { λ r. ⌜ r ≡ distance grid (logsOf tabled (now (table .entry))) center bin ⌝ }
 {
     if tabled {
@@ -64,7 +68,11 @@ pub fn lobe_of(
     tone: Tone,
     partial: usize,
 ) -> Lobe
-    requires { ⌜ (now powers ≡ powerTable) × (now octaves ≡ partialOctaves) × (grid .«last_bin» ≤ 2 ^ 24) × (partial ≤ 24) × (tabled ≡ true → grid .«last_bin» < length (now table)) ⌝ }
+    requires { ⌜ (now powers ≡ powerTable)
+        × (now octaves ≡ partialOctaves)
+        × (grid .«last_bin» ≤ 2 ^ 24)
+        × (partial ≤ 24)
+        × (tabled ≡ true → grid .«last_bin» < length (now table)) ⌝ }
     ensures { λ r. ⌜ r ≡ lobeOf grid (logsOf tabled (now (table .entry))) tone partial ⌝ }
 {
     let center = center_of(tone, partial);

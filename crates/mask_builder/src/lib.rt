@@ -31,8 +31,15 @@ fn open_mono(
     tabled: bool,
     table: &[f32],
 )
-    requires { ⌜ (now powers ≡ powerTable) × (now sines ≡ sineTable) × (count ≤ 128) × (config .«fft_size» ≤ 16384) × (length (now out) ≡ config .«fft_size» / 2 + 1) × (tabled ≡ true → length (now table) ≡ config .«fft_size» / 2 + 1) × (tabled ≡ true → SoundScene (gridOf config) (take count voices) (now table)) ⌝ }
-    ensures { λ _. ⌜ now (out .exit) ≡ tabulate (length (now (out .entry))) (opennessAt config (logsOf tabled (now (table .entry))) side.mono (take count voices)) ⌝ }
+    requires { ⌜ (now powers ≡ powerTable)
+        × (now sines ≡ sineTable)
+        × (count ≤ 128)
+        × (config .«fft_size» ≤ 16384)
+        × (length (now out) ≡ config .«fft_size» / 2 + 1)
+        × (tabled ≡ true → length (now table) ≡ config .«fft_size» / 2 + 1)
+        × (tabled ≡ true → SoundScene (gridOf config) (take count voices) (now table)) ⌝ }
+    ensures { λ _. ⌜ now (out .exit) ≡ tabulate (length (now (out .entry)))
+        (opennessAt config (logsOf tabled (now (table .entry))) side.mono (take count voices)) ⌝ }
 {
     if config.note_layer_enabled {
         let gaussians = gaussian::gaussian_table();
@@ -64,9 +71,18 @@ fn open_sides(
     config: MaskConfig,
     table: &[f32],
 )
-    requires { ⌜ (now powers ≡ powerTable) × (now sines ≡ sineTable) × (count ≤ 128) × (config .«fft_size» ≤ 16384) × (length (now left) ≡ config .«fft_size» / 2 + 1) × (length (now right) ≡ config .«fft_size» / 2 + 1) × (length (now table) ≡ config .«fft_size» / 2 + 1) × (SoundScene (gridOf config) (take count voices) (now table)) ⌝ }
-    ensures { λ _. ⌜ now (left .exit) ≡ tabulate (length (now (left .entry))) (opennessAt config (lent (now (table .entry))) side.left (take count voices)) ⌝ }
-    ensures { λ _. ⌜ now (right .exit) ≡ tabulate (length (now (right .entry))) (opennessAt config (lent (now (table .entry))) side.right (take count voices)) ⌝ }
+    requires { ⌜ (now powers ≡ powerTable)
+        × (now sines ≡ sineTable)
+        × (count ≤ 128)
+        × (config .«fft_size» ≤ 16384)
+        × (length (now left) ≡ config .«fft_size» / 2 + 1)
+        × (length (now right) ≡ config .«fft_size» / 2 + 1)
+        × (length (now table) ≡ config .«fft_size» / 2 + 1)
+        × (SoundScene (gridOf config) (take count voices) (now table)) ⌝ }
+    ensures { λ _. ⌜ now (left .exit) ≡ tabulate (length (now (left .entry)))
+        (opennessAt config (lent (now (table .entry))) side.left (take count voices)) ⌝ }
+    ensures { λ _. ⌜ now (right .exit) ≡ tabulate (length (now (right .entry)))
+        (opennessAt config (lent (now (table .entry))) side.right (take count voices)) ⌝ }
 {
     if config.note_layer_enabled {
         let gaussians = gaussian::gaussian_table();
@@ -98,8 +114,14 @@ pub fn build_one(
     tabled: bool,
     table: &[f32],
 )
-    requires { ⌜ (length (now curve) ≡ MANUAL-MASK-POINTS) × (count ≤ 128) × (config .«fft_size» ≤ 16384) × (length (now out) ≡ config .«fft_size» / 2 + 1) × (tabled ≡ true → length (now table) ≡ config .«fft_size» / 2 + 1) × (tabled ≡ true → SoundScene (gridOf config) (take count voices) (now table)) ⌝ }
-    ensures { λ _. ⌜ now (out .exit) ≡ maskOf (now (curve .entry)) config (logsOf tabled (now (table .entry))) side.mono (take count voices) ⌝ }
+    requires { ⌜ (length (now curve) ≡ MANUAL-MASK-POINTS)
+        × (count ≤ 128)
+        × (config .«fft_size» ≤ 16384)
+        × (length (now out) ≡ config .«fft_size» / 2 + 1)
+        × (tabled ≡ true → length (now table) ≡ config .«fft_size» / 2 + 1)
+        × (tabled ≡ true → SoundScene (gridOf config) (take count voices) (now table)) ⌝ }
+    ensures { λ _. ⌜ now (out .exit) ≡ maskOf (now (curve .entry)) config
+        (logsOf tabled (now (table .entry))) side.mono (take count voices) ⌝ }
 {
     let powers = power::table::power_table();
     let sines = sine::table::sine_table();
@@ -107,7 +129,8 @@ pub fn build_one(
     bin_gains::finish_one(&powers, &sines, out, curve, config);
 }
 
-// Both masks of a stereo pair. Where every voice stands at the centre the two are one, and the right is copied from the left.
+// Both masks of a stereo pair. Where every voice stands at the centre the two are one, and the
+// right is copied from the left.
 pub fn build_two(
     left: &mut [f32],
     right: &mut [f32],
@@ -117,9 +140,17 @@ pub fn build_two(
     config: MaskConfig,
     table: &[f32],
 )
-    requires { ⌜ (length (now curve) ≡ MANUAL-MASK-POINTS) × (count ≤ 128) × (config .«fft_size» ≤ 16384) × (length (now left) ≡ config .«fft_size» / 2 + 1) × (length (now right) ≡ config .«fft_size» / 2 + 1) × (length (now table) ≡ config .«fft_size» / 2 + 1) × (SoundScene (gridOf config) (take count voices) (now table)) ⌝ }
-    ensures { λ _. ⌜ now (left .exit) ≡ maskOf (now (curve .entry)) config (lent (now (table .entry))) side.left (take count voices) ⌝ }
-    ensures { λ _. ⌜ now (right .exit) ≡ maskOf (now (curve .entry)) config (lent (now (table .entry))) side.right (take count voices) ⌝ }
+    requires { ⌜ (length (now curve) ≡ MANUAL-MASK-POINTS)
+        × (count ≤ 128)
+        × (config .«fft_size» ≤ 16384)
+        × (length (now left) ≡ config .«fft_size» / 2 + 1)
+        × (length (now right) ≡ config .«fft_size» / 2 + 1)
+        × (length (now table) ≡ config .«fft_size» / 2 + 1)
+        × (SoundScene (gridOf config) (take count voices) (now table)) ⌝ }
+    ensures { λ _. ⌜ now (left .exit) ≡ maskOf (now (curve .entry)) config
+        (lent (now (table .entry))) side.left (take count voices) ⌝ }
+    ensures { λ _. ⌜ now (right .exit) ≡ maskOf (now (curve .entry)) config
+        (lent (now (table .entry))) side.right (take count voices) ⌝ }
 {
     if centers::all_centered(voices, count) {
         build_one(left, curve, voices, count, config, true, table);

@@ -1,4 +1,5 @@
-// The mask builders: each tests what it is given, and then makes one call of the core. `spectral_dsp` passes them on under the Rust's paths.
+// The mask builders: each tests what it is given, and then makes one call of the core.
+// `spectral_dsp` passes them on under the Rust's paths.
 ghost use mathlib.Core.Path.{_≡_};
 ghost use Prim.Native.Nat.{_*_, min};
 ghost use lib.ListN.{length, take, drop};
@@ -25,15 +26,19 @@ use scene::both;
 // The notes of a bank of levels.
 const MIDI_NOTES: usize = 128;
 
-// Builds the mask of a bank of note levels: a voice for each of the 128 notes, with nothing played on it.
+// Builds the mask of a bank of note levels: a voice for each of the 128 notes, with nothing played
+// on it.
 pub fn build_mask(
     output: &mut [f32],
     manual_mask_db: &[f32],
     note_levels: &[f32],
     config: MaskConfig,
 ) -> Outcome
-    ensures { λ r. ⌜ ofOutcome r ≡ maskReply (length (now (output .entry))) (now («manual_mask_db» .entry)) (now («note_levels» .entry)) config ⌝ }
-    ensures { λ r. ⌜ now (output .exit) ≡ written (ofOutcome r) (maskOf (now («manual_mask_db» .entry)) config none side.mono (voicesOf (now («note_levels» .entry)))) (now (output .entry)) ⌝ }
+    ensures { λ r. ⌜ ofOutcome r ≡ maskReply (length (now (output .entry)))
+        (now («manual_mask_db» .entry)) (now («note_levels» .entry)) config ⌝ }
+    ensures { λ r. ⌜ now (output .exit) ≡ written (ofOutcome r) (maskOf
+        (now («manual_mask_db» .entry)) config none side.mono
+        (voicesOf (now («note_levels» .entry)))) (now (output .entry)) ⌝ }
 {
     let bins = config.fft_size / 2 + 1;
     let lengths = both(
@@ -70,8 +75,11 @@ pub fn build_mask_with_voices(
     count: usize,
     config: MaskConfig,
 ) -> Outcome
-    ensures { λ r. ⌜ ofOutcome r ≡ voicesMaskReply (length (now (output .entry))) (now («manual_mask_db» .entry)) voices count config ⌝ }
-    ensures { λ r. ⌜ now (output .exit) ≡ written (ofOutcome r) (maskOf (now («manual_mask_db» .entry)) config none side.mono (take count voices)) (now (output .entry)) ⌝ }
+    ensures { λ r. ⌜ ofOutcome r ≡ voicesMaskReply (length (now (output .entry)))
+        (now («manual_mask_db» .entry)) voices count config ⌝ }
+    ensures { λ r. ⌜ now (output .exit) ≡ written (ofOutcome r)
+        (maskOf (now («manual_mask_db» .entry)) config none side.mono (take count voices))
+        (now (output .entry)) ⌝ }
 {
     let bins = config.fft_size / 2 + 1;
     let lengths = both(
@@ -105,8 +113,11 @@ pub fn build_mask_with_voices_precomputed(
     config: MaskConfig,
     table: &[f32],
 ) -> Outcome
-    ensures { λ r. ⌜ ofOutcome r ≡ tabledMaskReply (length (now (output .entry))) (now («manual_mask_db» .entry)) voices count config (now (table .entry)) ⌝ }
-    ensures { λ r. ⌜ now (output .exit) ≡ written (ofOutcome r) (maskOf (now («manual_mask_db» .entry)) config (lent (now (table .entry))) side.mono (take count voices)) (now (output .entry)) ⌝ }
+    ensures { λ r. ⌜ ofOutcome r ≡ tabledMaskReply (length (now (output .entry)))
+        (now («manual_mask_db» .entry)) voices count config (now (table .entry)) ⌝ }
+    ensures { λ r. ⌜ now (output .exit) ≡ written (ofOutcome r) (maskOf
+        (now («manual_mask_db» .entry)) config (lent (now (table .entry))) side.mono
+        (take count voices)) (now (output .entry)) ⌝ }
 {
     let bins = config.fft_size / 2 + 1;
     let lengths = both(
@@ -127,8 +138,9 @@ pub fn build_mask_with_voices_precomputed(
     }
 }
 
-// Builds both masks of a stereo pair by the lent table, prepared or not. Note contributions use a constant-power pan law with unity at the centre; the drawn curve, the moving field and the
-// floor of the closed regions are shared.
+// Builds both masks of a stereo pair by the lent table, prepared or not. Note contributions use a
+// constant-power pan law with unity at the centre; the drawn curve, the moving field and the floor
+// of the closed regions are shared.
 pub fn build_stereo_masks_with_voices_precomputed(
     left: &mut [f32],
     right: &mut [f32],
@@ -138,9 +150,15 @@ pub fn build_stereo_masks_with_voices_precomputed(
     config: MaskConfig,
     table: &[f32],
 ) -> Outcome
-    ensures { λ r. ⌜ ofOutcome r ≡ stereoReply (length (now (left .entry))) (length (now (right .entry))) (now («manual_mask_db» .entry)) voices count config (now (table .entry)) ⌝ }
-    ensures { λ r. ⌜ now (left .exit) ≡ written (ofOutcome r) (maskOf (now («manual_mask_db» .entry)) config (lent (now (table .entry))) side.left (take count voices)) (now (left .entry)) ⌝ }
-    ensures { λ r. ⌜ now (right .exit) ≡ written (ofOutcome r) (maskOf (now («manual_mask_db» .entry)) config (lent (now (table .entry))) side.right (take count voices)) (now (right .entry)) ⌝ }
+    ensures { λ r. ⌜ ofOutcome r ≡ stereoReply (length (now (left .entry)))
+        (length (now (right .entry))) (now («manual_mask_db» .entry)) voices count config
+        (now (table .entry)) ⌝ }
+    ensures { λ r. ⌜ now (left .exit) ≡ written (ofOutcome r) (maskOf
+        (now («manual_mask_db» .entry)) config (lent (now (table .entry))) side.left
+        (take count voices)) (now (left .entry)) ⌝ }
+    ensures { λ r. ⌜ now (right .exit) ≡ written (ofOutcome r) (maskOf
+        (now («manual_mask_db» .entry)) config (lent (now (table .entry))) side.right
+        (take count voices)) (now (right .entry)) ⌝ }
 {
     let bins = config.fft_size / 2 + 1;
     let lengths = both(
@@ -161,7 +179,8 @@ pub fn build_stereo_masks_with_voices_precomputed(
     }
 }
 
-// Where the frequency table begins in a block of that many entries: after four windows, or at its end where it is shorter.
+// Where the frequency table begins in a block of that many entries: after four windows, or at its
+// end where it is shorter.
 fn table_start(size: usize, entries: usize) -> usize
     ensures { λ r. ⌜ r ≡ min (4 * size) entries ⌝ }
 {
@@ -171,7 +190,8 @@ fn table_start(size: usize, entries: usize) -> usize
     entries
 }
 
-// The same by the frequency table of a prepared spectrum, which begins after the four windows of its block.
+// The same by the frequency table of a prepared spectrum, which begins after the four windows of
+// its block.
 pub fn build_stereo_masks_with_prepared_spectrum(
     left: &mut [f32],
     right: &mut [f32],
@@ -181,9 +201,17 @@ pub fn build_stereo_masks_with_prepared_spectrum(
     config: MaskConfig,
     block: &[f32],
 ) -> Outcome
-    ensures { λ r. ⌜ ofOutcome r ≡ stereoReply (length (now (left .entry))) (length (now (right .entry))) (now («manual_mask_db» .entry)) voices count config (drop (4 * config .«fft_size») (now (block .entry))) ⌝ }
-    ensures { λ r. ⌜ now (left .exit) ≡ written (ofOutcome r) (maskOf (now («manual_mask_db» .entry)) config (lent (drop (4 * config .«fft_size») (now (block .entry)))) side.left (take count voices)) (now (left .entry)) ⌝ }
-    ensures { λ r. ⌜ now (right .exit) ≡ written (ofOutcome r) (maskOf (now («manual_mask_db» .entry)) config (lent (drop (4 * config .«fft_size») (now (block .entry)))) side.right (take count voices)) (now (right .entry)) ⌝ }
+    ensures { λ r. ⌜ ofOutcome r ≡ stereoReply (length (now (left .entry)))
+        (length (now (right .entry))) (now («manual_mask_db» .entry)) voices count config
+        (drop (4 * config .«fft_size») (now (block .entry))) ⌝ }
+    ensures { λ r. ⌜ now (left .exit) ≡ written (ofOutcome r) (maskOf
+        (now («manual_mask_db» .entry)) config
+        (lent (drop (4 * config .«fft_size») (now (block .entry)))) side.left (take count voices))
+        (now (left .entry)) ⌝ }
+    ensures { λ r. ⌜ now (right .exit) ≡ written (ofOutcome r) (maskOf
+        (now («manual_mask_db» .entry)) config
+        (lent (drop (4 * config .«fft_size») (now (block .entry)))) side.right (take count voices))
+        (now (right .entry)) ⌝ }
 {
     let start = table_start(config.fft_size, block.len());
     build_stereo_masks_with_voices_precomputed(

@@ -14,7 +14,8 @@ pub const LAST_POINT: usize = 8192;
 
 pub const MANUAL_CURVE_MUTE_DB: f32 = -144.0;
 
-// The curve point nearest to a bin. Below size 2 there are no bins to divide by, and it is the first.
+// The curve point nearest to a bin. Below size 2 there are no bins to divide by, and it is the
+// first.
 pub fn curve_point(bin: usize, size: usize) -> usize
     ensures { λ r. ⌜ r ≡ curvePoint bin size ⌝ }
 {

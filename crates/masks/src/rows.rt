@@ -1,4 +1,5 @@
-// The drawn curve's gains at a row of bins, one short loop after the other: the curve values that the bins read, the decibels that they count as, and the gains.
+// The drawn curve's gains at a row of bins, one short loop after the other: the curve values that
+// the bins read, the decibels that they count as, and the gains.
 ghost use mathlib.Core.Path.{_≡_};
 ghost use mathlib.Core.Logic.{_⊎_};
 ghost use Prim.Native.Nat.{_+_, _*_, _/_, _^_, _≤_, min};
@@ -18,7 +19,8 @@ use power::table::PowerTable;
 // Low enough for a gain of 0.
 const SILENT_DB: f32 = -1000.0;
 
-// From a bin's curve point to the next bin's, where that is a whole number, as it is at every accepted size; else 0.
+// From a bin's curve point to the next bin's, where that is a whole number, as it is at every
+// accepted size; else 0.
 fn point_step(size: usize) -> usize
     ensures { λ r. ⌜ (r ≤ LAST-POINT) × ((r ≡ 0) ⊎ (r * (size / 2) ≡ LAST-POINT)) ⌝ }
 {
@@ -34,8 +36,13 @@ fn point_step(size: usize) -> usize
 }
 
 fn values_by_step(row: &mut [f32], curve: &[f32], step: usize, start: usize, count: usize)
-    requires { ⌜ (length (now curve) ≡ MANUAL-MASK-POINTS) × (step ≤ LAST-POINT) × (count ≤ length (now row)) × (start + count ≤ 2 ^ 24 + 1) ⌝ }
-    ensures { λ _. ⌜ now (row .exit) ≡ mapRange (λ k held. getD (now (curve .entry)) (min ((start + k) * step) LAST-POINT) nan) 0 count (now (row .entry)) ⌝ }
+    requires { ⌜ (length (now curve) ≡ MANUAL-MASK-POINTS)
+        × (step ≤ LAST-POINT)
+        × (count ≤ length (now row))
+        × (start + count ≤ 2 ^ 24 + 1) ⌝ }
+    ensures { λ _. ⌜ now (row .exit) ≡ mapRange
+        (λ k held. getD (now (curve .entry)) (min ((start + k) * step) LAST-POINT) nan) 0 count
+        (now (row .entry)) ⌝ }
 {
     let mut k: usize = 0;
     while k < count {
@@ -45,8 +52,12 @@ fn values_by_step(row: &mut [f32], curve: &[f32], step: usize, start: usize, cou
 }
 
 fn values_by_quotient(row: &mut [f32], curve: &[f32], size: usize, start: usize, count: usize)
-    requires { ⌜ (length (now curve) ≡ MANUAL-MASK-POINTS) × (count ≤ length (now row)) × (start + count ≤ 2 ^ 24 + 1) ⌝ }
-    ensures { λ _. ⌜ now (row .exit) ≡ mapRange (λ k held. getD (now (curve .entry)) (curvePoint (start + k) size) nan) 0 count (now (row .entry)) ⌝ }
+    requires { ⌜ (length (now curve) ≡ MANUAL-MASK-POINTS)
+        × (count ≤ length (now row))
+        × (start + count ≤ 2 ^ 24 + 1) ⌝ }
+    ensures { λ _. ⌜ now (row .exit) ≡ mapRange
+        (λ k held. getD (now (curve .entry)) (curvePoint (start + k) size) nan) 0 count
+        (now (row .entry)) ⌝ }
 {
     let mut k: usize = 0;
     while k < count {
@@ -57,8 +68,12 @@ fn values_by_quotient(row: &mut [f32], curve: &[f32], size: usize, start: usize,
 
 // The curve values that the bins from `start` on read.
 fn curve_values(row: &mut [f32], curve: &[f32], size: usize, start: usize, count: usize)
-    requires { ⌜ (length (now curve) ≡ MANUAL-MASK-POINTS) × (count ≤ length (now row)) × (start + count ≤ 2 ^ 24 + 1) ⌝ }
-    ensures { λ _. ⌜ now (row .exit) ≡ mapRange (λ k held. getD (now (curve .entry)) (curvePoint (start + k) size) nan) 0 count (now (row .entry)) ⌝ }
+    requires { ⌜ (length (now curve) ≡ MANUAL-MASK-POINTS)
+        × (count ≤ length (now row))
+        × (start + count ≤ 2 ^ 24 + 1) ⌝ }
+    ensures { λ _. ⌜ now (row .exit) ≡ mapRange
+        (λ k held. getD (now (curve .entry)) (curvePoint (start + k) size) nan) 0 count
+        (now (row .entry)) ⌝ }
 {
     let step = point_step(size);
     if step == 0 {
@@ -80,7 +95,8 @@ fn counted_as(db: f32) -> f32
 
 fn counted_values(row: &mut [f32], count: usize)
     requires { ⌜ count ≤ length (now row) ⌝ }
-    ensures { λ _. ⌜ now (row .exit) ≡ mapRange (λ k db. countedAs db) 0 count (now (row .entry)) ⌝ }
+    ensures { λ _. ⌜ now (row .exit)
+        ≡ mapRange (λ k db. countedAs db) 0 count (now (row .entry)) ⌝ }
 {
     let mut k: usize = 0;
     while k < count {
@@ -98,8 +114,12 @@ pub fn manual_gains(
     start: usize,
     count: usize,
 )
-    requires { ⌜ (now powers ≡ powerTable) × (length (now curve) ≡ MANUAL-MASK-POINTS) × (count ≤ length (now row)) × (start + count ≤ 2 ^ 24 + 1) ⌝ }
-    ensures { λ _. ⌜ now (row .exit) ≡ mapRange (λ k held. manualGain (now (curve .entry)) (start + k) size) 0 count (now (row .entry)) ⌝ }
+    requires { ⌜ (now powers ≡ powerTable)
+        × (length (now curve) ≡ MANUAL-MASK-POINTS)
+        × (count ≤ length (now row))
+        × (start + count ≤ 2 ^ 24 + 1) ⌝ }
+    ensures { λ _. ⌜ now (row .exit) ≡ mapRange
+        (λ k held. manualGain (now (curve .entry)) (start + k) size) 0 count (now (row .entry)) ⌝ }
 {
     curve_values(row, curve, size, start, count);
     counted_values(row, count);

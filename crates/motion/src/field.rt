@@ -24,7 +24,8 @@ pub const RESTING_DEPTH_DB: f32 = 0.001;
 
 pub const MIN_SIZE_OCTAVES: f32 = 0.05;
 
-// The shape's openness x octaves above the lowest frequency shown. Sprinkle and Cloud are made of events and have no field, so theirs is open.
+// The shape's openness x octaves above the lowest frequency shown. Sprinkle and Cloud are made of
+// events and have no field, so theirs is open.
 pub(crate) fn shape_at(
     powers: &PowerTable,
     sines: &SineTable,

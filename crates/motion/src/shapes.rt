@@ -1,5 +1,6 @@
-// The shapes of the moving field. Each is a function of x, the octaves above the lowest frequency shown, of the size of
-// its cycle in octaves, and of its phase, from 0 to 1. 1 is open, and 0 receives the whole depth.
+// The shapes of the moving field. Each is a function of x, the octaves above the lowest frequency
+// shown, of the size of its cycle in octaves, and of its phase, from 0 to 1. 1 is open, and 0
+// receives the whole depth.
 ghost use mathlib.Core.Path.{_≡_};
 ghost use Rattle.power.specs.Table.{powerTable};
 ghost use Rattle.sine.specs.Table.{sineTable};
@@ -41,8 +42,9 @@ pub(crate) fn harmonic(sines: &SineTable, x: f32, size: f32, phase: f32) -> f32
     powi5(ripple(sines, x, size, phase))
 }
 
-// The angles of Drift's three waves. Whole multiples of the phase keep the field continuous where the phase begins anew, and the unrelated sizes keep the waves from looking like one
-// repeating comb.
+// The angles of Drift's three waves. Whole multiples of the phase keep the field continuous where
+// the phase begins anew, and the unrelated sizes keep the waves from looking like one repeating
+// comb.
 pub fn broad_angle(x: f32, size: f32, phase: f32) -> f32
     ensures { λ r. ⌜ r ≡ broadAngle x size phase ⌝ }
 {
@@ -77,7 +79,8 @@ pub(crate) fn drift(sines: &SineTable, x: f32, size: f32, phase: f32) -> f32
     layered(broad, middle, detail)
 }
 
-// A bell around the place that the phase names, the ends of the display being joined: what Scan opens and Notch shuts.
+// A bell around the place that the phase names, the ends of the display being joined: what Scan
+// opens and Notch shuts.
 pub(crate) fn window(powers: &PowerTable, x: f32, size: f32, phase: f32) -> f32
     requires { ⌜ now powers ≡ powerTable ⌝ }
     ensures { λ r. ⌜ r ≡ window x size phase ⌝ }

@@ -1,8 +1,10 @@
 // The gain that makes up for the moving field, over the whole spectrum.
 //
-// Method. The field is sampled at even steps of the octaves shown, so that the compensation follows the footprint that is heard and does not
-// count the highest bins more than others. The gain is one over the root of the samples' mean square. It is capped, lest a narrow and
-// deep Scan or Harmonic be raised past what is safe. Where the samples lie does not depend on the field, so that is a table of constants.
+// Method. The field is sampled at even steps of the octaves shown, so that the compensation follows
+// the footprint that is heard and does not count the highest bins more than others. The gain is one
+// over the root of the samples' mean square. It is capped, lest a narrow and deep Scan or Harmonic
+// be raised past what is safe. Where the samples lie does not depend on the field, so that is a
+// table of constants.
 mod octaves;
 
 ghost use mathlib.Core.Path.{_≡_};
@@ -35,8 +37,11 @@ const MAX_MOTION_COMPENSATION_DB: f32 = 12.0;
 
 // What the field leaves at each sample.
 fn sample_gains(row: &mut [f32], powers: &PowerTable, sines: &SineTable, field: MotionConfig)
-    requires { ⌜ (now powers ≡ powerTable) × (now sines ≡ sineTable) × (length (now row) ≡ MOTION-COMPENSATION-SAMPLES) ⌝ }
-    ensures { λ _. ⌜ now (row .exit) ≡ mapRange (λ k x. gainThere field x) 0 MOTION-COMPENSATION-SAMPLES (now (row .entry)) ⌝ }
+    requires { ⌜ (now powers ≡ powerTable)
+        × (now sines ≡ sineTable)
+        × (length (now row) ≡ MOTION-COMPENSATION-SAMPLES) ⌝ }
+    ensures { λ _. ⌜ now (row .exit)
+        ≡ mapRange (λ k x. gainThere field x) 0 MOTION-COMPENSATION-SAMPLES (now (row .entry)) ⌝ }
 {
     shape_row(row, powers, sines, field, MOTION_COMPENSATION_SAMPLES);
     lowerings(row, field.depth_db, MOTION_COMPENSATION_SAMPLES);
@@ -44,7 +49,9 @@ fn sample_gains(row: &mut [f32], powers: &PowerTable, sines: &SineTable, field: 
 }
 
 fn mean_square(powers: &PowerTable, sines: &SineTable, config: MotionConfig) -> f32
-    requires { ⌜ (now powers ≡ powerTable) × (now sines ≡ sineTable) × (le (config .«depth_db») RESTING-DEPTH-DB ≡ false) ⌝ }
+    requires { ⌜ (now powers ≡ powerTable)
+        × (now sines ≡ sineTable)
+        × (le (config .«depth_db») RESTING-DEPTH-DB ≡ false) ⌝ }
     ensures { λ r. ⌜ r ≡ meanSquare config ⌝ }
 {
     let mut row = octave_table();

@@ -1,6 +1,7 @@
 // What the moving field leaves at a row of bins.
 //
-// Method. One short loop after the other over the same few numbers: the frequencies over the lowest shown, their octaves, the openness there, the decibels, the gains.
+// Method. One short loop after the other over the same few numbers: the frequencies over the lowest
+// shown, their octaves, the openness there, the decibels, the gains.
 pub mod shapes;
 
 ghost use mathlib.Core.Path.{_≡_};
@@ -72,7 +73,9 @@ fn shown(frequency: f32, opened: f32) -> f32
 
 fn open_below(row: &mut [f32], bin_hz: f32, start: usize, count: usize)
     requires { ⌜ (count ≤ length (now row)) × (start + count ≤ 2 ^ 24 + 1) ⌝ }
-    ensures { λ _. ⌜ now (row .exit) ≡ mapRange (λ k opened. cond (lt (hertz «bin_hz» (start + k)) MIN-DISPLAY-FREQUENCY-HZ) one opened) 0 count (now (row .entry)) ⌝ }
+    ensures { λ _. ⌜ now (row .exit) ≡ mapRange
+        (λ k opened. cond (lt (hertz «bin_hz» (start + k)) MIN-DISPLAY-FREQUENCY-HZ) one opened) 0
+        count (now (row .entry)) ⌝ }
 {
     let mut k: usize = 0;
     while k < count {
@@ -81,7 +84,8 @@ fn open_below(row: &mut [f32], bin_hz: f32, start: usize, count: usize)
     }
 }
 
-// How open the field is at the bins from `start` on. Where it is made of events it is open, and the octaves need not be known.
+// How open the field is at the bins from `start` on. Where it is made of events it is open, and the
+// octaves need not be known.
 fn openings(
     row: &mut [f32],
     powers: &PowerTable,
@@ -91,8 +95,12 @@ fn openings(
     start: usize,
     count: usize,
 )
-    requires { ⌜ (now powers ≡ powerTable) × (now sines ≡ sineTable) × (count ≤ length (now row)) × (start + count ≤ 2 ^ 24 + 1) ⌝ }
-    ensures { λ _. ⌜ now (row .exit) ≡ mapRange (λ k held. openAt field (hertz «bin_hz» (start + k))) 0 count (now (row .entry)) ⌝ }
+    requires { ⌜ (now powers ≡ powerTable)
+        × (now sines ≡ sineTable)
+        × (count ≤ length (now row))
+        × (start + count ≤ 2 ^ 24 + 1) ⌝ }
+    ensures { λ _. ⌜ now (row .exit) ≡ mapRange
+        (λ k held. openAt field (hertz «bin_hz» (start + k))) 0 count (now (row .entry)) ⌝ }
 {
     let shape = field.shape;
     if made_of_events(shape) {
@@ -108,7 +116,8 @@ fn openings(
 // By how much each openness lowers its bin.
 pub fn lowerings(row: &mut [f32], depth_db: f32, count: usize)
     requires { ⌜ count ≤ length (now row) ⌝ }
-    ensures { λ _. ⌜ now (row .exit) ≡ mapRange (λ k opened. lowered «depth_db» opened) 0 count (now (row .entry)) ⌝ }
+    ensures { λ _. ⌜ now (row .exit)
+        ≡ mapRange (λ k opened. lowered «depth_db» opened) 0 count (now (row .entry)) ⌝ }
 {
     let mut k: usize = 0;
     while k < count {
@@ -117,7 +126,8 @@ pub fn lowerings(row: &mut [f32], depth_db: f32, count: usize)
     }
 }
 
-// What a field that does not rest leaves of the bins from `start` on, by its settings as the shapes take them.
+// What a field that does not rest leaves of the bins from `start` on, by its settings as the shapes
+// take them.
 pub fn motion_gains(
     row: &mut [f32],
     powers: &PowerTable,
@@ -127,8 +137,12 @@ pub fn motion_gains(
     start: usize,
     count: usize,
 )
-    requires { ⌜ (now powers ≡ powerTable) × (now sines ≡ sineTable) × (count ≤ length (now row)) × (start + count ≤ 2 ^ 24 + 1) ⌝ }
-    ensures { λ _. ⌜ now (row .exit) ≡ mapRange (λ k held. gainLeft field (hertz «bin_hz» (start + k))) 0 count (now (row .entry)) ⌝ }
+    requires { ⌜ (now powers ≡ powerTable)
+        × (now sines ≡ sineTable)
+        × (count ≤ length (now row))
+        × (start + count ≤ 2 ^ 24 + 1) ⌝ }
+    ensures { λ _. ⌜ now (row .exit) ≡ mapRange
+        (λ k held. gainLeft field (hertz «bin_hz» (start + k))) 0 count (now (row .entry)) ⌝ }
 {
     openings(row, powers, sines, field, bin_hz, start, count);
     lowerings(row, field.depth_db, count);

@@ -1,7 +1,7 @@
 // The openness of a row of places, octaves above the lowest frequency shown.
 //
-// Method. The shape is asked for once, and then one short loop follows the other over the row: angles, cosines, crests. A loop without a table lookup is done for several
-// entries at once.
+// Method. The shape is asked for once, and then one short loop follows the other over the row:
+// angles, cosines, crests. A loop without a table lookup is done for several entries at once.
 ghost use mathlib.Core.Path.{_≡_};
 ghost use Prim.Native.Nat.{ℕ, _+_, _≤_, _<_};
 ghost use lib.ListN.{length, getD};
@@ -38,7 +38,9 @@ const ROW: usize = 256;
 
 fn angles(row: &mut [f32], size: f32, phase: f32, count: usize)
     requires { ⌜ count ≤ length (now row) ⌝ }
-    ensures { λ _. ⌜ now (row .exit) ≡ mapRange (λ k x. mul binary32 constants.TAU (sub binary32 (div binary32 x size) phase)) 0 count (now (row .entry)) ⌝ }
+    ensures { λ _. ⌜ now (row .exit) ≡ mapRange
+        (λ k x. mul binary32 constants.TAU (sub binary32 (div binary32 x size) phase)) 0 count
+        (now (row .entry)) ⌝ }
 {
     let mut k: usize = 0;
     while k < count {
@@ -49,7 +51,9 @@ fn angles(row: &mut [f32], size: f32, phase: f32, count: usize)
 
 fn crests(row: &mut [f32], count: usize)
     requires { ⌜ count ≤ length (now row) ⌝ }
-    ensures { λ _. ⌜ now (row .exit) ≡ mapRange (λ k wave. order.clamp zero one (add binary32 half (mul binary32 half wave))) 0 count (now (row .entry)) ⌝ }
+    ensures { λ _. ⌜ now (row .exit) ≡ mapRange
+        (λ k wave. order.clamp zero one (add binary32 half (mul binary32 half wave))) 0 count
+        (now (row .entry)) ⌝ }
 {
     let mut k: usize = 0;
     while k < count {
@@ -60,7 +64,8 @@ fn crests(row: &mut [f32], count: usize)
 
 fn ripples(row: &mut [f32], sines: &SineTable, size: f32, phase: f32, count: usize)
     requires { ⌜ (now sines ≡ sineTable) × (count ≤ length (now row)) ⌝ }
-    ensures { λ _. ⌜ now (row .exit) ≡ mapRange (λ k x. ripple x size phase) 0 count (now (row .entry)) ⌝ }
+    ensures { λ _. ⌜ now (row .exit)
+        ≡ mapRange (λ k x. ripple x size phase) 0 count (now (row .entry)) ⌝ }
 {
     angles(row, size, phase, count);
     cos_row(row, sines, count);
@@ -80,7 +85,8 @@ fn fifth_powers(row: &mut [f32], count: usize)
 
 fn harmonics(row: &mut [f32], sines: &SineTable, size: f32, phase: f32, count: usize)
     requires { ⌜ (now sines ≡ sineTable) × (count ≤ length (now row)) ⌝ }
-    ensures { λ _. ⌜ now (row .exit) ≡ mapRange (λ k x. harmonic x size phase) 0 count (now (row .entry)) ⌝ }
+    ensures { λ _. ⌜ now (row .exit)
+        ≡ mapRange (λ k x. harmonic x size phase) 0 count (now (row .entry)) ⌝ }
 {
     ripples(row, sines, size, phase, count);
     fifth_powers(row, count);
@@ -97,8 +103,19 @@ fn layer_angles(
     start: usize,
     count: usize,
 )
-    requires { ⌜ (start + count ≤ length (now row)) × (count ≤ length (now broad)) × (count ≤ length (now middle)) × (count ≤ length (now detail)) ⌝ }
-    ensures { λ _. ⌜ (now (broad .exit) ≡ mapRange (λ k held. broadAngle (getD (now (row .entry)) (start + k) nan) size phase) 0 count (now (broad .entry))) × (now (middle .exit) ≡ mapRange (λ k held. middleAngle (getD (now (row .entry)) (start + k) nan) size phase) 0 count (now (middle .entry))) × (now (detail .exit) ≡ mapRange (λ k held. detailAngle (getD (now (row .entry)) (start + k) nan) size phase) 0 count (now (detail .entry))) ⌝ }
+    requires { ⌜ (start + count ≤ length (now row))
+        × (count ≤ length (now broad))
+        × (count ≤ length (now middle))
+        × (count ≤ length (now detail)) ⌝ }
+    ensures { λ _. ⌜ (now (broad .exit) ≡ mapRange
+        (λ k held. broadAngle (getD (now (row .entry)) (start + k) nan) size phase) 0 count
+        (now (broad .entry)))
+        × (now (middle .exit) ≡ mapRange
+        (λ k held. middleAngle (getD (now (row .entry)) (start + k) nan) size phase) 0 count
+        (now (middle .entry)))
+        × (now (detail .exit) ≡ mapRange
+        (λ k held. detailAngle (getD (now (row .entry)) (start + k) nan) size phase) 0 count
+        (now (detail .entry))) ⌝ }
 {
     let mut k: usize = 0;
     while k < count {
@@ -121,8 +138,15 @@ fn layers(
     start: usize,
     count: usize,
 )
-    requires { ⌜ (start + count ≤ length (now row)) × (count ≤ length (now broad)) × (count ≤ length (now middle)) × (count ≤ length (now detail)) × ((k : ℕ) → k < count → layered (getD (now broad) k nan) (getD (now middle) k nan) (getD (now detail) k nan) ≡ drift (getD (now row) (start + k) nan) size phase) ⌝ }
-    ensures { λ _. ⌜ now (row .exit) ≡ mapRange (λ i x. drift x size phase) start (start + count) (now (row .entry)) ⌝ }
+    requires { ⌜ (start + count ≤ length (now row))
+        × (count ≤ length (now broad))
+        × (count ≤ length (now middle))
+        × (count ≤ length (now detail))
+        × ((k : ℕ) → k < count →
+        layered (getD (now broad) k nan) (getD (now middle) k nan) (getD (now detail) k nan)
+        ≡ drift (getD (now row) (start + k) nan) size phase) ⌝ }
+    ensures { λ _. ⌜ now (row .exit)
+        ≡ mapRange (λ i x. drift x size phase) start (start + count) (now (row .entry)) ⌝ }
 {
     let next = start + count;
     let mut i = start;
@@ -144,8 +168,13 @@ fn few_drifts(
     start: usize,
     count: usize,
 )
-    requires { ⌜ (now sines ≡ sineTable) × (start + count ≤ length (now row)) × (count ≤ length (now broad)) × (count ≤ length (now middle)) × (count ≤ length (now detail)) ⌝ }
-    ensures { λ _. ⌜ now (row .exit) ≡ mapRange (λ i x. drift x size phase) start (start + count) (now (row .entry)) ⌝ }
+    requires { ⌜ (now sines ≡ sineTable)
+        × (start + count ≤ length (now row))
+        × (count ≤ length (now broad))
+        × (count ≤ length (now middle))
+        × (count ≤ length (now detail)) ⌝ }
+    ensures { λ _. ⌜ now (row .exit)
+        ≡ mapRange (λ i x. drift x size phase) start (start + count) (now (row .entry)) ⌝ }
 {
     layer_angles(row, broad, middle, detail, size, phase, start, count);
     sin_row(broad, sines, count);
@@ -156,7 +185,8 @@ fn few_drifts(
 
 fn drifts(row: &mut [f32], sines: &SineTable, size: f32, phase: f32, count: usize)
     requires { ⌜ (now sines ≡ sineTable) × (count ≤ length (now row)) ⌝ }
-    ensures { λ _. ⌜ now (row .exit) ≡ mapRange (λ k x. drift x size phase) 0 count (now (row .entry)) ⌝ }
+    ensures { λ _. ⌜ now (row .exit)
+        ≡ mapRange (λ k x. drift x size phase) 0 count (now (row .entry)) ⌝ }
 {
     let mut broad = [0.0f32; ROW];
     let mut middle = [0.0f32; ROW];
@@ -181,7 +211,8 @@ fn drifts(row: &mut [f32], sines: &SineTable, size: f32, phase: f32, count: usiz
 
 fn window_exponents(row: &mut [f32], size: f32, phase: f32, count: usize)
     requires { ⌜ count ≤ length (now row) ⌝ }
-    ensures { λ _. ⌜ now (row .exit) ≡ mapRange (λ k x. windowExponent x size phase) 0 count (now (row .entry)) ⌝ }
+    ensures { λ _. ⌜ now (row .exit)
+        ≡ mapRange (λ k x. windowExponent x size phase) 0 count (now (row .entry)) ⌝ }
 {
     let mut k: usize = 0;
     while k < count {
@@ -192,7 +223,8 @@ fn window_exponents(row: &mut [f32], size: f32, phase: f32, count: usize)
 
 fn windows(row: &mut [f32], powers: &PowerTable, size: f32, phase: f32, count: usize)
     requires { ⌜ (now powers ≡ powerTable) × (count ≤ length (now row)) ⌝ }
-    ensures { λ _. ⌜ now (row .exit) ≡ mapRange (λ k x. window x size phase) 0 count (now (row .entry)) ⌝ }
+    ensures { λ _. ⌜ now (row .exit)
+        ≡ mapRange (λ k x. window x size phase) 0 count (now (row .entry)) ⌝ }
 {
     window_exponents(row, size, phase, count);
     exp_row(row, powers, count);
@@ -200,7 +232,8 @@ fn windows(row: &mut [f32], powers: &PowerTable, size: f32, phase: f32, count: u
 
 fn complements(row: &mut [f32], count: usize)
     requires { ⌜ count ≤ length (now row) ⌝ }
-    ensures { λ _. ⌜ now (row .exit) ≡ mapRange (λ k x. sub binary32 one x) 0 count (now (row .entry)) ⌝ }
+    ensures { λ _. ⌜ now (row .exit)
+        ≡ mapRange (λ k x. sub binary32 one x) 0 count (now (row .entry)) ⌝ }
 {
     let mut k: usize = 0;
     while k < count {
@@ -211,7 +244,8 @@ fn complements(row: &mut [f32], count: usize)
 
 fn notches(row: &mut [f32], powers: &PowerTable, size: f32, phase: f32, count: usize)
     requires { ⌜ (now powers ≡ powerTable) × (count ≤ length (now row)) ⌝ }
-    ensures { λ _. ⌜ now (row .exit) ≡ mapRange (λ k x. sub binary32 one (window x size phase)) 0 count (now (row .entry)) ⌝ }
+    ensures { λ _. ⌜ now (row .exit)
+        ≡ mapRange (λ k x. sub binary32 one (window x size phase)) 0 count (now (row .entry)) ⌝ }
 {
     windows(row, powers, size, phase, count);
     complements(row, count);
@@ -219,7 +253,8 @@ fn notches(row: &mut [f32], powers: &PowerTable, size: f32, phase: f32, count: u
 
 fn saws(row: &mut [f32], size: f32, phase: f32, count: usize)
     requires { ⌜ count ≤ length (now row) ⌝ }
-    ensures { λ _. ⌜ now (row .exit) ≡ mapRange (λ k x. saw x size phase) 0 count (now (row .entry)) ⌝ }
+    ensures { λ _. ⌜ now (row .exit)
+        ≡ mapRange (λ k x. saw x size phase) 0 count (now (row .entry)) ⌝ }
 {
     let mut k: usize = 0;
     while k < count {
@@ -244,8 +279,11 @@ pub fn shape_row(
     field: MotionConfig,
     count: usize,
 )
-    requires { ⌜ (now powers ≡ powerTable) × (now sines ≡ sineTable) × (count ≤ length (now row)) ⌝ }
-    ensures { λ _. ⌜ now (row .exit) ≡ mapRange (λ k x. shaped field x) 0 count (now (row .entry)) ⌝ }
+    requires { ⌜ (now powers ≡ powerTable)
+        × (now sines ≡ sineTable)
+        × (count ≤ length (now row)) ⌝ }
+    ensures { λ _. ⌜ now (row .exit)
+        ≡ mapRange (λ k x. shaped field x) 0 count (now (row .entry)) ⌝ }
 {
     let size = field.size_octaves;
     let phase = field.phase;

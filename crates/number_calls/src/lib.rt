@@ -1,4 +1,6 @@
-// The open calls that answer a number: each tests what it is given, in the order of document 01's numbers, and then makes one call of the core. `spectral_dsp` passes them on under the Rust's paths.
+// The open calls that answer a number: each tests what it is given, in the order of document 01's
+// numbers, and then makes one call of the core. `spectral_dsp` passes them on under the Rust's
+// paths.
 ghost use mathlib.Core.Path.{_≡_};
 ghost use Rattle.answer.specs.Reply.{ofAnswer};
 ghost use Rattle.number_calls.specs.Gates.{noteEmphasisGain, noteGateGain, manualGainAtBin};
@@ -18,7 +20,8 @@ pub fn note_emphasis_gain(width_cents: f32) -> Answer
     Answer::Gain(masks::gates::emphasis(&powers, width_cents))
 }
 
-// Gain of the complete note layer at one bin. Closed regions follow the note depth while fully open note centres retain their width-compensated lift.
+// Gain of the complete note layer at one bin. Closed regions follow the note depth while fully open
+// note centres retain their width-compensated lift.
 pub fn note_gate_gain(note_depth_db: f32, width_cents: f32, openness: f32) -> Answer
     ensures { λ r. ⌜ ofAnswer r ≡ noteGateGain «note_depth_db» «width_cents» openness ⌝ }
 {
@@ -52,7 +55,8 @@ pub fn manual_gain_at_bin(mask_db: &[f32], bin: usize, fft_size: usize) -> Answe
     Answer::Gain(masks::manual::manual_gain(&powers, mask_db, bin, fft_size))
 }
 
-// How open the moving field is at a frequency: 1 is the crest, and 0 receives the whole attenuation.
+// How open the moving field is at a frequency: 1 is the crest, and 0 receives the whole
+// attenuation.
 pub fn motion_openness(frequency: f32, config: MotionConfig) -> Answer
     ensures { λ r. ⌜ ofAnswer r ≡ opennessReply frequency config ⌝ }
 {

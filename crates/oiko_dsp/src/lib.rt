@@ -1,4 +1,5 @@
-// The open calls of oiko-dsp: each tests what it is given and answers with the number or with the refusal.
+// The open calls of oiko-dsp: each tests what it is given and answers with the number or with the
+// refusal.
 ghost use mathlib.Core.Path.{_≡_};
 ghost use Rattle.answer.specs.Reply.{ofAnswer};
 ghost use Rattle.oiko_dsp.specs.Calls.{dbToGain, noteFrequency, noteFrequencyWithTuning};

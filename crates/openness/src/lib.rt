@@ -27,7 +27,8 @@ use voices::raise_voices;
 pub mod raise;
 pub mod voices;
 
-// So many bins are worked out at a time: enough for a loop over them to pay, and few enough to stay close at hand.
+// So many bins are worked out at a time: enough for a loop over them to pay, and few enough to stay
+// close at hand.
 const CHUNK: usize = 64;
 
 // The blocks of the largest mask.
@@ -35,8 +36,12 @@ const BLOCKS: usize = 128;
 
 // The ends of the table's blocks, where the walk by blocks may be taken.
 fn ends_where(compact: bool, lows: &mut [f32], highs: &mut [f32], row: &mut [f32], table: &[f32])
-    requires { ⌜ (length (now row) ≡ 64) × (length (now lows) ≡ 128) × (length (now highs) ≡ 128) × (compact ≡ true → (length (now table) ≤ 8193) × (RealTable (now table))) ⌝ }
-    ensures { λ _. ⌜ (compact ≡ true → Ends (now (table .entry)) (now (lows .exit)) (now (highs .exit))) ⌝ }
+    requires { ⌜ (length (now row) ≡ 64)
+        × (length (now lows) ≡ 128)
+        × (length (now highs) ≡ 128)
+        × (compact ≡ true → (length (now table) ≤ 8193) × (RealTable (now table))) ⌝ }
+    ensures { λ _. ⌜ (compact ≡ true →
+        Ends (now (table .entry)) (now (lows .exit)) (now (highs .exit))) ⌝ }
 {
     if compact {
         block_ends(lows, highs, row, table);
@@ -65,8 +70,16 @@ pub fn open_one(
     count: usize,
     grid: Grid,
 )
-    requires { ⌜ (now powers ≡ powerTable) × (now sines ≡ sineTable) × (now gaussians ≡ gaussianTable) × (grid .partials ≤ 24) × (grid .«last_bin» ≤ 2 ^ 24) × (tabled ≡ true → grid .«last_bin» < length (now table)) × (count ≤ 128) × (tabled ≡ true → SoundScene grid (take count voices) (now table)) ⌝ }
-    ensures { λ _. ⌜ now (out .exit) ≡ tabulate (length (now (out .entry))) (openness grid (logsOf tabled (now (table .entry))) side.mono (take count voices)) ⌝ }
+    requires { ⌜ (now powers ≡ powerTable)
+        × (now sines ≡ sineTable)
+        × (now gaussians ≡ gaussianTable)
+        × (grid .partials ≤ 24)
+        × (grid .«last_bin» ≤ 2 ^ 24)
+        × (tabled ≡ true → grid .«last_bin» < length (now table))
+        × (count ≤ 128)
+        × (tabled ≡ true → SoundScene grid (take count voices) (now table)) ⌝ }
+    ensures { λ _. ⌜ now (out .exit) ≡ tabulate (length (now (out .entry)))
+        (openness grid (logsOf tabled (now (table .entry))) side.mono (take count voices)) ⌝ }
 {
     // There is no second side: no lobe reaches bin 0.
     let mut nothing = [0.0f32; 1];
@@ -111,8 +124,18 @@ pub fn open_two(
     count: usize,
     grid: Grid,
 )
-    requires { ⌜ (now powers ≡ powerTable) × (now sines ≡ sineTable) × (now gaussians ≡ gaussianTable) × (grid .partials ≤ 24) × (grid .«last_bin» ≤ 2 ^ 24) × (grid .«last_bin» < length (now table)) × (count ≤ 128) × (SoundScene grid (take count voices) (now table)) ⌝ }
-    ensures { λ _. ⌜ (now (left .exit) ≡ tabulate (length (now (left .entry))) (openness grid (lent (now (table .entry))) side.left (take count voices))) × (now (right .exit) ≡ tabulate (length (now (right .entry))) (openness grid (lent (now (table .entry))) side.right (take count voices))) ⌝ }
+    requires { ⌜ (now powers ≡ powerTable)
+        × (now sines ≡ sineTable)
+        × (now gaussians ≡ gaussianTable)
+        × (grid .partials ≤ 24)
+        × (grid .«last_bin» ≤ 2 ^ 24)
+        × (grid .«last_bin» < length (now table))
+        × (count ≤ 128)
+        × (SoundScene grid (take count voices) (now table)) ⌝ }
+    ensures { λ _. ⌜ (now (left .exit) ≡ tabulate (length (now (left .entry)))
+        (openness grid (lent (now (table .entry))) side.left (take count voices)))
+        × (now (right .exit) ≡ tabulate (length (now (right .entry)))
+        (openness grid (lent (now (table .entry))) side.right (take count voices))) ⌝ }
 {
     let mut chunk = [0.0f32; CHUNK];
     let mut indexes = [0u32; CHUNK];

@@ -1,4 +1,5 @@
-// A tone raised on both sides of a mask, by one of two ways that write the same: its lobes together, block by block, or one after the other.
+// A tone raised on both sides of a mask, by one of two ways that write the same: its lobes
+// together, block by block, or one after the other.
 ghost use mathlib.Core.Path.{_≡_};
 ghost use mathlib.Core.Bool.{true, cond};
 ghost use Prim.Native.Nat.{_^_, _≤_, _<_};
@@ -43,8 +44,22 @@ fn raised_together(
     count: usize,
     gains: Gains,
 ) -> bool
-    requires { ⌜ (now gaussians ≡ gaussianTable) × (count ≤ 24) × (length (now chunk) ≡ 64) × (length (now indexes) ≡ 64) × (compact ≡ true → (SoundLobes grid lobes count) × (SidesReady grid (now table) (now lows) (now highs) (now first) (now second)) × (Upto binary32 3 (gains .first)) × (Upto binary32 3 (gains .second))) ⌝ }
-    ensures { λ r. ⌜ (r ≡ true → compact ≡ true) × (now (first .exit) ≡ cond r (mapAt (lobesJoined grid (lent (now (table .entry))) (gains .first) (take count lobes)) (now (first .entry))) (now (first .entry))) × (now (second .exit) ≡ cond r (mapAt (lobesJoined grid (lent (now (table .entry))) (gains .second) (take count lobes)) (now (second .entry))) (now (second .entry))) ⌝ }
+    requires { ⌜ (now gaussians ≡ gaussianTable)
+        × (count ≤ 24)
+        × (length (now chunk) ≡ 64)
+        × (length (now indexes) ≡ 64)
+        × (compact ≡ true →
+        (SoundLobes grid lobes count) ×
+        (SidesReady grid (now table) (now lows) (now highs) (now first) (now second)) ×
+        (Upto binary32 3 (gains .first)) ×
+        (Upto binary32 3 (gains .second))) ⌝ }
+    ensures { λ r. ⌜ (r ≡ true → compact ≡ true)
+        × (now (first .exit) ≡ cond r (mapAt
+        (lobesJoined grid (lent (now (table .entry))) (gains .first) (take count lobes))
+        (now (first .entry))) (now (first .entry)))
+        × (now (second .exit) ≡ cond r (mapAt
+        (lobesJoined grid (lent (now (table .entry))) (gains .second) (take count lobes))
+        (now (second .entry))) (now (second .entry))) ⌝ }
 {
     if compact {
         return rasterize_compact_harmonic_envelope(
@@ -85,8 +100,24 @@ pub fn raise_tone(
     tone: Tone,
     gains: Gains,
 )
-    requires { ⌜ (now powers ≡ powerTable) × (now octaves ≡ partialOctaves) × (now gaussians ≡ gaussianTable) × (length (now chunk) ≡ 64) × (length (now indexes) ≡ 64) × (grid .partials ≤ 24) × (grid .«last_bin» ≤ 2 ^ 24) × (tabled ≡ true → grid .«last_bin» < length (now table)) × (compact ≡ true → (tabled ≡ true) × (SidesReady grid (now table) (now lows) (now highs) (now first) (now second)) × (ToneReady grid tone (gains .first) (gains .second) (now table))) ⌝ }
-    ensures { λ _. ⌜ (now (first .exit) ≡ mapAt (toneJoined grid (logsOf tabled (now (table .entry))) (gains .first) tone) (now (first .entry))) × (now (second .exit) ≡ mapAt (toneJoined grid (logsOf tabled (now (table .entry))) (gains .second) tone) (now (second .entry))) ⌝ }
+    requires { ⌜ (now powers ≡ powerTable)
+        × (now octaves ≡ partialOctaves)
+        × (now gaussians ≡ gaussianTable)
+        × (length (now chunk) ≡ 64)
+        × (length (now indexes) ≡ 64)
+        × (grid .partials ≤ 24)
+        × (grid .«last_bin» ≤ 2 ^ 24)
+        × (tabled ≡ true → grid .«last_bin» < length (now table))
+        × (compact ≡ true →
+        (tabled ≡ true) ×
+        (SidesReady grid (now table) (now lows) (now highs) (now first) (now second)) ×
+        (ToneReady grid tone (gains .first) (gains .second) (now table))) ⌝ }
+    ensures { λ _. ⌜ (now (first .exit) ≡ mapAt
+        (toneJoined grid (logsOf tabled (now (table .entry))) (gains .first) tone)
+        (now (first .entry)))
+        × (now (second .exit) ≡ mapAt
+        (toneJoined grid (logsOf tabled (now (table .entry))) (gains .second) tone)
+        (now (second .entry))) ⌝ }
 {
     let count = partials_of(grid, tone);
     let lobes = lobes_of(powers, octaves, tabled, table, grid, tone, count);

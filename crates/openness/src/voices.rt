@@ -37,7 +37,8 @@ const CROWD: usize = 16;
 
 fn gains_of(sines: &SineTable, stereo: bool, voice: MaskVoice) -> Gains
     requires { ⌜ now sines ≡ sineTable ⌝ }
-    ensures { λ r. ⌜ (r .first ≡ channelGain (firstSide stereo) voice) × (r .second ≡ channelGain (secondSide stereo) voice) ⌝ }
+    ensures { λ r. ⌜ (r .first ≡ channelGain (firstSide stereo) voice)
+        × (r .second ≡ channelGain (secondSide stereo) voice) ⌝ }
 {
     if stereo {
         return Gains {
@@ -71,8 +72,26 @@ fn raise_voice(
     grid: Grid,
     voice: MaskVoice,
 )
-    requires { ⌜ (now powers ≡ powerTable) × (now octaves ≡ partialOctaves) × (now sines ≡ sineTable) × (now gaussians ≡ gaussianTable) × (length (now chunk) ≡ 64) × (length (now indexes) ≡ 64) × (grid .partials ≤ 24) × (grid .«last_bin» ≤ 2 ^ 24) × (tabled ≡ true → grid .«last_bin» < length (now table)) × (compact ≡ true → (tabled ≡ true) × (SidesReady grid (now table) (now lows) (now highs) (now first) (now second)) × (RealGrid grid) × (RealVoice voice)) ⌝ }
-    ensures { λ _. ⌜ (now (first .exit) ≡ mapAt (λ bin held. voiceJoined grid (logsOf tabled (now (table .entry))) (channelGain (firstSide stereo)) bin held voice) (now (first .entry))) × (now (second .exit) ≡ mapAt (λ bin held. voiceJoined grid (logsOf tabled (now (table .entry))) (channelGain (secondSide stereo)) bin held voice) (now (second .entry))) ⌝ }
+    requires { ⌜ (now powers ≡ powerTable)
+        × (now octaves ≡ partialOctaves)
+        × (now sines ≡ sineTable)
+        × (now gaussians ≡ gaussianTable)
+        × (length (now chunk) ≡ 64)
+        × (length (now indexes) ≡ 64)
+        × (grid .partials ≤ 24)
+        × (grid .«last_bin» ≤ 2 ^ 24)
+        × (tabled ≡ true → grid .«last_bin» < length (now table))
+        × (compact ≡ true →
+        (tabled ≡ true) ×
+        (SidesReady grid (now table) (now lows) (now highs) (now first) (now second)) ×
+        (RealGrid grid) ×
+        (RealVoice voice)) ⌝ }
+    ensures { λ _. ⌜ (now (first .exit) ≡ mapAt (λ bin held. voiceJoined grid
+        (logsOf tabled (now (table .entry))) (channelGain (firstSide stereo)) bin held voice)
+        (now (first .entry)))
+        × (now (second .exit) ≡ mapAt (λ bin held. voiceJoined grid
+        (logsOf tabled (now (table .entry))) (channelGain (secondSide stereo)) bin held voice)
+        (now (second .entry))) ⌝ }
 {
     if voice.level <= SKIPPED_LEVEL {
         return;
@@ -118,8 +137,27 @@ pub fn raise_voices(
     voices: [MaskVoice; 128],
     count: usize,
 )
-    requires { ⌜ (now powers ≡ powerTable) × (now octaves ≡ partialOctaves) × (now sines ≡ sineTable) × (now gaussians ≡ gaussianTable) × (length (now chunk) ≡ 64) × (length (now indexes) ≡ 64) × (grid .partials ≤ 24) × (grid .«last_bin» ≤ 2 ^ 24) × (tabled ≡ true → grid .«last_bin» < length (now table)) × (count ≤ 128) × (compact ≡ true → (tabled ≡ true) × (SidesReady grid (now table) (now lows) (now highs) (now first) (now second)) × (RealGrid grid) × (All RealVoice (take count voices))) ⌝ }
-    ensures { λ _. ⌜ (now (first .exit) ≡ mapAt (λ bin held. fold (voiceJoined grid (logsOf tabled (now (table .entry))) (channelGain (firstSide stereo)) bin) held (take count voices)) (now (first .entry))) × (now (second .exit) ≡ mapAt (λ bin held. fold (voiceJoined grid (logsOf tabled (now (table .entry))) (channelGain (secondSide stereo)) bin) held (take count voices)) (now (second .entry))) ⌝ }
+    requires { ⌜ (now powers ≡ powerTable)
+        × (now octaves ≡ partialOctaves)
+        × (now sines ≡ sineTable)
+        × (now gaussians ≡ gaussianTable)
+        × (length (now chunk) ≡ 64)
+        × (length (now indexes) ≡ 64)
+        × (grid .partials ≤ 24)
+        × (grid .«last_bin» ≤ 2 ^ 24)
+        × (tabled ≡ true → grid .«last_bin» < length (now table))
+        × (count ≤ 128)
+        × (compact ≡ true →
+        (tabled ≡ true) ×
+        (SidesReady grid (now table) (now lows) (now highs) (now first) (now second)) ×
+        (RealGrid grid) ×
+        (All RealVoice (take count voices))) ⌝ }
+    ensures { λ _. ⌜ (now (first .exit) ≡ mapAt (λ bin held. fold
+        (voiceJoined grid (logsOf tabled (now (table .entry))) (channelGain (firstSide stereo)) bin)
+        held (take count voices)) (now (first .entry)))
+        × (now (second .exit) ≡ mapAt (λ bin held. fold (voiceJoined grid
+        (logsOf tabled (now (table .entry))) (channelGain (secondSide stereo)) bin) held
+        (take count voices)) (now (second .entry))) ⌝ }
 {
     let mut index: usize = 0;
     while index < count {

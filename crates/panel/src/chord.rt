@@ -1,4 +1,5 @@
-// The scene: C minor seventh, with the third on the left, the fifth on the right, and the seventh near 7:4.
+// The scene: C minor seventh, with the third on the left, the fifth on the right, and the seventh
+// near 7:4.
 use scene::MaskConfig;
 use scene::MaskVoice;
 use scene::MotionConfig;

@@ -1,4 +1,5 @@
-// Text and numbers on standard output, also to the right of a column, and a gain in the units of the panel.
+// Text and numbers on standard output, also to the right of a column, and a gain in the units of
+// the panel.
 use libc::STDOUT_FILENO;
 
 pub fn print(text: &[u8]) {

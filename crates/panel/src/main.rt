@@ -1,4 +1,5 @@
-// Builds both masks of a chord and prints their gains at its partials; with the argument --plot it writes a drawing of them in SVG.
+// Builds both masks of a chord and prints their gains at its partials; with the argument --plot it
+// writes a drawing of them in SVG.
 mod chord;
 mod figures;
 mod plot;

@@ -1,4 +1,5 @@
-// Both masks as a drawing in SVG, over log frequency: 1,000 units to the octave from 20 Hz on, 60 to the decibel from +12 dB down.
+// Both masks as a drawing in SVG, over log frequency: 1,000 units to the octave from 20 Hz on, 60
+// to the decibel from +12 dB down.
 use crate::chord::BINS;
 use crate::figures::decibels;
 use crate::figures::print;

@@ -5,7 +5,8 @@ ghost use Rattle.power.specs.Table.{highBits, powerTable, P, I};
 // The table P: a step for each value of F's high bits, and its end.
 pub type PowerTable = [u32; 257];
 
-// F has 24 bits. The high ones choose a step of the table, and the low ones the place within the step.
+// F has 24 bits. The high ones choose a step of the table, and the low ones the place within the
+// step.
 pub(crate) const LOW_BITS: u64 = 16;
 
 pub(crate) const LOW_MASK: u64 = 0xffff;

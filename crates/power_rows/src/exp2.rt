@@ -1,7 +1,9 @@
 // Powers of 2, of 10 and of e of the numbers of a row, in their place.
 //
-// Method. exp2 over at most 64 numbers, one short loop after the other: the numbers between the ends, their steps of 2^-24, the digits that the table gives for these, the powers. All but
-// the one that reads the table are done for several numbers at once: none branches, a number beyond the ends counts as 0, and the last loop sets the ends.
+// Method. exp2 over at most 64 numbers, one short loop after the other: the numbers between the
+// ends, their steps of 2^-24, the digits that the table gives for these, the powers. All but the
+// one that reads the table are done for several numbers at once: none branches, a number beyond the
+// ends counts as 0, and the last loop sets the ends.
 ghost use mathlib.Core.Path.{_≡_};
 ghost use Prim.Native.Nat.{ℕ, _+_, _*_, _/_, _%_, _^_, _≤_, _<_};
 ghost use lib.Dec.{T};
@@ -44,7 +46,9 @@ fn clipped(x: f32) -> f32
 
 fn clip(row: &[f32], inside: &mut [f32], start: usize, count: usize)
     requires { ⌜ (start + count ≤ length (now row)) × (count ≤ length (now inside)) ⌝ }
-    ensures { λ _. ⌜ now (inside .exit) ≡ mapRange (λ k held. clipped (getD (now (row .entry)) (start + k) nan)) 0 count (now (inside .entry)) ⌝ }
+    ensures { λ _. ⌜ now (inside .exit) ≡ mapRange
+        (λ k held. clipped (getD (now (row .entry)) (start + k) nan)) 0 count
+        (now (inside .entry)) ⌝ }
 {
     let mut k: usize = 0;
     while k < count {
@@ -62,8 +66,11 @@ fn steps_of(x: f32) -> u32
 }
 
 fn steps(inside: &[f32], found: &mut [u32], count: usize)
-    requires { ⌜ (count ≤ length (now inside)) × (count ≤ length (now found)) × ((k : ℕ) → k < count → T (between (getD (now inside) k nan))) ⌝ }
-    ensures { λ _. ⌜ now (found .exit) ≡ mapRange (λ k held. moved 128 (getD (now (inside .entry)) k nan)) 0 count (now (found .entry)) ⌝ }
+    requires { ⌜ (count ≤ length (now inside))
+        × (count ≤ length (now found))
+        × ((k : ℕ) → k < count → T (between (getD (now inside) k nan))) ⌝ }
+    ensures { λ _. ⌜ now (found .exit) ≡ mapRange
+        (λ k held. moved 128 (getD (now (inside .entry)) k nan)) 0 count (now (found .entry)) ⌝ }
 {
     let mut k: usize = 0;
     while k < count {
@@ -80,8 +87,11 @@ fn digits_of(powers: &PowerTable, y: u32) -> u32
 }
 
 fn leading(found: &[u32], values: &mut [u32], powers: &PowerTable, count: usize)
-    requires { ⌜ (now powers ≡ powerTable) × (count ≤ length (now found)) × (count ≤ length (now values)) ⌝ }
-    ensures { λ _. ⌜ now (values .exit) ≡ mapRange (λ k held. digits (getD (now (found .entry)) k 0)) 0 count (now (values .entry)) ⌝ }
+    requires { ⌜ (now powers ≡ powerTable)
+        × (count ≤ length (now found))
+        × (count ≤ length (now values)) ⌝ }
+    ensures { λ _. ⌜ now (values .exit) ≡ mapRange
+        (λ k held. digits (getD (now (found .entry)) k 0)) 0 count (now (values .entry)) ⌝ }
 {
     let mut k: usize = 0;
     while k < count {
@@ -114,8 +124,13 @@ fn power_of(x: f32, y: u32, q: u32) -> f32
 }
 
 fn finish(row: &mut [f32], found: &[u32], values: &[u32], start: usize, count: usize)
-    requires { ⌜ (start + count ≤ length (now row)) × (count ≤ length (now found)) × (count ≤ length (now values)) × ((k : ℕ) → k < count → Found (getD (now row) (start + k) nan) (getD (now found) k 0) (getD (now values) k 0)) ⌝ }
-    ensures { λ _. ⌜ now (row .exit) ≡ mapRange (λ i x. E2 x) start (start + count) (now (row .entry)) ⌝ }
+    requires { ⌜ (start + count ≤ length (now row))
+        × (count ≤ length (now found))
+        × (count ≤ length (now values))
+        × ((k : ℕ) → k < count →
+        Found (getD (now row) (start + k) nan) (getD (now found) k 0) (getD (now values) k 0)) ⌝ }
+    ensures { λ _. ⌜ now (row .exit)
+        ≡ mapRange (λ i x. E2 x) start (start + count) (now (row .entry)) ⌝ }
 {
     let next = start + count;
     let mut i = start;
@@ -135,8 +150,13 @@ fn few_powers(
     start: usize,
     count: usize,
 )
-    requires { ⌜ (now powers ≡ powerTable) × (start + count ≤ length (now row)) × (count ≤ length (now inside)) × (count ≤ length (now found)) × (count ≤ length (now values)) ⌝ }
-    ensures { λ _. ⌜ now (row .exit) ≡ mapRange (λ i x. E2 x) start (start + count) (now (row .entry)) ⌝ }
+    requires { ⌜ (now powers ≡ powerTable)
+        × (start + count ≤ length (now row))
+        × (count ≤ length (now inside))
+        × (count ≤ length (now found))
+        × (count ≤ length (now values)) ⌝ }
+    ensures { λ _. ⌜ now (row .exit)
+        ≡ mapRange (λ i x. E2 x) start (start + count) (now (row .entry)) ⌝ }
 {
     clip(row, inside, start, count);
     steps(inside, found, count);
@@ -169,7 +189,8 @@ pub fn exp2_row(row: &mut [f32], powers: &PowerTable, count: usize)
 
 fn scale(row: &mut [f32], factor: f32, count: usize)
     requires { ⌜ count ≤ length (now row) ⌝ }
-    ensures { λ _. ⌜ now (row .exit) ≡ mapRange (λ k y. mul binary32 y factor) 0 count (now (row .entry)) ⌝ }
+    ensures { λ _. ⌜ now (row .exit)
+        ≡ mapRange (λ k y. mul binary32 y factor) 0 count (now (row .entry)) ⌝ }
 {
     let mut k: usize = 0;
     while k < count {

@@ -1,7 +1,9 @@
 // The logarithms of a row of numbers.
 //
-// Method. As `log2` has it, in one short loop after the other over at most 64 numbers: a number that has no logarithm becomes 1, whose logarithm is 0 too; then the steps of the table,
-// and the logarithms within them. No number decides a branch, and what is no table lookup is done for several numbers at once, the quotients too.
+// Method. As `log2` has it, in one short loop after the other over at most 64 numbers: a number
+// that has no logarithm becomes 1, whose logarithm is 0 too; then the steps of the table, and the
+// logarithms within them. No number decides a branch, and what is no table lookup is done for
+// several numbers at once, the quotients too.
 ghost use mathlib.Core.Path.{_≡_};
 ghost use Prim.Native.Nat.{ℕ, _+_, _-_, _<_, _≤_};
 ghost use lib.Dec.{T};
@@ -45,8 +47,13 @@ fn make_ready(row: &mut [f32], start: usize, stop: usize)
 }
 
 fn find_steps(steps: &mut [u32], row: &[f32], powers: &PowerTable, start: usize, count: usize)
-    requires { ⌜ (now powers ≡ powerTable) × (count ≤ length (now steps)) × (start + count ≤ length (now row)) × ((k : ℕ) → k < count → T (positiveNormal (getD (now row) (start + k) nan))) ⌝ }
-    ensures { λ _. ⌜ now (steps .exit) ≡ mapRange (λ k held. stepOf (getD (now (row .entry)) (start + k) nan)) 0 count (now (steps .entry)) ⌝ }
+    requires { ⌜ (now powers ≡ powerTable)
+        × (count ≤ length (now steps))
+        × (start + count ≤ length (now row))
+        × ((k : ℕ) → k < count → T (positiveNormal (getD (now row) (start + k) nan))) ⌝ }
+    ensures { λ _. ⌜ now (steps .exit) ≡ mapRange
+        (λ k held. stepOf (getD (now (row .entry)) (start + k) nan)) 0 count
+        (now (steps .entry)) ⌝ }
 {
     let mut k: usize = 0;
     while k < count {
@@ -56,7 +63,13 @@ fn find_steps(steps: &mut [u32], row: &[f32], powers: &PowerTable, start: usize,
 }
 
 fn take_logs(row: &mut [f32], steps: &[u32], powers: &PowerTable, start: usize, stop: usize)
-    requires { ⌜ (now powers ≡ powerTable) × (start ≤ stop) × (stop ≤ length (now row)) × (stop ≤ start + length (now steps)) × ((i : ℕ) → start ≤ i → i < stop → T (positiveNormal (getD (now row) i nan)) × (getD (now steps) (i - start) 0 ≡ stepOf (getD (now row) i nan))) ⌝ }
+    requires { ⌜ (now powers ≡ powerTable)
+        × (start ≤ stop)
+        × (stop ≤ length (now row))
+        × (stop ≤ start + length (now steps))
+        × ((i : ℕ) → start ≤ i → i < stop →
+        T (positiveNormal (getD (now row) i nan)) ×
+        (getD (now steps) (i - start) 0 ≡ stepOf (getD (now row) i nan))) ⌝ }
     ensures { λ _. ⌜ now (row .exit) ≡ mapRange (λ i v. L2 v) start stop (now (row .entry)) ⌝ }
 {
     let mut i = start;
@@ -67,7 +80,10 @@ fn take_logs(row: &mut [f32], steps: &[u32], powers: &PowerTable, start: usize, 
 }
 
 fn log2_part(row: &mut [f32], steps: &mut [u32], powers: &PowerTable, start: usize, stop: usize)
-    requires { ⌜ (now powers ≡ powerTable) × (start ≤ stop) × (stop ≤ length (now row)) × (stop ≤ start + length (now steps)) ⌝ }
+    requires { ⌜ (now powers ≡ powerTable)
+        × (start ≤ stop)
+        × (stop ≤ length (now row))
+        × (stop ≤ start + length (now steps)) ⌝ }
     ensures { λ _. ⌜ now (row .exit) ≡ mapRange (λ i v. L2 v) start stop (now (row .entry)) ⌝ }
 {
     make_ready(row, start, stop);
@@ -90,7 +106,8 @@ pub fn log2_row(row: &mut [f32], powers: &PowerTable, count: usize)
     requires { ⌜ (now powers ≡ powerTable) × (count ≤ length (now row)) ⌝ }
     ensures { λ _. ⌜ now (row .exit) ≡ mapRange (λ k v. L2 v) 0 count (now (row .entry)) ⌝ }
 {
-    // A table of its own is none that a store to the row could change, so that the compiler may read it for several numbers at once.
+    // A table of its own is none that a store to the row could change, so that the compiler may
+    // read it for several numbers at once.
     let own = *powers;
     let mut steps = [0u32; PART];
     let mut start: usize = 0;

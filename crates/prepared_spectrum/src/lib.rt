@@ -22,8 +22,12 @@ pub fn fill_block(
     overlap: usize,
     block: &mut [f32],
 )
-    requires { ⌜ (length (now window) ≤ 16384) × (length (now smooth) ≡ length (now window)) × (length (now block) ≡ blockLength (length (now window))) × (0 < overlap) ⌝ }
-    ensures { λ _. ⌜ now (block .exit) ≡ blockOf «sample_rate» (now (window .entry)) (now (smooth .entry)) overlap ⌝ }
+    requires { ⌜ (length (now window) ≤ 16384)
+        × (length (now smooth) ≡ length (now window))
+        × (length (now block) ≡ blockLength (length (now window)))
+        × (0 < overlap) ⌝ }
+    ensures { λ _. ⌜ now (block .exit)
+        ≡ blockOf «sample_rate» (now (window .entry)) (now (smooth .entry)) overlap ⌝ }
 {
     let size = window.len();
     let middle = 2 * size;

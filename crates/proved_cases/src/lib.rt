@@ -1,1 +1,2 @@
-// The proved cases of document 01: the list is in specs/, and the theorem that each holds in proofs/. There is no code.
+// The proved cases of document 01: the list is in specs/, and the theorem that each holds in
+// proofs/. There is no code.

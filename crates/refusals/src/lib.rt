@@ -32,7 +32,8 @@ pub fn of_settings(config: MaskConfig) -> Outcome
     Outcome::Done
 }
 
-// Refusals 3, 4 and 5: the number of voices, the lengths of the slices, and a voice outside its limits.
+// Refusals 3, 4 and 5: the number of voices, the lengths of the slices, and a voice outside its
+// limits.
 pub fn of_voices(voices: [MaskVoice; 128], count: usize, lengths: bool) -> Outcome
     ensures { λ r. ⌜ ofOutcome r ≡ voicesReply voices count lengths ⌝ }
 {
@@ -59,9 +60,11 @@ fn entry_accepted(bin: usize, entry: f32) -> bool
     limits::table_entry(entry)
 }
 
-// Whether no entry from 1 on is outside its limits. None of them ends the loop, so that it is done for several entries at once.
+// Whether no entry from 1 on is outside its limits. None of them ends the loop, so that it is done
+// for several entries at once.
 fn none_outside(table: &[f32]) -> bool
-    ensures { λ r. ⌜ (r ≡ true → firstEntryOutside (now (table .entry)) ≡ length (now (table .entry))) ⌝ }
+    ensures { λ r. ⌜ (r ≡ true →
+        firstEntryOutside (now (table .entry)) ≡ length (now (table .entry))) ⌝ }
 {
     let mut outside: usize = 0;
     let mut bin: usize = 0;
@@ -72,7 +75,8 @@ fn none_outside(table: &[f32]) -> bool
     outside == 0
 }
 
-// The lowest index, from 1 on, of a table entry outside its limits; the table's length where there is none.
+// The lowest index, from 1 on, of a table entry outside its limits; the table's length where there
+// is none.
 fn first_entry_outside(table: &[f32]) -> usize
     ensures { λ r. ⌜ r ≡ firstEntryOutside (now (table .entry)) ⌝ }
 {

@@ -1,4 +1,5 @@
-// Replays the oracle's lists `masks`. A record is its call's number, the settings, the lengths of the masks, the curve, and what else the call takes.
+// Replays the oracle's lists `masks`. A record is its call's number, the settings, the lengths of
+// the masks, the curve, and what else the call takes.
 use replay::list;
 use replay::settings;
 use replay::slice;

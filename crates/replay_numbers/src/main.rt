@@ -1,4 +1,5 @@
-// Replays the oracle's list `numbers`: the functions of floats. A record is four words: the function's number, and three bit patterns.
+// Replays the oracle's list `numbers`: the functions of floats. A record is four words: the
+// function's number, and three bit patterns.
 use elementary::Function;
 use float32::bits::of_bits;
 use replay::list;

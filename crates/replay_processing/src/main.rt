@@ -1,4 +1,5 @@
-// Replays the oracle's list `processing`. A record is its call's number and as many words as the call takes; a slice takes 8.
+// Replays the oracle's list `processing`. A record is its call's number and as many words as the
+// call takes; a slice takes 8.
 use replay::list;
 use replay::slice;
 use replay::text;

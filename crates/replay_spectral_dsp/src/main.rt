@@ -1,4 +1,5 @@
-// Replays the oracle's list `spectral_dsp`. A record is its call's number and as many words as the call takes.
+// Replays the oracle's list `spectral_dsp`. A record is its call's number and as many words as the
+// call takes.
 use answer::Envelopes;
 use replay::list;
 use replay::settings;

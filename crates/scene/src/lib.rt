@@ -9,7 +9,8 @@ ghost use Rattle.scene.specs.Made.{shapeOf, silentVoice};
 // A call is given at most so many voices.
 pub const MOST_VOICES: usize = 128;
 
-// A note that is held, with its expression. Laid out as in C, so that a slice of them crosses to other languages.
+// A note that is held, with its expression. Laid out as in C, so that a slice of them crosses to
+// other languages.
 #[repr(C)]
 pub struct MaskVoice {
     pub note: u8,
@@ -18,7 +19,8 @@ pub struct MaskVoice {
     // Semitones above the equal-tempered pitch of the note.
     pub tuning_semitones: f32,
     pub pressure: f32,
-    // From 0 to 1. At 0.5 the partials fall off by the settings' rolloff, below they are darker, above brighter.
+    // From 0 to 1. At 0.5 the partials fall off by the settings' rolloff, below they are darker,
+    // above brighter.
     pub timbre: f32,
     // The base strength, velocity included.
     pub volume_gain: f32,
@@ -156,7 +158,8 @@ pub fn voice_accepted(voice: MaskVoice) -> bool
     both(pitch, both(limits::level(voice.level), sound))
 }
 
-// The lowest index of a voice outside its limits; the count where there is none. Voices past the count are not tested.
+// The lowest index of a voice outside its limits; the count where there is none. Voices past the
+// count are not tested.
 pub fn first_voice_outside(voices: [MaskVoice; 128], count: usize) -> usize
     requires { ⌜ count ≤ 128 ⌝ }
     ensures { λ r. ⌜ r ≡ firstVoiceOutside voices count ⌝ }

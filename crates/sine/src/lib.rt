@@ -1,9 +1,13 @@
-// Sine and cosine of an f32 angle in radians, over the table R that the caller makes once and lends.
+// Sine and cosine of an f32 angle in radians, over the table R that the caller makes once and
+// lends.
 //
-// Method. The angle becomes U, its place in the turn in units of 2^-24 of a turn (turns.rt). A quarter of the turn is
-// read from R, forwards or backwards, with the straight line between two entries, and given its sign (wave.rt).
-// R holds the sines of a quarter turn in 256 steps, in units of 2^-30 (table.rt). The result is exact as an f32.
-// Over the places of the first quarter, whose values the others repeat, it is within 4.8e-6 of the sine (measured).
+// Method. The angle becomes U, its place in the turn in units of 2^-24 of a turn (turns.rt). A
+// quarter of the turn is read from R, forwards or backwards, with the straight line between two
+// entries, and given its sign (wave.rt).
+// R holds the sines of a quarter turn in 256 steps, in units of 2^-30 (table.rt). The result is
+// exact as an f32.
+// Over the places of the first quarter, whose values the others repeat, it is within 4.8e-6 of the
+// sine (measured).
 ghost use mathlib.Core.Path.{_≡_};
 ghost use Rattle.sine.specs.Table.{sineTable};
 ghost use Rattle.sine.specs.Sine.{sinOf, cosOf};

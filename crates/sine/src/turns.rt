@@ -1,7 +1,9 @@
 // The place of an angle in its turn.
 //
-// Method. The angle times 0.15915494, rounded once, is u, the angle in turns. Its floor in units of 2^-24 of a turn is one sum with whole turns (fixed_point), which makes a negative
-// u too a matter of whole numbers, and a mask takes the turns away again. From 2^23 turns on every u is a whole number of turns, and the place is 0.
+// Method. The angle times 0.15915494, rounded once, is u, the angle in turns. Its floor in units of
+// 2^-24 of a turn is one sum with whole turns (fixed_point), which makes a negative u too a matter
+// of whole numbers, and a mask takes the turns away again. From 2^23 turns on every u is a whole
+// number of turns, and the place is 0.
 ghost use mathlib.Core.Path.{_≡_};
 ghost use Prim.Native.Nat.{_%_, _^_, _≤_};
 ghost use lib.Dec.{T};
@@ -50,7 +52,8 @@ pub fn place_in_turn(angle: f32) -> u64
     0
 }
 
-// The same, `ahead` of the angle and without a branch, so that a loop over angles is done for several at once.
+// The same, `ahead` of the angle and without a branch, so that a loop over angles is done for
+// several at once.
 pub fn place_ahead(angle: f32, ahead: u64) -> u32
     requires { ⌜ ahead ≤ 2 ^ 22 ⌝ }
     ensures { λ r. ⌜ r ≡ placeAhead ahead angle ⌝ }
@@ -60,7 +63,9 @@ pub fn place_ahead(angle: f32, ahead: u64) -> u32
 
 // The angle in turns; or 0, which has the same place, where `far_steps` does not take them.
 fn near_turns(angle: f32) -> f32
-    ensures { λ r. ⌜ T (fits binary32 r) × T (within (neg farthest) farthest r) × (moved (2 ^ 128) r % 2 ^ 24 ≡ U angle) ⌝ }
+    ensures { λ r. ⌜ T (fits binary32 r)
+        × T (within (neg farthest) farthest r)
+        × (moved (2 ^ 128) r % 2 ^ 24 ≡ U angle) ⌝ }
 {
     let u = angle * TURNS_PER_RADIAN;
     if in_range(u, FARTHEST_BACK, FARTHEST) {

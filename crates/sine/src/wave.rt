@@ -1,8 +1,9 @@
 // The sine of a place in the turn.
 //
-// Method. The place U has the quarter q in its two top bits and the way p into it in the 22 others; odd quarters are
-// read backwards. The 8 top bits of p pick an entry of R and the 14 others the part of the step to the next, rounded
-// down. Of the 30 digits 24 are kept, which an f32 holds exactly.
+// Method. The place U has the quarter q in its two top bits and the way p into it in the 22 others;
+// odd quarters are read backwards. The 8 top bits of p pick an entry of R and the 14 others the
+// part of the step to the next, rounded down. Of the 30 digits 24 are kept, which an f32 holds
+// exactly.
 ghost use mathlib.Core.Path.{_≡_};
 ghost use mathlib.Core.Bool.{cond};
 ghost use Prim.Native.Nat.{_^_, _<_, _≤_};
@@ -51,7 +52,8 @@ fn turned_place(place: u64) -> u64
     p
 }
 
-// w, or -w where it is to be negative: a choice between two numbers, and not a branch that no processor can foresee.
+// w, or -w where it is to be negative: a choice between two numbers, and not a branch that no
+// processor can foresee.
 fn signed(negative: bool, w: u32) -> i32
     requires { ⌜ w ≤ 16777216 ⌝ }
     ensures { λ r. ⌜ r ≡ cond negative (negℤ (pos w)) (pos w) ⌝ }

@@ -1,7 +1,9 @@
 // Sine and cosine of the angles of a row, in their place.
 //
-// Method. One short loop after the other over at most 64 angles: their places in the turn, the steps of R that these lie in, the values there, the waves. All but the one that reads R
-// are done for several angles at once: none branches, and an angle so large that its place is 0, or none, becomes 0 turns.
+// Method. One short loop after the other over at most 64 angles: their places in the turn, the
+// steps of R that these lie in, the values there, the waves. All but the one that reads R are done
+// for several angles at once: none branches, and an angle so large that its place is 0, or none,
+// becomes 0 turns.
 ghost use mathlib.Core.Path.{_≡_};
 ghost use mathlib.Core.Bool.{cond};
 ghost use Prim.Native.Nat.{ℕ, _+_, _-_, _^_, _≤_, _<_};
@@ -24,8 +26,12 @@ const ROW: usize = 64;
 
 // The places of the angles from `start` on.
 fn places(row: &[f32], found: &mut [u32], start: usize, count: usize, ahead: u64)
-    requires { ⌜ (start + count ≤ length (now row)) × (count ≤ length (now found)) × (ahead ≤ 2 ^ 22) ⌝ }
-    ensures { λ _. ⌜ now (found .exit) ≡ mapRange (λ k held. placeAhead ahead (getD (now (row .entry)) (start + k) nan)) 0 count (now (found .entry)) ⌝ }
+    requires { ⌜ (start + count ≤ length (now row))
+        × (count ≤ length (now found))
+        × (ahead ≤ 2 ^ 22) ⌝ }
+    ensures { λ _. ⌜ now (found .exit) ≡ mapRange
+        (λ k held. placeAhead ahead (getD (now (row .entry)) (start + k) nan)) 0 count
+        (now (found .entry)) ⌝ }
 {
     let mut k: usize = 0;
     while k < count {
@@ -63,8 +69,13 @@ fn step_of(place: u32) -> Step
 }
 
 fn steps(places: &[u32], indexes: &mut [u32], parts: &mut [u32], count: usize)
-    requires { ⌜ (count ≤ length (now places)) × (count ≤ length (now indexes)) × (count ≤ length (now parts)) ⌝ }
-    ensures { λ _. ⌜ (now (indexes .exit) ≡ mapRange (λ k held. indexOf (getD (now (places .entry)) k 0)) 0 count (now (indexes .entry))) × (now (parts .exit) ≡ mapRange (λ k held. partOf (getD (now (places .entry)) k 0)) 0 count (now (parts .entry))) ⌝ }
+    requires { ⌜ (count ≤ length (now places))
+        × (count ≤ length (now indexes))
+        × (count ≤ length (now parts)) ⌝ }
+    ensures { λ _. ⌜ (now (indexes .exit) ≡ mapRange
+        (λ k held. indexOf (getD (now (places .entry)) k 0)) 0 count (now (indexes .entry)))
+        × (now (parts .exit) ≡ mapRange (λ k held. partOf (getD (now (places .entry)) k 0)) 0 count
+        (now (parts .entry))) ⌝ }
 {
     let mut k: usize = 0;
     while k < count {
@@ -87,8 +98,14 @@ fn value_at(sines: &SineTable, index: u32, part: u32) -> u32
 
 // The value at each step, in the room of its index.
 fn values(indexes: &mut [u32], parts: &[u32], sines: &SineTable, count: usize)
-    requires { ⌜ (now sines ≡ sineTable) × (count ≤ length (now indexes)) × (count ≤ length (now parts)) × ((k : ℕ) → k < count → getD (now indexes) k 0 < 256) × ((k : ℕ) → k < count → getD (now parts) k 0 ≤ 2 ^ 14) ⌝ }
-    ensures { λ _. ⌜ now (indexes .exit) ≡ mapRange (λ k index. valueAt index (getD (now (parts .entry)) k 0)) 0 count (now (indexes .entry)) ⌝ }
+    requires { ⌜ (now sines ≡ sineTable)
+        × (count ≤ length (now indexes))
+        × (count ≤ length (now parts))
+        × ((k : ℕ) → k < count → getD (now indexes) k 0 < 256)
+        × ((k : ℕ) → k < count → getD (now parts) k 0 ≤ 2 ^ 14) ⌝ }
+    ensures { λ _. ⌜ now (indexes .exit) ≡ mapRange
+        (λ k index. valueAt index (getD (now (parts .entry)) k 0)) 0 count
+        (now (indexes .entry)) ⌝ }
 {
     let mut k: usize = 0;
     while k < count {
@@ -99,8 +116,13 @@ fn values(indexes: &mut [u32], parts: &[u32], sines: &SineTable, count: usize)
 
 // The waves of the angles from `start` on, by their places and the values there.
 fn levels(row: &mut [f32], places: &[u32], values: &[u32], start: usize, count: usize)
-    requires { ⌜ (start + count ≤ length (now row)) × (count ≤ length (now places)) × (count ≤ length (now values)) × ((k : ℕ) → k < count → getD (now values) k 0 ≤ 16777216) ⌝ }
-    ensures { λ _. ⌜ now (row .exit) ≡ mapRange (λ i held. levelAt (getD (now (places .entry)) (i - start) 0) (getD (now (values .entry)) (i - start) 0)) start (start + count) (now (row .entry)) ⌝ }
+    requires { ⌜ (start + count ≤ length (now row))
+        × (count ≤ length (now places))
+        × (count ≤ length (now values))
+        × ((k : ℕ) → k < count → getD (now values) k 0 ≤ 16777216) ⌝ }
+    ensures { λ _. ⌜ now (row .exit) ≡ mapRange (λ i held. levelAt
+        (getD (now (places .entry)) (i - start) 0) (getD (now (values .entry)) (i - start) 0)) start
+        (start + count) (now (row .entry)) ⌝ }
 {
     let next = start + count;
     let mut i = start;
@@ -121,8 +143,14 @@ fn waves(
     count: usize,
     ahead: u64,
 )
-    requires { ⌜ (now sines ≡ sineTable) × (start + count ≤ length (now row)) × (count ≤ length (now found)) × (count ≤ length (now indexes)) × (count ≤ length (now parts)) × (ahead ≤ 2 ^ 22) ⌝ }
-    ensures { λ _. ⌜ now (row .exit) ≡ mapRange (λ i angle. wave (placeAhead ahead angle)) start (start + count) (now (row .entry)) ⌝ }
+    requires { ⌜ (now sines ≡ sineTable)
+        × (start + count ≤ length (now row))
+        × (count ≤ length (now found))
+        × (count ≤ length (now indexes))
+        × (count ≤ length (now parts))
+        × (ahead ≤ 2 ^ 22) ⌝ }
+    ensures { λ _. ⌜ now (row .exit) ≡ mapRange (λ i angle. wave (placeAhead ahead angle)) start
+        (start + count) (now (row .entry)) ⌝ }
 {
     places(row, found, start, count, ahead);
     steps(found, indexes, parts, count);
@@ -133,7 +161,8 @@ fn waves(
 // The waves of the first `count` angles, a part of a turn ahead of each.
 fn waves_ahead(row: &mut [f32], sines: &SineTable, count: usize, ahead: u64)
     requires { ⌜ (now sines ≡ sineTable) × (count ≤ length (now row)) × (ahead ≤ 2 ^ 22) ⌝ }
-    ensures { λ _. ⌜ now (row .exit) ≡ mapRange (λ i angle. wave (placeAhead ahead angle)) 0 count (now (row .entry)) ⌝ }
+    ensures { λ _. ⌜ now (row .exit)
+        ≡ mapRange (λ i angle. wave (placeAhead ahead angle)) 0 count (now (row .entry)) ⌝ }
 {
     let mut found = [0u32; ROW];
     let mut indexes = [0u32; ROW];
@@ -157,7 +186,8 @@ fn waves_ahead(row: &mut [f32], sines: &SineTable, count: usize, ahead: u64)
 
 pub fn sin_row(row: &mut [f32], sines: &SineTable, count: usize)
     requires { ⌜ (now sines ≡ sineTable) × (count ≤ length (now row)) ⌝ }
-    ensures { λ _. ⌜ now (row .exit) ≡ mapRange (λ k angle. sinOf angle) 0 count (now (row .entry)) ⌝ }
+    ensures { λ _. ⌜ now (row .exit)
+        ≡ mapRange (λ k angle. sinOf angle) 0 count (now (row .entry)) ⌝ }
 {
     waves_ahead(row, sines, count, 0);
 }
@@ -165,7 +195,8 @@ pub fn sin_row(row: &mut [f32], sines: &SineTable, count: usize)
 // A quarter of a turn ahead of the sine.
 pub fn cos_row(row: &mut [f32], sines: &SineTable, count: usize)
     requires { ⌜ (now sines ≡ sineTable) × (count ≤ length (now row)) ⌝ }
-    ensures { λ _. ⌜ now (row .exit) ≡ mapRange (λ k angle. cosOf angle) 0 count (now (row .entry)) ⌝ }
+    ensures { λ _. ⌜ now (row .exit)
+        ≡ mapRange (λ k angle. cosOf angle) 0 count (now (row .entry)) ⌝ }
 {
     waves_ahead(row, sines, count, QUARTER);
 }

@@ -30,7 +30,8 @@ pub fn fill(output: &mut [f32], value: f32)
 // Rust's `output[..count].fill(value)`.
 pub fn fill_first(output: &mut [f32], value: f32, count: usize)
     requires { ⌜ count ≤ length (now output) ⌝ }
-    ensures { λ _. ⌜ now (output .exit) ≡ mapRange (λ k held. value) 0 count (now (output .entry)) ⌝ }
+    ensures { λ _. ⌜ now (output .exit)
+        ≡ mapRange (λ k held. value) 0 count (now (output .entry)) ⌝ }
 {
     let mut index: usize = 0;
     while index < count {

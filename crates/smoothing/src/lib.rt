@@ -1,4 +1,5 @@
-// Gains of neighbouring bins brought closer to each other, and gains that approach a target with time: both in decibels.
+// Gains of neighbouring bins brought closer to each other, and gains that approach a target with
+// time: both in decibels.
 ghost use mathlib.Core.Path.{_≡_};
 ghost use Prim.Native.Nat.{ℕ, _+_, _-_, _≤_, _<_};
 ghost use lib.ListN.{length, getD};
@@ -35,7 +36,9 @@ const INSIDE: usize = 62;
 // The gains from `start` on, silence as the least that has decibels.
 fn audible(row: &mut [f32], gains: &[f32], start: usize, count: usize)
     requires { ⌜ (count ≤ length (now row)) × (start + count ≤ length (now gains)) ⌝ }
-    ensures { λ _. ⌜ now (row .exit) ≡ mapRange (λ k held. maximum (getD (now (gains .entry)) (start + k) nan) LEAST-GAIN) 0 count (now (row .entry)) ⌝ }
+    ensures { λ _. ⌜ now (row .exit) ≡ mapRange
+        (λ k held. maximum (getD (now (gains .entry)) (start + k) nan) LEAST-GAIN) 0 count
+        (now (row .entry)) ⌝ }
 {
     let mut k: usize = 0;
     while k < count {
@@ -47,7 +50,9 @@ fn audible(row: &mut [f32], gains: &[f32], start: usize, count: usize)
 // The decibels of gains whose logarithms are given.
 fn scaled(row: &mut [f32], count: usize)
     requires { ⌜ count ≤ length (now row) ⌝ }
-    ensures { λ _. ⌜ now (row .exit) ≡ mapRange (λ k log. mul binary32 DECIBELS-PER-DECADE (mul binary32 log LOG10-2)) 0 count (now (row .entry)) ⌝ }
+    ensures { λ _. ⌜ now (row .exit) ≡ mapRange
+        (λ k log. mul binary32 DECIBELS-PER-DECADE (mul binary32 log LOG10-2)) 0 count
+        (now (row .entry)) ⌝ }
 {
     let mut k: usize = 0;
     while k < count {
@@ -58,8 +63,12 @@ fn scaled(row: &mut [f32], count: usize)
 
 // The decibels of the gains from `start` on, one short loop after the other.
 fn decibel_row(row: &mut [f32], gains: &[f32], powers: &PowerTable, start: usize, count: usize)
-    requires { ⌜ (now powers ≡ powerTable) × (count ≤ length (now row)) × (start + count ≤ length (now gains)) ⌝ }
-    ensures { λ _. ⌜ now (row .exit) ≡ mapRange (λ k held. decibelsOf (getD (now (gains .entry)) (start + k) nan)) 0 count (now (row .entry)) ⌝ }
+    requires { ⌜ (now powers ≡ powerTable)
+        × (count ≤ length (now row))
+        × (start + count ≤ length (now gains)) ⌝ }
+    ensures { λ _. ⌜ now (row .exit) ≡ mapRange
+        (λ k held. decibelsOf (getD (now (gains .entry)) (start + k) nan)) 0 count
+        (now (row .entry)) ⌝ }
 {
     audible(row, gains, start, count);
     power_rows::log2::log2_row(row, powers, count);
@@ -79,8 +88,13 @@ fn softened(powers: &PowerTable, left_db: f32, center_db: f32, right_db: f32) ->
 
 // The bins from `start` on, by a row of decibels that begins with the neighbour on the left.
 fn soften_row(output: &mut [f32], row: &[f32], powers: &PowerTable, start: usize, stop: usize)
-    requires { ⌜ (now powers ≡ powerTable) × (start ≤ stop) × (stop ≤ length (now output)) × (stop + 2 ≤ start + length (now row)) ⌝ }
-    ensures { λ _. ⌜ now (output .exit) ≡ mapRange (λ b x. softened (getD (now (row .entry)) (b - start) nan) (getD (now (row .entry)) (b - start + 1) nan) (getD (now (row .entry)) (b - start + 2) nan)) start stop (now (output .entry)) ⌝ }
+    requires { ⌜ (now powers ≡ powerTable)
+        × (start ≤ stop)
+        × (stop ≤ length (now output))
+        × (stop + 2 ≤ start + length (now row)) ⌝ }
+    ensures { λ _. ⌜ now (output .exit) ≡ mapRange (λ b x. softened
+        (getD (now (row .entry)) (b - start) nan) (getD (now (row .entry)) (b - start + 1) nan)
+        (getD (now (row .entry)) (b - start + 2) nan)) start stop (now (output .entry)) ⌝ }
 {
     let mut bin = start;
     while bin < stop {
@@ -92,8 +106,11 @@ fn soften_row(output: &mut [f32], row: &[f32], powers: &PowerTable, start: usize
 
 // Every bin but the first and the last, in rows.
 fn soften_inside(powers: &PowerTable, source: &[f32], output: &mut [f32])
-    requires { ⌜ (now powers ≡ powerTable) × (length (now source) ≡ length (now output)) × (3 ≤ length (now source)) ⌝ }
-    ensures { λ _. ⌜ now (output .exit) ≡ mapRange (λ b x. softenedAt (now (source .entry)) b) 1 (length (now (source .entry)) - 1) (now (output .entry)) ⌝ }
+    requires { ⌜ (now powers ≡ powerTable)
+        × (length (now source) ≡ length (now output))
+        × (3 ≤ length (now source)) ⌝ }
+    ensures { λ _. ⌜ now (output .exit) ≡ mapRange (λ b x. softenedAt (now (source .entry)) b) 1
+        (length (now (source .entry)) - 1) (now (output .entry)) ⌝ }
 {
     let last = source.len() - 1;
     let mut row = [0.0f32; ROW];
@@ -147,8 +164,16 @@ fn move_row(
     start: usize,
     stop: usize,
 )
-    requires { ⌜ (now powers ≡ powerTable) × (start ≤ stop) × (stop ≤ length (now current)) × (stop ≤ start + length (now «current_db»)) × (stop ≤ start + length (now «target_db»)) × ((i : ℕ) → start ≤ i → i < stop → getD (now «current_db») (i - start) nan ≡ decibelsOf (getD (now current) i nan)) ⌝ }
-    ensures { λ _. ⌜ now (current .exit) ≡ mapRange (λ i x. nearer blend (decibelsOf x) (getD (now («target_db» .entry)) (i - start) nan)) start stop (now (current .entry)) ⌝ }
+    requires { ⌜ (now powers ≡ powerTable)
+        × (start ≤ stop)
+        × (stop ≤ length (now current))
+        × (stop ≤ start + length (now «current_db»))
+        × (stop ≤ start + length (now «target_db»))
+        × ((i : ℕ) → start ≤ i → i < stop →
+        getD (now «current_db») (i - start) nan ≡ decibelsOf (getD (now current) i nan)) ⌝ }
+    ensures { λ _. ⌜ now (current .exit) ≡ mapRange
+        (λ i x. nearer blend (decibelsOf x) (getD (now («target_db» .entry)) (i - start) nan)) start
+        stop (now (current .entry)) ⌝ }
 {
     let mut i = start;
     while i < stop {
@@ -160,7 +185,8 @@ fn move_row(
 // The loop over rows of bins, for the table that `smooth` lends it.
 fn smooth_all(powers: &PowerTable, current: &mut [f32], target: &[f32], elapsed_seconds: f32)
     requires { ⌜ (now powers ≡ powerTable) × (length (now current) ≡ length (now target)) ⌝ }
-    ensures { λ _. ⌜ now (current .exit) ≡ smoothedOf (now (current .entry)) (now (target .entry)) «elapsed_seconds» ⌝ }
+    ensures { λ _. ⌜ now (current .exit)
+        ≡ smoothedOf (now (current .entry)) (now (target .entry)) «elapsed_seconds» ⌝ }
 {
     let part = blend(powers, elapsed_seconds);
     let mut current_db = [0.0f32; ROW];
@@ -179,7 +205,8 @@ fn smooth_all(powers: &PowerTable, current: &mut [f32], target: &[f32], elapsed_
 // Each gain moved toward its target with a 30 ms time constant.
 pub fn smooth(current: &mut [f32], target: &[f32], elapsed_seconds: f32)
     requires { ⌜ length (now current) ≡ length (now target) ⌝ }
-    ensures { λ _. ⌜ now (current .exit) ≡ smoothedOf (now (current .entry)) (now (target .entry)) «elapsed_seconds» ⌝ }
+    ensures { λ _. ⌜ now (current .exit)
+        ≡ smoothedOf (now (current .entry)) (now (target .entry)) «elapsed_seconds» ⌝ }
 {
     let powers = power_table();
     smooth_all(&powers, current, target, elapsed_seconds);

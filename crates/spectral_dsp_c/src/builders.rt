@@ -1,4 +1,5 @@
-// The mask builders. The voices cross as a slice of records and the settings as one record by value, each laid out as in C.
+// The mask builders. The voices cross as a slice of records and the settings as one record by
+// value, each laid out as in C.
 ghost use mathlib.Core.Path.{_≡_};
 ghost use Prim.Native.Nat.{_*_};
 ghost use lib.ListN.{length, take, drop};
@@ -24,8 +25,13 @@ fn mono(
     settings: Settings,
     place: &mut usize,
 ) -> u32
-    ensures { λ r. ⌜ Given (withSettings settings (λ config. voicesMaskReply (length (now (output .entry))) (now («manual_mask_db» .entry)) voices count config)) r (now (place .entry)) (now (place .exit)) ⌝ }
-    ensures { λ _. ⌜ now (output .exit) ≡ written (withSettings settings (λ config. voicesMaskReply (length (now (output .entry))) (now («manual_mask_db» .entry)) voices count config)) (maskOf (now («manual_mask_db» .entry)) (configOf settings) none side.mono (take count voices)) (now (output .entry)) ⌝ }
+    ensures { λ r. ⌜ Given (withSettings settings (λ config. voicesMaskReply
+        (length (now (output .entry))) (now («manual_mask_db» .entry)) voices count config)) r
+        (now (place .entry)) (now (place .exit)) ⌝ }
+    ensures { λ _. ⌜ now (output .exit) ≡ written (withSettings settings (λ config. voicesMaskReply
+        (length (now (output .entry))) (now («manual_mask_db» .entry)) voices count config)) (maskOf
+        (now («manual_mask_db» .entry)) (configOf settings) none side.mono (take count voices))
+        (now (output .entry)) ⌝ }
 {
     let config = config_of(settings);
     if 7 < settings.motion_shape {
@@ -49,8 +55,13 @@ pub extern "C" fn dovetable_build_mask_with_voices(
     settings: Settings,
     place: &mut usize,
 ) -> u32
-    ensures { λ r. ⌜ Given (withSettings settings (λ config. voicesMaskReply (length (now (output .entry))) (now («manual_mask_db» .entry)) (now (voices .entry)) (length (now (voices .entry))) config)) r (now (place .entry)) (now (place .exit)) ⌝ }
-    ensures { λ _. ⌜ now (output .exit) ≡ written (withSettings settings (λ config. voicesMaskReply (length (now (output .entry))) (now («manual_mask_db» .entry)) (now (voices .entry)) (length (now (voices .entry))) config)) (maskOf (now («manual_mask_db» .entry)) (configOf settings) none side.mono (now (voices .entry))) (now (output .entry)) ⌝ }
+    ensures { λ r. ⌜ Given (withSettings settings (λ config. voicesMaskReply
+        (length (now (output .entry))) (now («manual_mask_db» .entry)) (now (voices .entry))
+        (length (now (voices .entry))) config)) r (now (place .entry)) (now (place .exit)) ⌝ }
+    ensures { λ _. ⌜ now (output .exit) ≡ written (withSettings settings (λ config. voicesMaskReply
+        (length (now (output .entry))) (now («manual_mask_db» .entry)) (now (voices .entry))
+        (length (now (voices .entry))) config)) (maskOf (now («manual_mask_db» .entry))
+        (configOf settings) none side.mono (now (voices .entry))) (now (output .entry)) ⌝ }
 {
     mono(
         output,
@@ -71,8 +82,13 @@ fn tabled(
     table: &[f32],
     place: &mut usize,
 ) -> u32
-    ensures { λ r. ⌜ Given (withSettings settings (λ config. tabledMaskReply (length (now (output .entry))) (now («manual_mask_db» .entry)) voices count config (now (table .entry)))) r (now (place .entry)) (now (place .exit)) ⌝ }
-    ensures { λ _. ⌜ now (output .exit) ≡ written (withSettings settings (λ config. tabledMaskReply (length (now (output .entry))) (now («manual_mask_db» .entry)) voices count config (now (table .entry)))) (maskOf (now («manual_mask_db» .entry)) (configOf settings) (lent (now (table .entry))) side.mono (take count voices)) (now (output .entry)) ⌝ }
+    ensures { λ r. ⌜ Given (withSettings settings (λ config. tabledMaskReply
+        (length (now (output .entry))) (now («manual_mask_db» .entry)) voices count config
+        (now (table .entry)))) r (now (place .entry)) (now (place .exit)) ⌝ }
+    ensures { λ _. ⌜ now (output .exit) ≡ written (withSettings settings (λ config. tabledMaskReply
+        (length (now (output .entry))) (now («manual_mask_db» .entry)) voices count config
+        (now (table .entry)))) (maskOf (now («manual_mask_db» .entry)) (configOf settings)
+        (lent (now (table .entry))) side.mono (take count voices)) (now (output .entry)) ⌝ }
 {
     let config = config_of(settings);
     if 7 < settings.motion_shape {
@@ -98,8 +114,15 @@ pub extern "C" fn dovetable_build_mask_with_voices_precomputed(
     table: &[f32],
     place: &mut usize,
 ) -> u32
-    ensures { λ r. ⌜ Given (withSettings settings (λ config. tabledMaskReply (length (now (output .entry))) (now («manual_mask_db» .entry)) (now (voices .entry)) (length (now (voices .entry))) config (now (table .entry)))) r (now (place .entry)) (now (place .exit)) ⌝ }
-    ensures { λ _. ⌜ now (output .exit) ≡ written (withSettings settings (λ config. tabledMaskReply (length (now (output .entry))) (now («manual_mask_db» .entry)) (now (voices .entry)) (length (now (voices .entry))) config (now (table .entry)))) (maskOf (now («manual_mask_db» .entry)) (configOf settings) (lent (now (table .entry))) side.mono (now (voices .entry))) (now (output .entry)) ⌝ }
+    ensures { λ r. ⌜ Given (withSettings settings (λ config. tabledMaskReply
+        (length (now (output .entry))) (now («manual_mask_db» .entry)) (now (voices .entry))
+        (length (now (voices .entry))) config (now (table .entry)))) r (now (place .entry))
+        (now (place .exit)) ⌝ }
+    ensures { λ _. ⌜ now (output .exit) ≡ written (withSettings settings (λ config. tabledMaskReply
+        (length (now (output .entry))) (now («manual_mask_db» .entry)) (now (voices .entry))
+        (length (now (voices .entry))) config (now (table .entry)))) (maskOf
+        (now («manual_mask_db» .entry)) (configOf settings) (lent (now (table .entry))) side.mono
+        (now (voices .entry))) (now (output .entry)) ⌝ }
 {
     tabled(
         output,
@@ -122,9 +145,19 @@ fn stereo(
     table: &[f32],
     place: &mut usize,
 ) -> u32
-    ensures { λ r. ⌜ Given (withSettings settings (λ config. stereoReply (length (now (left .entry))) (length (now (right .entry))) (now («manual_mask_db» .entry)) voices count config (now (table .entry)))) r (now (place .entry)) (now (place .exit)) ⌝ }
-    ensures { λ _. ⌜ now (left .exit) ≡ written (withSettings settings (λ config. stereoReply (length (now (left .entry))) (length (now (right .entry))) (now («manual_mask_db» .entry)) voices count config (now (table .entry)))) (maskOf (now («manual_mask_db» .entry)) (configOf settings) (lent (now (table .entry))) side.left (take count voices)) (now (left .entry)) ⌝ }
-    ensures { λ _. ⌜ now (right .exit) ≡ written (withSettings settings (λ config. stereoReply (length (now (left .entry))) (length (now (right .entry))) (now («manual_mask_db» .entry)) voices count config (now (table .entry)))) (maskOf (now («manual_mask_db» .entry)) (configOf settings) (lent (now (table .entry))) side.right (take count voices)) (now (right .entry)) ⌝ }
+    ensures { λ r. ⌜ Given (withSettings settings (λ config. stereoReply
+        (length (now (left .entry))) (length (now (right .entry))) (now («manual_mask_db» .entry))
+        voices count config (now (table .entry)))) r (now (place .entry)) (now (place .exit)) ⌝ }
+    ensures { λ _. ⌜ now (left .exit) ≡ written (withSettings settings (λ config. stereoReply
+        (length (now (left .entry))) (length (now (right .entry))) (now («manual_mask_db» .entry))
+        voices count config (now (table .entry)))) (maskOf (now («manual_mask_db» .entry))
+        (configOf settings) (lent (now (table .entry))) side.left (take count voices))
+        (now (left .entry)) ⌝ }
+    ensures { λ _. ⌜ now (right .exit) ≡ written (withSettings settings (λ config. stereoReply
+        (length (now (left .entry))) (length (now (right .entry))) (now («manual_mask_db» .entry))
+        voices count config (now (table .entry)))) (maskOf (now («manual_mask_db» .entry))
+        (configOf settings) (lent (now (table .entry))) side.right (take count voices))
+        (now (right .entry)) ⌝ }
 {
     let config = config_of(settings);
     if 7 < settings.motion_shape {
@@ -152,9 +185,20 @@ pub extern "C" fn dovetable_build_stereo_masks_with_voices_precomputed(
     table: &[f32],
     place: &mut usize,
 ) -> u32
-    ensures { λ r. ⌜ Given (withSettings settings (λ config. stereoReply (length (now (left .entry))) (length (now (right .entry))) (now («manual_mask_db» .entry)) (now (voices .entry)) (length (now (voices .entry))) config (now (table .entry)))) r (now (place .entry)) (now (place .exit)) ⌝ }
-    ensures { λ _. ⌜ now (left .exit) ≡ written (withSettings settings (λ config. stereoReply (length (now (left .entry))) (length (now (right .entry))) (now («manual_mask_db» .entry)) (now (voices .entry)) (length (now (voices .entry))) config (now (table .entry)))) (maskOf (now («manual_mask_db» .entry)) (configOf settings) (lent (now (table .entry))) side.left (now (voices .entry))) (now (left .entry)) ⌝ }
-    ensures { λ _. ⌜ now (right .exit) ≡ written (withSettings settings (λ config. stereoReply (length (now (left .entry))) (length (now (right .entry))) (now («manual_mask_db» .entry)) (now (voices .entry)) (length (now (voices .entry))) config (now (table .entry)))) (maskOf (now («manual_mask_db» .entry)) (configOf settings) (lent (now (table .entry))) side.right (now (voices .entry))) (now (right .entry)) ⌝ }
+    ensures { λ r. ⌜ Given (withSettings settings (λ config. stereoReply
+        (length (now (left .entry))) (length (now (right .entry))) (now («manual_mask_db» .entry))
+        (now (voices .entry)) (length (now (voices .entry)))
+        config (now (table .entry)))) r (now (place .entry)) (now (place .exit)) ⌝ }
+    ensures { λ _. ⌜ now (left .exit) ≡ written (withSettings settings (λ config. stereoReply
+        (length (now (left .entry))) (length (now (right .entry))) (now («manual_mask_db» .entry))
+        (now (voices .entry)) (length (now (voices .entry))) config (now (table .entry)))) (maskOf
+        (now («manual_mask_db» .entry)) (configOf settings) (lent (now (table .entry))) side.left
+        (now (voices .entry))) (now (left .entry)) ⌝ }
+    ensures { λ _. ⌜ now (right .exit) ≡ written (withSettings settings (λ config. stereoReply
+        (length (now (left .entry))) (length (now (right .entry))) (now («manual_mask_db» .entry))
+        (now (voices .entry)) (length (now (voices .entry))) config (now (table .entry)))) (maskOf
+        (now («manual_mask_db» .entry)) (configOf settings) (lent (now (table .entry))) side.right
+        (now (voices .entry))) (now (right .entry)) ⌝ }
 {
     stereo(
         left,
@@ -179,9 +223,22 @@ fn prepared(
     block: &[f32],
     place: &mut usize,
 ) -> u32
-    ensures { λ r. ⌜ Given (withSettings settings (λ config. stereoReply (length (now (left .entry))) (length (now (right .entry))) (now («manual_mask_db» .entry)) voices count config (drop (4 * config .«fft_size») (now (block .entry))))) r (now (place .entry)) (now (place .exit)) ⌝ }
-    ensures { λ _. ⌜ now (left .exit) ≡ written (withSettings settings (λ config. stereoReply (length (now (left .entry))) (length (now (right .entry))) (now («manual_mask_db» .entry)) voices count config (drop (4 * config .«fft_size») (now (block .entry))))) (maskOf (now («manual_mask_db» .entry)) (configOf settings) (lent (drop (4 * settings .«fft_size») (now (block .entry)))) side.left (take count voices)) (now (left .entry)) ⌝ }
-    ensures { λ _. ⌜ now (right .exit) ≡ written (withSettings settings (λ config. stereoReply (length (now (left .entry))) (length (now (right .entry))) (now («manual_mask_db» .entry)) voices count config (drop (4 * config .«fft_size») (now (block .entry))))) (maskOf (now («manual_mask_db» .entry)) (configOf settings) (lent (drop (4 * settings .«fft_size») (now (block .entry)))) side.right (take count voices)) (now (right .entry)) ⌝ }
+    ensures { λ r. ⌜ Given (withSettings settings (λ config. stereoReply
+        (length (now (left .entry))) (length (now (right .entry))) (now («manual_mask_db» .entry))
+        voices count config (drop (4 * config .«fft_size») (now (block .entry))))) r
+        (now (place .entry)) (now (place .exit)) ⌝ }
+    ensures { λ _. ⌜ now (left .exit) ≡ written (withSettings settings (λ config. stereoReply
+        (length (now (left .entry))) (length (now (right .entry))) (now («manual_mask_db» .entry))
+        voices count config (drop (4 * config .«fft_size») (now (block .entry))))) (maskOf
+        (now («manual_mask_db» .entry)) (configOf settings)
+        (lent (drop (4 * settings .«fft_size») (now (block .entry)))) side.left (take count voices))
+        (now (left .entry)) ⌝ }
+    ensures { λ _. ⌜ now (right .exit) ≡ written (withSettings settings (λ config. stereoReply
+        (length (now (left .entry))) (length (now (right .entry))) (now («manual_mask_db» .entry))
+        voices count config (drop (4 * config .«fft_size») (now (block .entry))))) (maskOf
+        (now («manual_mask_db» .entry)) (configOf settings)
+        (lent (drop (4 * settings .«fft_size») (now (block .entry)))) side.right
+        (take count voices)) (now (right .entry)) ⌝ }
 {
     let config = config_of(settings);
     if 7 < settings.motion_shape {
@@ -209,9 +266,25 @@ pub extern "C" fn dovetable_build_stereo_masks_with_prepared_spectrum(
     block: &[f32],
     place: &mut usize,
 ) -> u32
-    ensures { λ r. ⌜ Given (withSettings settings (λ config. stereoReply (length (now (left .entry))) (length (now (right .entry))) (now («manual_mask_db» .entry)) (now (voices .entry)) (length (now (voices .entry))) config (drop (4 * config .«fft_size») (now (block .entry))))) r (now (place .entry)) (now (place .exit)) ⌝ }
-    ensures { λ _. ⌜ now (left .exit) ≡ written (withSettings settings (λ config. stereoReply (length (now (left .entry))) (length (now (right .entry))) (now («manual_mask_db» .entry)) (now (voices .entry)) (length (now (voices .entry))) config (drop (4 * config .«fft_size») (now (block .entry))))) (maskOf (now («manual_mask_db» .entry)) (configOf settings) (lent (drop (4 * settings .«fft_size») (now (block .entry)))) side.left (now (voices .entry))) (now (left .entry)) ⌝ }
-    ensures { λ _. ⌜ now (right .exit) ≡ written (withSettings settings (λ config. stereoReply (length (now (left .entry))) (length (now (right .entry))) (now («manual_mask_db» .entry)) (now (voices .entry)) (length (now (voices .entry))) config (drop (4 * config .«fft_size») (now (block .entry))))) (maskOf (now («manual_mask_db» .entry)) (configOf settings) (lent (drop (4 * settings .«fft_size») (now (block .entry)))) side.right (now (voices .entry))) (now (right .entry)) ⌝ }
+    ensures { λ r. ⌜ Given (withSettings settings (λ config. stereoReply
+        (length (now (left .entry))) (length (now (right .entry))) (now («manual_mask_db» .entry))
+        (now (voices .entry)) (length (now (voices .entry))) config
+        (drop (4 * config .«fft_size») (now (block .entry))))) r (now (place .entry))
+        (now (place .exit)) ⌝ }
+    ensures { λ _. ⌜ now (left .exit) ≡ written (withSettings settings (λ config. stereoReply
+        (length (now (left .entry))) (length (now (right .entry))) (now («manual_mask_db» .entry))
+        (now (voices .entry)) (length (now (voices .entry))) config
+        (drop (4 * config .«fft_size») (now (block .entry))))) (maskOf
+        (now («manual_mask_db» .entry)) (configOf settings)
+        (lent (drop (4 * settings .«fft_size») (now (block .entry)))) side.left
+        (now (voices .entry))) (now (left .entry)) ⌝ }
+    ensures { λ _. ⌜ now (right .exit) ≡ written (withSettings settings (λ config. stereoReply
+        (length (now (left .entry))) (length (now (right .entry))) (now («manual_mask_db» .entry))
+        (now (voices .entry)) (length (now (voices .entry))) config
+        (drop (4 * config .«fft_size») (now (block .entry))))) (maskOf
+        (now («manual_mask_db» .entry)) (configOf settings)
+        (lent (drop (4 * settings .«fft_size») (now (block .entry)))) side.right
+        (now (voices .entry))) (now (right .entry)) ⌝ }
 {
     prepared(
         left,
@@ -234,8 +307,13 @@ pub extern "C" fn dovetable_build_mask(
     settings: Settings,
     place: &mut usize,
 ) -> u32
-    ensures { λ r. ⌜ Given (withSettings settings (λ config. maskReply (length (now (output .entry))) (now («manual_mask_db» .entry)) (now («note_levels» .entry)) config)) r (now (place .entry)) (now (place .exit)) ⌝ }
-    ensures { λ _. ⌜ now (output .exit) ≡ written (withSettings settings (λ config. maskReply (length (now (output .entry))) (now («manual_mask_db» .entry)) (now («note_levels» .entry)) config)) (maskOf (now («manual_mask_db» .entry)) (configOf settings) none side.mono (voicesOf (now («note_levels» .entry)))) (now (output .entry)) ⌝ }
+    ensures { λ r. ⌜ Given (withSettings settings (λ config. maskReply
+        (length (now (output .entry))) (now («manual_mask_db» .entry)) (now («note_levels» .entry))
+        config)) r (now (place .entry)) (now (place .exit)) ⌝ }
+    ensures { λ _. ⌜ now (output .exit) ≡ written (withSettings settings (λ config. maskReply
+        (length (now (output .entry))) (now («manual_mask_db» .entry)) (now («note_levels» .entry))
+        config)) (maskOf (now («manual_mask_db» .entry)) (configOf settings) none side.mono
+        (voicesOf (now («note_levels» .entry)))) (now (output .entry)) ⌝ }
 {
     let config = config_of(settings);
     if 7 < settings.motion_shape {

@@ -18,8 +18,12 @@ pub extern "C" fn dovetable_build_dual_synthesis_window(
     overlap: usize,
     place: &mut usize,
 ) -> u32
-    ensures { λ r. ⌜ Given (dualReply (now (analysis .entry)) (length (now (synthesis .entry))) overlap) r (now (place .entry)) (now (place .exit)) ⌝ }
-    ensures { λ _. ⌜ now (synthesis .exit) ≡ written (dualReply (now (analysis .entry)) (length (now (synthesis .entry))) overlap) (dualOf (now (analysis .entry)) overlap) (now (synthesis .entry)) ⌝ }
+    ensures { λ r. ⌜ Given
+        (dualReply (now (analysis .entry)) (length (now (synthesis .entry))) overlap) r
+        (now (place .entry)) (now (place .exit)) ⌝ }
+    ensures { λ _. ⌜ now (synthesis .exit) ≡ written
+        (dualReply (now (analysis .entry)) (length (now (synthesis .entry))) overlap)
+        (dualOf (now (analysis .entry)) overlap) (now (synthesis .entry)) ⌝ }
 {
     let outcome = spectral_dsp::processing::build_dual_synthesis_window(
         analysis,
@@ -35,8 +39,11 @@ pub extern "C" fn dovetable_soften_spectral_edges(
     output: &mut [f32],
     place: &mut usize,
 ) -> u32
-    ensures { λ r. ⌜ Given (softenReply (now (source .entry)) (length (now (output .entry)))) r (now (place .entry)) (now (place .exit)) ⌝ }
-    ensures { λ _. ⌜ now (output .exit) ≡ written (softenReply (now (source .entry)) (length (now (output .entry)))) (softenedOf (now (source .entry))) (now (output .entry)) ⌝ }
+    ensures { λ r. ⌜ Given (softenReply (now (source .entry)) (length (now (output .entry)))) r
+        (now (place .entry)) (now (place .exit)) ⌝ }
+    ensures { λ _. ⌜ now (output .exit) ≡ written
+        (softenReply (now (source .entry)) (length (now (output .entry))))
+        (softenedOf (now (source .entry))) (now (output .entry)) ⌝ }
 {
     let outcome = spectral_dsp::processing::soften_spectral_edges(source, output);
     give_outcome(outcome, place)
@@ -49,14 +56,20 @@ pub extern "C" fn dovetable_smooth_mask_in_db(
     elapsed_seconds: f32,
     place: &mut usize,
 ) -> u32
-    ensures { λ r. ⌜ Given (smoothReply (now (current .entry)) (now (target .entry)) «elapsed_seconds») r (now (place .entry)) (now (place .exit)) ⌝ }
-    ensures { λ _. ⌜ now (current .exit) ≡ written (smoothReply (now (current .entry)) (now (target .entry)) «elapsed_seconds») (smoothedOf (now (current .entry)) (now (target .entry)) «elapsed_seconds») (now (current .entry)) ⌝ }
+    ensures { λ r. ⌜ Given
+        (smoothReply (now (current .entry)) (now (target .entry)) «elapsed_seconds») r
+        (now (place .entry)) (now (place .exit)) ⌝ }
+    ensures { λ _. ⌜ now (current .exit) ≡ written
+        (smoothReply (now (current .entry)) (now (target .entry)) «elapsed_seconds»)
+        (smoothedOf (now (current .entry)) (now (target .entry)) «elapsed_seconds»)
+        (now (current .entry)) ⌝ }
 {
     let outcome = spectral_dsp::processing::smooth_mask_in_db(current, target, elapsed_seconds);
     give_outcome(outcome, place)
 }
 
-// `PreparedSpectrum::new` on a lent block: the coherent gains of the window and of the smooth window.
+// `PreparedSpectrum::new` on a lent block: the coherent gains of the window and of the smooth
+// window.
 #[no_mangle]
 pub extern "C" fn dovetable_prepared_spectrum_new(
     sample_rate: f32,
@@ -68,8 +81,15 @@ pub extern "C" fn dovetable_prepared_spectrum_new(
     smooth_window_coherent_gain: &mut f32,
     place: &mut usize,
 ) -> u32
-    ensures { λ r. ⌜ GivenValues (preparedReply «sample_rate» (now (window .entry)) (now («smooth_analysis_window» .entry)) overlap (length (now (block .entry)))) r (now (place .entry)) (now (place .exit)) (now («window_coherent_gain» .entry)) (now («window_coherent_gain» .exit)) (now («smooth_window_coherent_gain» .entry)) (now («smooth_window_coherent_gain» .exit)) ⌝ }
-    ensures { λ _. ⌜ now (block .exit) ≡ written (preparedReply «sample_rate» (now (window .entry)) (now («smooth_analysis_window» .entry)) overlap (length (now (block .entry)))) (blockOf «sample_rate» (now (window .entry)) (now («smooth_analysis_window» .entry)) overlap) (now (block .entry)) ⌝ }
+    ensures { λ r. ⌜ GivenValues (preparedReply «sample_rate» (now (window .entry))
+        (now («smooth_analysis_window» .entry)) overlap (length (now (block .entry)))) r
+        (now (place .entry)) (now (place .exit)) (now («window_coherent_gain» .entry))
+        (now («window_coherent_gain» .exit)) (now («smooth_window_coherent_gain» .entry))
+        (now («smooth_window_coherent_gain» .exit)) ⌝ }
+    ensures { λ _. ⌜ now (block .exit) ≡ written (preparedReply «sample_rate» (now (window .entry))
+        (now («smooth_analysis_window» .entry)) overlap (length (now (block .entry)))) (blockOf
+        «sample_rate» (now (window .entry)) (now («smooth_analysis_window» .entry)) overlap)
+        (now (block .entry)) ⌝ }
 {
     let prepared = PreparedSpectrum::new(
         sample_rate,

@@ -22,7 +22,8 @@ pub extern "C" fn dovetable_note_emphasis_gain(
     gain: &mut f32,
     place: &mut usize,
 ) -> u32
-    ensures { λ r. ⌜ GivenValue (noteEmphasisGain «width_cents») r (now (place .entry)) (now (place .exit)) (now (gain .entry)) (now (gain .exit)) ⌝ }
+    ensures { λ r. ⌜ GivenValue (noteEmphasisGain «width_cents») r (now (place .entry))
+        (now (place .exit)) (now (gain .entry)) (now (gain .exit)) ⌝ }
 {
     give_answer(spectral_dsp::note_emphasis_gain(width_cents), gain, place)
 }
@@ -35,7 +36,8 @@ pub extern "C" fn dovetable_note_gate_gain(
     gain: &mut f32,
     place: &mut usize,
 ) -> u32
-    ensures { λ r. ⌜ GivenValue (noteGateGain «note_depth_db» «width_cents» openness) r (now (place .entry)) (now (place .exit)) (now (gain .entry)) (now (gain .exit)) ⌝ }
+    ensures { λ r. ⌜ GivenValue (noteGateGain «note_depth_db» «width_cents» openness) r
+        (now (place .entry)) (now (place .exit)) (now (gain .entry)) (now (gain .exit)) ⌝ }
 {
     give_answer(
         spectral_dsp::note_gate_gain(note_depth_db, width_cents, openness),
@@ -52,7 +54,8 @@ pub extern "C" fn dovetable_manual_gain_at_bin(
     gain: &mut f32,
     place: &mut usize,
 ) -> u32
-    ensures { λ r. ⌜ GivenValue (manualGainAtBin (now («mask_db» .entry)) bin «fft_size») r (now (place .entry)) (now (place .exit)) (now (gain .entry)) (now (gain .exit)) ⌝ }
+    ensures { λ r. ⌜ GivenValue (manualGainAtBin (now («mask_db» .entry)) bin «fft_size») r
+        (now (place .entry)) (now (place .exit)) (now (gain .entry)) (now (gain .exit)) ⌝ }
 {
     give_answer(
         spectral_dsp::manual_gain_at_bin(mask_db, bin, fft_size),
@@ -71,7 +74,10 @@ pub extern "C" fn dovetable_motion_openness(
     openness: &mut f32,
     place: &mut usize,
 ) -> u32
-    ensures { λ r. ⌜ GivenValue (withShape shape (opennessReply frequency (motionOf shape «depth_db» phase «size_octaves»))) r (now (place .entry)) (now (place .exit)) (now (openness .entry)) (now (openness .exit)) ⌝ }
+    ensures { λ r. ⌜ GivenValue
+        (withShape shape (opennessReply frequency (motionOf shape «depth_db» phase «size_octaves»)))
+        r (now (place .entry)) (now (place .exit)) (now (openness .entry))
+        (now (openness .exit)) ⌝ }
 {
     if 7 < shape {
         return give_answer(Answer::Refused(2, 0), openness, place);
@@ -94,7 +100,10 @@ pub extern "C" fn dovetable_motion_attenuation_db(
     attenuation_db: &mut f32,
     place: &mut usize,
 ) -> u32
-    ensures { λ r. ⌜ GivenValue (withShape shape (attenuationReply frequency (motionOf shape «depth_db» phase «size_octaves»))) r (now (place .entry)) (now (place .exit)) (now («attenuation_db» .entry)) (now («attenuation_db» .exit)) ⌝ }
+    ensures { λ r. ⌜ GivenValue (withShape shape
+        (attenuationReply frequency (motionOf shape «depth_db» phase «size_octaves»))) r
+        (now (place .entry)) (now (place .exit)) (now («attenuation_db» .entry))
+        (now («attenuation_db» .exit)) ⌝ }
 {
     if 7 < shape {
         return give_answer(Answer::Refused(2, 0), attenuation_db, place);
@@ -116,7 +125,9 @@ pub extern "C" fn dovetable_motion_compensation_gain(
     gain: &mut f32,
     place: &mut usize,
 ) -> u32
-    ensures { λ r. ⌜ GivenValue (withShape shape (compensationReply (motionOf shape «depth_db» phase «size_octaves»))) r (now (place .entry)) (now (place .exit)) (now (gain .entry)) (now (gain .exit)) ⌝ }
+    ensures { λ r. ⌜ GivenValue
+        (withShape shape (compensationReply (motionOf shape «depth_db» phase «size_octaves»))) r
+        (now (place .entry)) (now (place .exit)) (now (gain .entry)) (now (gain .exit)) ⌝ }
 {
     if 7 < shape {
         return give_answer(Answer::Refused(2, 0), gain, place);
@@ -133,8 +144,12 @@ pub extern "C" fn dovetable_prepare(
     fft_size: usize,
     place: &mut usize,
 ) -> u32
-    ensures { λ r. ⌜ Given (prepareReply (length (now (table .entry))) «sample_rate» «fft_size») r (now (place .entry)) (now (place .exit)) ⌝ }
-    ensures { λ _. ⌜ now (table .exit) ≡ written (prepareReply (length (now (table .entry))) «sample_rate» «fft_size») (tabulate (length (now (table .entry))) (prepared «sample_rate» «fft_size»)) (now (table .entry)) ⌝ }
+    ensures { λ r. ⌜ Given (prepareReply (length (now (table .entry))) «sample_rate» «fft_size») r
+        (now (place .entry)) (now (place .exit)) ⌝ }
+    ensures { λ _. ⌜ now (table .exit) ≡ written
+        (prepareReply (length (now (table .entry))) «sample_rate» «fft_size»)
+        (tabulate (length (now (table .entry))) (prepared «sample_rate» «fft_size»))
+        (now (table .entry)) ⌝ }
 {
     let outcome = spectral_dsp::MaskWorkspace::prepare(table, sample_rate, fft_size);
     give_outcome(outcome, place)
@@ -149,8 +164,13 @@ pub extern "C" fn dovetable_advance_note_envelopes(
     fade_ms: f32,
     place: &mut usize,
 ) -> u32
-    ensures { λ r. ⌜ Given (bankReply (now (levels .entry)) (now (held .entry)) «elapsed_seconds» «fade_ms») r (now (place .entry)) (now (place .exit)) ⌝ }
-    ensures { λ _. ⌜ now (levels .exit) ≡ written (bankReply (now (levels .entry)) (now (held .entry)) «elapsed_seconds» «fade_ms») (advanced (now (held .entry)) «elapsed_seconds» «fade_ms» (now (levels .entry))) (now (levels .entry)) ⌝ }
+    ensures { λ r. ⌜ Given
+        (bankReply (now (levels .entry)) (now (held .entry)) «elapsed_seconds» «fade_ms») r
+        (now (place .entry)) (now (place .exit)) ⌝ }
+    ensures { λ _. ⌜ now (levels .exit) ≡ written
+        (bankReply (now (levels .entry)) (now (held .entry)) «elapsed_seconds» «fade_ms»)
+        (advanced (now (held .entry)) «elapsed_seconds» «fade_ms» (now (levels .entry)))
+        (now (levels .entry)) ⌝ }
 {
     let outcome = advance_bank(levels, held, elapsed_seconds, fade_ms);
     give_outcome(outcome, place)

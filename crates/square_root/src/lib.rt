@@ -1,8 +1,9 @@
 // The square root, as IEEE 754 has it.
 //
-// Method: a number above zero is digits * 4^fours in squares of the smallest value, with digits of 47 or 48 places; so the root of
-// the digits has the 24 places that an f32 keeps, and fours is the exponent of the answer. The root is found digit by digit and
-// rounded by what is left: the answer is never midway between two values.
+// Method: a number above zero is digits * 4^fours in squares of the smallest value, with digits of
+// 47 or 48 places; so the root of the digits has the 24 places that an f32 keeps, and fours is the
+// exponent of the answer. The root is found digit by digit and rounded by what is left: the answer
+// is never midway between two values.
 ghost use mathlib.Core.Path.{_≡_};
 ghost use Prim.Native.Nat.{_*_, _^_, _<_, _≤_};
 ghost use lib.Ieee.{binary32};
@@ -14,7 +15,8 @@ struct EvenPower {
     fours: u32,
 }
 
-// mant * 2^(expo + 149): what the digits lack of 47 places is taken from the exponent, and one place more where it would be odd.
+// mant * 2^(expo + 149): what the digits lack of 47 places is taken from the exponent, and one
+// place more where it would be odd.
 fn even_power(mant: u32, expo: u32) -> EvenPower
     requires { ⌜ (0 < mant) × (mant < 2 ^ 24) × (expo ≤ 253) ⌝ }
     ensures { λ r. ⌜ ByFours (mant * 2 ^ expo * 2 ^ 149) (r .digits) (r .fours) ⌝ }

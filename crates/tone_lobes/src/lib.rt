@@ -54,8 +54,14 @@ pub fn lobes_of(
     tone: Tone,
     count: usize,
 ) -> [Lobe; 24]
-    requires { ⌜ (now powers ≡ powerTable) × (now octaves ≡ partialOctaves) × (grid .partials ≤ 24) × (grid .«last_bin» ≤ 2 ^ 24) × (tabled ≡ true → grid .«last_bin» < length (now table)) × (count ≡ length (partialsOf grid tone)) ⌝ }
-    ensures { λ r. ⌜ (take count r ≡ lobesOf grid (logsOf tabled (now (table .entry))) tone) × (length r ≡ 24) ⌝ }
+    requires { ⌜ (now powers ≡ powerTable)
+        × (now octaves ≡ partialOctaves)
+        × (grid .partials ≤ 24)
+        × (grid .«last_bin» ≤ 2 ^ 24)
+        × (tabled ≡ true → grid .«last_bin» < length (now table))
+        × (count ≡ length (partialsOf grid tone)) ⌝ }
+    ensures { λ r. ⌜ (take count r ≡ lobesOf grid (logsOf tabled (now (table .entry))) tone)
+        × (length r ≡ 24) ⌝ }
 {
     let mut lobes = empty_lobes();
     let mut p: usize = 0;

@@ -7,7 +7,8 @@ ghost use Rattle.windows.specs.Windows.{denominatorAt, dualOf, sumOf, co
 // A sum of squares below this counts as this.
 const LEAST_DIVISOR: f32 = 1.0e-12;
 
-// The index a hop after `at`, round the end of a window. One comparison: a remainder by a number that is not known takes longer than the rest of a term.
+// The index a hop after `at`, round the end of a window. One comparison: a remainder by a number
+// that is not known takes longer than the rest of a term.
 fn a_hop_on(at: usize, hop: usize, size: usize) -> usize
     requires { ⌜ (at < size) × (hop ≤ size) × (size < 2 ^ 61) ⌝ }
     ensures { λ r. ⌜ (r < size) × (r ≡ (at + hop) % size) ⌝ }
@@ -16,7 +17,8 @@ fn a_hop_on(at: usize, hop: usize, size: usize) -> usize
     if next < size { next } else { next - size }
 }
 
-// What the value at an index is divided by. The sum starts at the index itself, so that each index of a class has its own.
+// What the value at an index is divided by. The sum starts at the index itself, so that each index
+// of a class has its own.
 pub fn denominator(analysis: &[f32], hop: usize, overlap: usize, index: usize) -> f32
     requires { ⌜ (index < length (now analysis)) × (hop ≤ length (now analysis)) ⌝ }
     ensures { λ r. ⌜ r ≡ denominatorAt (now (analysis .entry)) hop overlap index ⌝ }
