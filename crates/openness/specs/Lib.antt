@@ -1,3 +1,4 @@
 pub mod Sides
 pub mod Openness
 pub mod Scene
+pub mod Raising

@@ -1,18 +1,15 @@
 // How far the voices open each bin.
 ghost use mathlib.Core.Path.{_≡_};
 ghost use mathlib.Core.Bool.{true};
-ghost use Prim.Native.Nat.{_^_, _≤_, _<_};
+ghost use Prim.Native.Nat.{_≤_};
 ghost use lib.ListN.{length, take};
 ghost use Rattle.lists.specs.Maps.{tabulate};
-ghost use Rattle.power.specs.Table.{powerTable};
-ghost use Rattle.sine.specs.Table.{sineTable};
-ghost use Rattle.gaussian.specs.Table.{gaussianTable};
 ghost use Rattle.lobes.specs.Pan as side;
 ghost use Rattle.lobes.specs.Distance.{lent, logsOf};
 ghost use Rattle.blocks.specs.Ends.{Ends};
 ghost use Rattle.block_walk.specs.Compact.{RealTable};
 ghost use Rattle.openness.specs.Openness.{openness};
-ghost use Rattle.openness.specs.Scene.{SoundScene};
+ghost use Rattle.openness.specs.Raising.{Open};
 use block_walk::columns::block_walk_pays;
 use blocks::block_ends;
 use gaussian::GaussianTable;
@@ -70,14 +67,8 @@ pub fn open_one(
     count: usize,
     grid: Grid,
 )
-    requires { ⌜ (now powers ≡ powerTable)
-        × (now sines ≡ sineTable)
-        × (now gaussians ≡ gaussianTable)
-        × (grid .partials ≤ 24)
-        × (grid .«last_bin» ≤ 2 ^ 24)
-        × (tabled ≡ true → grid .«last_bin» < length (now table))
-        × (count ≤ 128)
-        × (tabled ≡ true → SoundScene grid (take count voices) (now table)) ⌝ }
+    requires { ⌜ Open (now powers) (now sines) (now gaussians) tabled (now table) voices count
+        grid ⌝ }
     ensures { λ _. ⌜ now (out .exit) ≡ tabulate (length (now (out .entry)))
         (openness grid (logsOf tabled (now (table .entry))) side.mono (take count voices)) ⌝ }
 {
@@ -124,14 +115,8 @@ pub fn open_two(
     count: usize,
     grid: Grid,
 )
-    requires { ⌜ (now powers ≡ powerTable)
-        × (now sines ≡ sineTable)
-        × (now gaussians ≡ gaussianTable)
-        × (grid .partials ≤ 24)
-        × (grid .«last_bin» ≤ 2 ^ 24)
-        × (grid .«last_bin» < length (now table))
-        × (count ≤ 128)
-        × (SoundScene grid (take count voices) (now table)) ⌝ }
+    requires { ⌜ Open (now powers) (now sines) (now gaussians) true (now table) voices count
+        grid ⌝ }
     ensures { λ _. ⌜ (now (left .exit) ≡ tabulate (length (now (left .entry)))
         (openness grid (lent (now (table .entry))) side.left (take count voices)))
         × (now (right .exit) ≡ tabulate (length (now (right .entry)))

@@ -2,19 +2,12 @@
 // together, block by block, or one after the other.
 ghost use mathlib.Core.Path.{_≡_};
 ghost use mathlib.Core.Bool.{true, cond};
-ghost use Prim.Native.Nat.{_^_, _≤_, _<_};
-ghost use lib.ListN.{length, take};
-ghost use lib.Ieee.{binary32};
+ghost use lib.ListN.{take};
 ghost use Rattle.lists.specs.Maps.{mapAt};
-ghost use Rattle.float_laws.specs.Rise.{Upto};
-ghost use Rattle.power.specs.Table.{powerTable};
-ghost use Rattle.gaussian.specs.Table.{gaussianTable};
-ghost use Rattle.lobes.specs.Tone.{partialOctaves};
 ghost use Rattle.lobes.specs.Distance.{lent, logsOf};
 ghost use Rattle.lobe_joins.specs.Joined.{lobesJoined};
-ghost use Rattle.block_rows.specs.Most.{SoundLobes};
 ghost use Rattle.openness.specs.Openness.{toneJoined};
-ghost use Rattle.openness.specs.Scene.{SidesReady, ToneReady};
+ghost use Rattle.openness.specs.Raising.{RaiseTogether, RaiseTone};
 use block_walk::compact::rasterize_compact_harmonic_envelope;
 use gaussian::GaussianTable;
 use lobe_rows::Gains;
@@ -44,15 +37,9 @@ fn raised_together(
     count: usize,
     gains: Gains,
 ) -> bool
-    requires { ⌜ (now gaussians ≡ gaussianTable)
-        × (count ≤ 24)
-        × (length (now chunk) ≡ 64)
-        × (length (now indexes) ≡ 64)
-        × (compact ≡ true →
-        (SoundLobes grid lobes count) ×
-        (SidesReady grid (now table) (now lows) (now highs) (now first) (now second)) ×
-        (Upto binary32 3 (gains .first)) ×
-        (Upto binary32 3 (gains .second))) ⌝ }
+    requires { ⌜ RaiseTogether (now first) (now second) (now chunk) (now indexes) (now gaussians)
+        (now table) (now lows) (now highs) compact grid lobes count (gains .first)
+        (gains .second) ⌝ }
     ensures { λ r. ⌜ (r ≡ true → compact ≡ true)
         × (now (first .exit) ≡ cond r (mapAt
         (lobesJoined grid (lent (now (table .entry))) (gains .first) (take count lobes))
@@ -100,18 +87,9 @@ pub fn raise_tone(
     tone: Tone,
     gains: Gains,
 )
-    requires { ⌜ (now powers ≡ powerTable)
-        × (now octaves ≡ partialOctaves)
-        × (now gaussians ≡ gaussianTable)
-        × (length (now chunk) ≡ 64)
-        × (length (now indexes) ≡ 64)
-        × (grid .partials ≤ 24)
-        × (grid .«last_bin» ≤ 2 ^ 24)
-        × (tabled ≡ true → grid .«last_bin» < length (now table))
-        × (compact ≡ true →
-        (tabled ≡ true) ×
-        (SidesReady grid (now table) (now lows) (now highs) (now first) (now second)) ×
-        (ToneReady grid tone (gains .first) (gains .second) (now table))) ⌝ }
+    requires { ⌜ RaiseTone (now first) (now second) (now chunk) (now indexes) (now powers)
+        (now octaves) (now gaussians) tabled (now table) (now lows) (now highs) compact grid tone
+        (gains .first) (gains .second) ⌝ }
     ensures { λ _. ⌜ (now (first .exit) ≡ mapAt
         (toneJoined grid (logsOf tabled (now (table .entry))) (gains .first) tone)
         (now (first .entry)))

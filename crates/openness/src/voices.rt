@@ -1,21 +1,14 @@
 // The voices in their order.
 ghost use mathlib.Core.Path.{_≡_};
-ghost use mathlib.Core.Bool.{true};
-ghost use Prim.Native.Nat.{_^_, _≤_, _<_};
-ghost use lib.ListN.{length, take};
+ghost use lib.ListN.{take};
 ghost use Rattle.lists.specs.Folds.{fold};
 ghost use Rattle.lists.specs.Maps.{mapAt};
-ghost use Rattle.lists.specs.Totals.{All};
-ghost use Rattle.scene.proofs.Voices.{RealVoice};
-ghost use Rattle.power.specs.Table.{powerTable};
 ghost use Rattle.sine.specs.Table.{sineTable};
-ghost use Rattle.gaussian.specs.Table.{gaussianTable};
 ghost use Rattle.lobes.specs.Pan.{channelGain};
-ghost use Rattle.lobes.specs.Tone.{partialOctaves};
 ghost use Rattle.lobes.specs.Distance.{logsOf};
 ghost use Rattle.openness.specs.Sides.{firstSide, secondSide};
 ghost use Rattle.openness.specs.Openness.{voiceJoined};
-ghost use Rattle.openness.specs.Scene.{RealGrid, SidesReady};
+ghost use Rattle.openness.specs.Raising.{RaiseVoice, RaiseVoices};
 use crate::raise::raise_tone;
 use gaussian::GaussianTable;
 use lobe_rows::Gains;
@@ -72,20 +65,9 @@ fn raise_voice(
     grid: Grid,
     voice: MaskVoice,
 )
-    requires { ⌜ (now powers ≡ powerTable)
-        × (now octaves ≡ partialOctaves)
-        × (now sines ≡ sineTable)
-        × (now gaussians ≡ gaussianTable)
-        × (length (now chunk) ≡ 64)
-        × (length (now indexes) ≡ 64)
-        × (grid .partials ≤ 24)
-        × (grid .«last_bin» ≤ 2 ^ 24)
-        × (tabled ≡ true → grid .«last_bin» < length (now table))
-        × (compact ≡ true →
-        (tabled ≡ true) ×
-        (SidesReady grid (now table) (now lows) (now highs) (now first) (now second)) ×
-        (RealGrid grid) ×
-        (RealVoice voice)) ⌝ }
+    requires { ⌜ RaiseVoice (now first) (now second) (now chunk) (now indexes) (now powers)
+        (now octaves) (now sines) (now gaussians) tabled (now table) (now lows) (now highs) compact
+        grid voice ⌝ }
     ensures { λ _. ⌜ (now (first .exit) ≡ mapAt (λ bin held. voiceJoined grid
         (logsOf tabled (now (table .entry))) (channelGain (firstSide stereo)) bin held voice)
         (now (first .entry)))
@@ -137,21 +119,9 @@ pub fn raise_voices(
     voices: [MaskVoice; 128],
     count: usize,
 )
-    requires { ⌜ (now powers ≡ powerTable)
-        × (now octaves ≡ partialOctaves)
-        × (now sines ≡ sineTable)
-        × (now gaussians ≡ gaussianTable)
-        × (length (now chunk) ≡ 64)
-        × (length (now indexes) ≡ 64)
-        × (grid .partials ≤ 24)
-        × (grid .«last_bin» ≤ 2 ^ 24)
-        × (tabled ≡ true → grid .«last_bin» < length (now table))
-        × (count ≤ 128)
-        × (compact ≡ true →
-        (tabled ≡ true) ×
-        (SidesReady grid (now table) (now lows) (now highs) (now first) (now second)) ×
-        (RealGrid grid) ×
-        (All RealVoice (take count voices))) ⌝ }
+    requires { ⌜ RaiseVoices (now first) (now second) (now chunk) (now indexes) (now powers)
+        (now octaves) (now sines) (now gaussians) tabled (now table) (now lows) (now highs) compact
+        grid voices count ⌝ }
     ensures { λ _. ⌜ (now (first .exit) ≡ mapAt (λ bin held. fold
         (voiceJoined grid (logsOf tabled (now (table .entry))) (channelGain (firstSide stereo)) bin)
         held (take count voices)) (now (first .entry)))

@@ -20,7 +20,12 @@ open-one-requires c κs =
     let start = b .before .before .before .before .before in
     let config = start .args .config in
     let last : b .grid-of .result .«last_bin» ≡ config .«fft_size» / 2 = rw e (grid-last config) in
-    (search needs, search needs, search needs, rw e (grid-partials config), omega arith, (λ t. let l = start .pre .5 t in omega arith), search needs, (λ t. rw e (start .pre .6 t)))
+    record {
+      tables = record { powers = search needs; sines = search needs; gaussians = search needs };
+      on-grid = record { few = rw e (grid-partials config); last = omega arith; inside = λ t. let l = start .pre .5 t in omega arith };
+      heard = search needs;
+      scene = λ t. rw e (start .pre .6 t);
+    }
 
 fill-requires : tie.Need-fill-requires
 fill-requires c κs = search needs

@@ -20,7 +20,12 @@ open-two-requires c κs =
     let start = b .before .before .before .before .before .before in
     let config = start .args .config in
     let last : b .grid-of .result .«last_bin» ≡ config .«fft_size» / 2 = rw e (grid-last config) in
-    (search needs, search needs, search needs, rw e (grid-partials config), omega arith, omega arith, search needs, rw e (start .pre .7))
+    record {
+      tables = record { powers = search needs; sines = search needs; gaussians = search needs };
+      on-grid = record { few = rw e (grid-partials config); last = omega arith; inside = λ t. omega arith };
+      heard = search needs;
+      scene = λ t. rw e (start .pre .7);
+    }
 
 fill-requires : tie.Need-fill-requires
 fill-requires c κs = search needs

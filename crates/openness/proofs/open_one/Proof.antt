@@ -30,7 +30,7 @@ ends-where-requires : tie.Need-ends-where-requires
 ends-where-requires c κs =
     let w = c .before .before .before .before .before .before .before in
     let s = w .before .before .before .before in
-    (refl, refl, refl, λ e. let k = s .pre .7 (w .walks .ensures e) in (k .long, k .table-real))
+    (refl, refl, refl, λ e. let k = s .pre .scene (w .walks .ensures e) in (k .long, k .table-real))
 
 slice-aggregate-raise-voices : tie.Need-slice-aggregate-raise-voices
 slice-aggregate-raise-voices c = search needs
@@ -55,38 +55,36 @@ raise-voices-requires c κs =
     let o = w .before in
     let s = o .before .before .before in
     let lows : length (d .ends-where .last .1 .0) ≡ 128 = d .ends-where .kept .1 .0 in
-    let highs : length (d .ends-where .last .1 .1 .0) ≡ 128 = d .ends-where .kept .1 .1 .0 in (
-      s .pre .0,
-      o .partial-octaves .ensures,
-      s .pre .1,
-      s .pre .2,
-      d .ends-where .kept .1 .1 .1 .0,
-      refl,
-      s .pre .3,
-      s .pre .4,
-      s .pre .5,
-      s .pre .6,
-      λ e.
+    let highs : length (d .ends-where .last .1 .1 .0) ≡ 128 = d .ends-where .kept .1 .1 .0 in
+    record {
+      tables = s .pre .tables;
+      octaves = o .partial-octaves .ensures;
+      scratch = record { chunk-64 = d .ends-where .kept .1 .1 .1 .0; indexes-64 = refl };
+      on-grid = s .pre .on-grid;
+      heard = s .pre .heard;
+      walk = λ e.
           let t = w .walks .ensures e in
-          let k = s .pre .7 t in (
-            t,
-            record {
-              ready =
-                  record {
-                    last = k .last;
-                    inside = s .pre .5 t;
-                    lows-long = omega (arith, lows, k .long);
-                    highs-long = omega (arith, highs, k .long);
-                    ends = d .ends-where .ensures e;
-                    table-real = k .table-real;
-                  };
-              first-open = zeros-open _ (f .fill .ensures);
-              second-open = one-zero-open;
-            },
-            k .grid-real,
-            k .voices-real,
-          ),
-    )
+          let k = s .pre .scene t in
+          record {
+            by-table = t;
+            sides =
+                record {
+                  ready =
+                      record {
+                        last = k .last;
+                        inside = s .pre .on-grid .inside t;
+                        lows-long = omega (arith, lows, k .long);
+                        highs-long = omega (arith, highs, k .long);
+                        ends = d .ends-where .ensures e;
+                        table-real = k .table-real;
+                      };
+                  first-open = zeros-open _ (f .fill .ensures);
+                  second-open = one-zero-open;
+                };
+            grid-real = k .grid-real;
+            voices-real = k .voices-real;
+          };
+    }
 
 same-length : tie.Need-same-length
 same-length c = search needs

@@ -30,7 +30,9 @@ slice-aggregate-ends-where-3 : tie.Need-slice-aggregate-ends-where-3
 slice-aggregate-ends-where-3 c = search needs
 
 ends-where-requires : tie.Need-ends-where-requires
-ends-where-requires c κs = search needs
+ends-where-requires c κs =
+    let k = c .before .before .before .before .before .before .before .before .before .before .before .before .before .before .before .before .pre .scene refl in
+    (refl, refl, refl, λ e. (k .long, k .table-real))
 
 slice-aggregate-raise-voices : tie.Need-slice-aggregate-raise-voices
 slice-aggregate-raise-voices c = search needs
@@ -51,38 +53,36 @@ raise-voices-requires c κs =
     let first = second .before .before .before .before in
     let o = first .before .before .before in
     let s = o .before .before .before .before in
-    let k = s .pre .7 in
+    let k = s .pre .scene refl in
     let lows : length (d .ends-where .last .1 .0) ≡ 128 = d .ends-where .kept .1 .0 in
-    let highs : length (d .ends-where .last .1 .1 .0) ≡ 128 = d .ends-where .kept .1 .1 .0 in (
-      s .pre .0,
-      o .partial-octaves .ensures,
-      s .pre .1,
-      s .pre .2,
-      d .ends-where .kept .1 .1 .1 .0,
-      refl,
-      s .pre .3,
-      s .pre .4,
-      λ e. s .pre .5,
-      s .pre .6,
-      λ e. (
-        refl,
-        record {
-          ready =
-              record {
-                last = k .last;
-                inside = s .pre .5;
-                lows-long = omega (arith, lows, k .long);
-                highs-long = omega (arith, highs, k .long);
-                ends = d .ends-where .ensures e;
-                table-real = k .table-real;
-              };
-          first-open = zeros-open _ (first .fill .ensures);
-          second-open = zeros-open _ (second .fill2 .ensures);
-        },
-        k .grid-real,
-        k .voices-real,
-      ),
-    )
+    let highs : length (d .ends-where .last .1 .1 .0) ≡ 128 = d .ends-where .kept .1 .1 .0 in
+    record {
+      tables = s .pre .tables;
+      octaves = o .partial-octaves .ensures;
+      scratch = record { chunk-64 = d .ends-where .kept .1 .1 .1 .0; indexes-64 = refl };
+      on-grid = s .pre .on-grid;
+      heard = s .pre .heard;
+      walk = λ e.
+          record {
+            by-table = refl;
+            sides =
+                record {
+                  ready =
+                      record {
+                        last = k .last;
+                        inside = s .pre .on-grid .inside refl;
+                        lows-long = omega (arith, lows, k .long);
+                        highs-long = omega (arith, highs, k .long);
+                        ends = d .ends-where .ensures e;
+                        table-real = k .table-real;
+                      };
+                  first-open = zeros-open _ (first .fill .ensures);
+                  second-open = zeros-open _ (second .fill2 .ensures);
+                };
+            grid-real = k .grid-real;
+            voices-real = k .voices-real;
+          };
+    }
 
 same-length : tie.Need-same-length
 same-length c = search needs

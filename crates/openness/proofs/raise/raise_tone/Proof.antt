@@ -26,20 +26,21 @@ raised-together-requires c κs =
     let o = c .before .before .before .before in
     let n = o .before in
     let s = n .before .before .before .before .before .before .before .before in
-    let of = o .lobes-of .ensures .0 in (
-      s .pre .2,
-      omega (arith, s .pre .5, n .partials-of .ensures .1),
-      s .pre .3,
-      s .pre .4,
-      λ e.
-          let k = s .pre .8 e in (
-            k .2 .sound (o .lobes-of .result) (n .partials-of .result) (n .partials-of .ensures .0)
-                (subst (λ (b : Bool). take (n .partials-of .result) (o .lobes-of .result) ≡ lobesOf (s .args .grid) (logsOf b (s .args .table .now)) (s .args .tone)) (k .0) of),
-            k .1,
-            k .2 .first-gain,
-            k .2 .second-gain,
-          ),
-    )
+    let of = o .lobes-of .ensures .0 in
+    record {
+      gaussians = s .pre .gaussians;
+      scratch = s .pre .scratch;
+      few = omega (arith, s .pre .on-grid .few, n .partials-of .ensures .1);
+      walk = λ e.
+          let k = s .pre .walk e in
+          record {
+            sides = k .sides;
+            sound = k .tone-ready .sound (o .lobes-of .result) (n .partials-of .result) (n .partials-of .ensures .0)
+                (subst (λ (b : Bool). take (n .partials-of .result) (o .lobes-of .result) ≡ lobesOf (s .args .grid) (logsOf b (s .args .table .now)) (s .args .tone)) (k .by-table) of);
+            first-gain = k .tone-ready .first-gain;
+            second-gain = k .tone-ready .second-gain;
+          };
+    }
 
 same-length : tie.Need-same-length
 same-length c = search needs
@@ -59,11 +60,11 @@ returns c =
     let o = r .before .before .before .before .before in
     let n = o .before in
     let s = n .before .before .before .before .before .before .before .before in
-    let k = s .pre .8 (r .raised-together .ensures .0 (c .if1 .taken)) in
+    let k = s .pre .walk (r .raised-together .ensures .0 (c .if1 .taken)) in
     let first = rw (c .if1 .taken) at (r .raised-together .ensures .1) in
     let second = rw (c .if1 .taken) at (r .raised-together .ensures .2) in
-    let of = subst (λ (b : Bool). take (n .partials-of .result) (o .lobes-of .result) ≡ lobesOf (s .args .grid) (logsOf b (s .args .table .now)) (s .args .tone)) (k .0) (o .lobes-of .ensures .0) in
-    rw (k .0) (
+    let of = subst (λ (b : Bool). take (n .partials-of .result) (o .lobes-of .result) ≡ lobesOf (s .args .grid) (logsOf b (s .args .table .now)) (s .args .tone)) (k .by-table) (o .lobes-of .ensures .0) in
+    rw (k .by-table) (
       tone-raised (s .args .grid) (lent (s .args .table .now)) (s .args .tone) _ (n .partials-of .result) (o .lobes-of .result) of (s .args .first .now) first,
       tone-raised (s .args .grid) (lent (s .args .table .now)) (s .args .tone) _ (n .partials-of .result) (o .lobes-of .result) of (s .args .second .now) second,
     )
@@ -74,13 +75,13 @@ raise-lobes-requires c κs =
     let o = r .before .before .before .before .before in
     let n = o .before in
     let s = n .before .before .before .before .before .before .before .before in (
-      s .pre .0,
-      s .pre .2,
-      omega (arith, r .raised-together .kept .1 .1 .0, s .pre .3),
-      omega (arith, r .raised-together .kept .1 .1 .0, r .raised-together .kept .1 .1 .1, s .pre .3, s .pre .4),
-      omega (arith, s .pre .5, n .partials-of .ensures .1),
-      s .pre .6,
-      s .pre .7,
+      s .pre .powers,
+      s .pre .gaussians,
+      omega (arith, r .raised-together .kept .1 .1 .0, s .pre .scratch .chunk-64),
+      omega (arith, r .raised-together .kept .1 .1 .0, r .raised-together .kept .1 .1 .1, s .pre .scratch .chunk-64, s .pre .scratch .indexes-64),
+      omega (arith, s .pre .on-grid .few, n .partials-of .ensures .1),
+      s .pre .on-grid .last,
+      s .pre .on-grid .inside,
       known-lobes (s .args .grid) _ (s .args .tone) (o .lobes-of .result) (n .partials-of .result) (n .partials-of .ensures .0) (o .lobes-of .ensures .0),
     )
 

@@ -9,8 +9,8 @@ compact-requires : tie.Need-rasterize-compact-harmonic-envelope-requires
 compact-requires c κs =
     let t = c .before .before .before .before in
     let s = t .before .before .before .before .before .before .before .before in
-    let k = s .pre .4 (t .if1 .taken) in
-    (s .pre .0, k .0, s .pre .1, s .pre .2, s .pre .3, k .1 .ready, k .1 .first-open, k .1 .second-open, k .2, k .3)
+    let k = s .pre .walk (t .if1 .taken) in
+    (s .pre .gaussians, k .sound, s .pre .few, s .pre .scratch .chunk-64, s .pre .scratch .indexes-64, k .sides .ready, k .sides .first-open, k .sides .second-open, k .first-gain, k .second-gain)
 
 same-length : tie.Need-same-length
 same-length c = search needs

@@ -19,19 +19,21 @@ raise-tone-requires : tie.Need-raise-tone-requires
 raise-tone-requires c κs =
     let g = c .before .before .before .before in
     let t = g .before in
-    let s = t .before .before .before .before .before .before .before .before .before .before in (
-      s .pre .0,
-      s .pre .1,
-      s .pre .3,
-      s .pre .4,
-      s .pre .5,
-      s .pre .6,
-      s .pre .7,
-      s .pre .8,
-      λ e.
-          let k = s .pre .9 e in
-          (k .0, k .1, tone-ready (s .args .grid) (s .args .table .now) (s .args .voice) (firstSide (s .args .stereo)) (secondSide (s .args .stereo)) (k .2) (k .3) (t .tone-of .ensures) (g .gains-of .ensures .0) (g .gains-of .ensures .1)),
-    )
+    let s = t .before .before .before .before .before .before .before .before .before .before in
+    record {
+      powers = s .pre .tables .powers;
+      octaves = s .pre .octaves;
+      gaussians = s .pre .tables .gaussians;
+      scratch = s .pre .scratch;
+      on-grid = s .pre .on-grid;
+      walk = λ e.
+          let k = s .pre .walk e in
+          record {
+            by-table = k .by-table;
+            sides = k .sides;
+            tone-ready = tone-ready (s .args .grid) (s .args .table .now) (s .args .voice) (firstSide (s .args .stereo)) (secondSide (s .args .stereo)) (k .grid-real) (k .voice-real) (t .tone-of .ensures) (g .gains-of .ensures .0) (g .gains-of .ensures .1);
+          };
+    }
 
 same-length : tie.Need-same-length
 same-length c = search needs

@@ -33,7 +33,7 @@ abbrev μ-loop : tie.MeasureT-loop
 loop-holds : tie.Need-loop-holds Inv-loop μ-loop
 loop-holds c =
     let s = c .before .before .before .before .before .before .before in
-    (s .good .1 .1 .1 .1 .1 .1 .1 .1 .1 .1 .1 .1 .1 .1 .1 .0 .1 .0 .1, refl, refl, refl, refl, refl, refl, λ e. (s .pre .10 e .1 .first-open, s .pre .10 e .1 .second-open))
+    (s .good .1 .1 .1 .1 .1 .1 .1 .1 .1 .1 .1 .1 .1 .1 .1 .0 .1 .0 .1, refl, refl, refl, refl, refl, refl, λ e. (s .pre .walk e .sides .first-open, s .pre .walk e .sides .second-open))
 
 mul-voice : tie.Need-mul-voice Inv-loop μ-loop
 mul-voice c = omega arith
@@ -46,20 +46,21 @@ raise-voice-requires c κs =
     let n = c .before .before .before .before .before in
     let l = n .before in
     let s = l .before .before .before .before .before .before .before .before in
-    let some : s .args .count ≤ length (s .args .t16) = omega (arith, s .pre .9, l .loop .inv .0) in (
-      s .pre .0,
-      s .pre .1,
-      s .pre .2,
-      s .pre .3,
-      l .loop .inv .3 ∙ s .pre .4,
-      l .loop .inv .4 ∙ s .pre .5,
-      s .pre .6,
-      s .pre .7,
-      s .pre .8,
-      λ e.
-          let k = s .pre .10 e in
-          (k .0, record { ready = k .1 .ready; first-open = l .loop .inv .7 e .0; second-open = l .loop .inv .7 e .1 }, k .2, voice-real (s .args .t16) (s .args .count) (l .loop .index) some (k .3) (n .loop-test .taken)),
-    )
+    let some : s .args .count ≤ length (s .args .t16) = omega (arith, s .pre .heard, l .loop .inv .0) in
+    record {
+      tables = s .pre .tables;
+      octaves = s .pre .octaves;
+      scratch = record { chunk-64 = l .loop .inv .3 ∙ s .pre .scratch .chunk-64; indexes-64 = l .loop .inv .4 ∙ s .pre .scratch .indexes-64 };
+      on-grid = s .pre .on-grid;
+      walk = λ e.
+          let k = s .pre .walk e in
+          record {
+            by-table = k .by-table;
+            sides = record { ready = k .sides .ready; first-open = l .loop .inv .7 e .0; second-open = l .loop .inv .7 e .1 };
+            grid-real = k .grid-real;
+            voice-real = voice-real (s .args .t16) (s .args .count) (l .loop .index) some (k .voices-real) (n .loop-test .taken);
+          };
+    }
 
 add-index : tie.Need-add-index Inv-loop μ-loop
 add-index c = search needs
@@ -74,7 +75,7 @@ loop-again c =
     let l = n .before in
     let s = l .before .before .before .before .before .before .before .before in
     let voice = getD (s .args .t16) (l .loop .index) noVoice in
-    let some : s .args .count ≤ length (s .args .t16) = omega (arith, s .pre .9, l .loop .inv .0) in (
+    let some : s .args .count ≤ length (s .args .t16) = omega (arith, s .pre .heard, l .loop .inv .0) in (
       l .loop .inv .0,
       omega (arith, r .raise-voice .kept .0, l .loop .inv .1),
       omega (arith, r .raise-voice .kept .1 .0, l .loop .inv .2),
@@ -83,11 +84,11 @@ loop-again c =
       voices-next _ _ _ _ _ (l .loop .index) _ some (n .loop-test .taken) (r .raise-voice .ensures .0) ∙ l .loop .inv .5,
       voices-next _ _ _ _ _ (l .loop .index) _ some (n .loop-test .taken) (r .raise-voice .ensures .1) ∙ l .loop .inv .6,
       λ e.
-          let k = s .pre .10 e in
-          let u = voice-real (s .args .t16) (s .args .count) (l .loop .index) some (k .3) (n .loop-test .taken) in
-          let first = rw (k .0) at (r .raise-voice .ensures .0) in
-          let second = rw (k .0) at (r .raise-voice .ensures .1) in
-          (voice-open (s .args .grid) (k .2) (s .args .table .now) (firstSide (s .args .stereo)) voice u (l .loop .first) (l .loop .inv .7 e .0) first, voice-open (s .args .grid) (k .2) (s .args .table .now) (secondSide (s .args .stereo)) voice u (l .loop .second) (l .loop .inv .7 e .1) second),
+          let k = s .pre .walk e in
+          let u = voice-real (s .args .t16) (s .args .count) (l .loop .index) some (k .voices-real) (n .loop-test .taken) in
+          let first = rw (k .by-table) at (r .raise-voice .ensures .0) in
+          let second = rw (k .by-table) at (r .raise-voice .ensures .1) in
+          (voice-open (s .args .grid) (k .grid-real) (s .args .table .now) (firstSide (s .args .stereo)) voice u (l .loop .first) (l .loop .inv .7 e .0) first, voice-open (s .args .grid) (k .grid-real) (s .args .table .now) (secondSide (s .args .stereo)) voice u (l .loop .second) (l .loop .inv .7 e .1) second),
     )
 
 same-length : tie.Need-same-length Inv-loop μ-loop
