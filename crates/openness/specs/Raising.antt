@@ -17,6 +17,7 @@ use Rattle.lobes.specs.declared.Tone.{Tone}
 use Rattle.lobes.specs.declared.Lobe.{Lobe}
 use Rattle.lobes.specs.Tone.{partialOctaves}
 use Rattle.block_rows.specs.Most.{SoundLobes}
+use Rattle.openness.specs.declared.Way.{Way}
 use Rattle.openness.specs.Scene.{RealGrid, SoundScene, SidesReady, ToneReady}
 
 -- ---- parts that several functions ask for
@@ -37,58 +38,58 @@ pub record OnGrid (grid : Grid) (tabled : Bool) (table : List Float) : Type 0 wh
   pub inside : tabled ≡ true → grid .«last_bin» < length table
 
 -- ---- what the walk by blocks asks for besides
-pub record LobesWalk (grid : Grid) (table lows highs first second : List Float) (lobes : List Lobe) (count : ℕ) (gain₁ gain₂ : Float) : Type 0 where
-  pub sides : SidesReady grid table lows highs first second
-  pub sound : SoundLobes grid lobes count
+pub record LobesWalk (way : Way) (table lows highs first second : List Float) (lobes : List Lobe) (count : ℕ) (gain₁ gain₂ : Float) : Type 0 where
+  pub sides : SidesReady (way .grid) table lows highs first second
+  pub sound : SoundLobes (way .grid) lobes count
   pub first-gain : Upto binary32 3 gain₁
   pub second-gain : Upto binary32 3 gain₂
 
-pub record ToneWalk (grid : Grid) (tabled : Bool) (table lows highs first second : List Float) (tone : Tone) (gain₁ gain₂ : Float) : Type 0 where
-  pub by-table : tabled ≡ true
-  pub sides : SidesReady grid table lows highs first second
-  pub tone-ready : ToneReady grid tone gain₁ gain₂ table
+pub record ToneWalk (way : Way) (table lows highs first second : List Float) (tone : Tone) (gain₁ gain₂ : Float) : Type 0 where
+  pub by-table : way .tabled ≡ true
+  pub sides : SidesReady (way .grid) table lows highs first second
+  pub tone-ready : ToneReady (way .grid) tone gain₁ gain₂ table
 
-pub record VoiceWalk (grid : Grid) (tabled : Bool) (table lows highs first second : List Float) (voice : MaskVoice) : Type 0 where
-  pub by-table : tabled ≡ true
-  pub sides : SidesReady grid table lows highs first second
-  pub grid-real : RealGrid grid
+pub record VoiceWalk (way : Way) (table lows highs first second : List Float) (voice : MaskVoice) : Type 0 where
+  pub by-table : way .tabled ≡ true
+  pub sides : SidesReady (way .grid) table lows highs first second
+  pub grid-real : RealGrid (way .grid)
   pub voice-real : RealVoice voice
 
-pub record VoicesWalk (grid : Grid) (tabled : Bool) (table lows highs first second : List Float) (voices : List MaskVoice) : Type 0 where
-  pub by-table : tabled ≡ true
-  pub sides : SidesReady grid table lows highs first second
-  pub grid-real : RealGrid grid
+pub record VoicesWalk (way : Way) (table lows highs first second : List Float) (voices : List MaskVoice) : Type 0 where
+  pub by-table : way .tabled ≡ true
+  pub sides : SidesReady (way .grid) table lows highs first second
+  pub grid-real : RealGrid (way .grid)
   pub voices-real : All RealVoice voices
 
 -- ---- a function's premises, over its parameters in their order
-pub record RaiseTogether (first second chunk : List Float) (indexes : List ℕ) (g table lows highs : List Float) (compact : Bool) (grid : Grid) (lobes : List Lobe) (count : ℕ) (gain₁ gain₂ : Float) : Type 0 where
+pub record RaiseTogether (first second chunk : List Float) (indexes : List ℕ) (g : List Float) (way : Way) (table lows highs : List Float) (lobes : List Lobe) (count : ℕ) (gain₁ gain₂ : Float) : Type 0 where
   pub gaussians : g ≡ gaussianTable
   pub scratch : Scratch chunk indexes
   pub few : count ≤ 24
-  pub walk : compact ≡ true → LobesWalk grid table lows highs first second lobes count gain₁ gain₂
+  pub walk : way .compact ≡ true → LobesWalk way table lows highs first second lobes count gain₁ gain₂
 
-pub record RaiseTone (first second chunk : List Float) (indexes p : List ℕ) (o g : List Float) (tabled : Bool) (table lows highs : List Float) (compact : Bool) (grid : Grid) (tone : Tone) (gain₁ gain₂ : Float) : Type 0 where
+pub record RaiseTone (first second chunk : List Float) (indexes p : List ℕ) (o g : List Float) (way : Way) (table lows highs : List Float) (tone : Tone) (gain₁ gain₂ : Float) : Type 0 where
   pub powers : p ≡ powerTable
   pub octaves : o ≡ partialOctaves
   pub gaussians : g ≡ gaussianTable
   pub scratch : Scratch chunk indexes
-  pub on-grid : OnGrid grid tabled table
-  pub walk : compact ≡ true → ToneWalk grid tabled table lows highs first second tone gain₁ gain₂
+  pub on-grid : OnGrid (way .grid) (way .tabled) table
+  pub walk : way .compact ≡ true → ToneWalk way table lows highs first second tone gain₁ gain₂
 
-pub record RaiseVoice (first second chunk : List Float) (indexes p : List ℕ) (o : List Float) (s : List ℕ) (g : List Float) (tabled : Bool) (table lows highs : List Float) (compact : Bool) (grid : Grid) (voice : MaskVoice) : Type 0 where
+pub record RaiseVoice (first second chunk : List Float) (indexes p : List ℕ) (o : List Float) (s : List ℕ) (g : List Float) (way : Way) (table lows highs : List Float) (voice : MaskVoice) : Type 0 where
   pub tables : Tables p s g
   pub octaves : o ≡ partialOctaves
   pub scratch : Scratch chunk indexes
-  pub on-grid : OnGrid grid tabled table
-  pub walk : compact ≡ true → VoiceWalk grid tabled table lows highs first second voice
+  pub on-grid : OnGrid (way .grid) (way .tabled) table
+  pub walk : way .compact ≡ true → VoiceWalk way table lows highs first second voice
 
-pub record RaiseVoices (first second chunk : List Float) (indexes p : List ℕ) (o : List Float) (s : List ℕ) (g : List Float) (tabled : Bool) (table lows highs : List Float) (compact : Bool) (grid : Grid) (voices : List MaskVoice) (count : ℕ) : Type 0 where
+pub record RaiseVoices (first second chunk : List Float) (indexes p : List ℕ) (o : List Float) (s : List ℕ) (g : List Float) (way : Way) (table lows highs : List Float) (voices : List MaskVoice) (count : ℕ) : Type 0 where
   pub tables : Tables p s g
   pub octaves : o ≡ partialOctaves
   pub scratch : Scratch chunk indexes
-  pub on-grid : OnGrid grid tabled table
+  pub on-grid : OnGrid (way .grid) (way .tabled) table
   pub heard : count ≤ 128
-  pub walk : compact ≡ true → VoicesWalk grid tabled table lows highs first second (take count voices)
+  pub walk : way .compact ≡ true → VoicesWalk way table lows highs first second (take count voices)
 
 -- the two that fill masks
 pub record Open (p s : List ℕ) (g : List Float) (tabled : Bool) (table : List Float) (voices : List MaskVoice) (count : ℕ) (grid : Grid) : Type 0 where

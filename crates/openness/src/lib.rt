@@ -24,12 +24,28 @@ use voices::raise_voices;
 pub mod raise;
 pub mod voices;
 
+// How the voices of a scene are raised: the same from the first voice to the last.
+pub struct Way {
+    // by a lent table
+    pub tabled: bool,
+    // the walk by blocks may be taken
+    pub compact: bool,
+    // so many voices that most blocks are full before the last
+    pub crowded: bool,
+    // a mask for each side
+    pub stereo: bool,
+    pub grid: Grid,
+}
+
 // So many bins are worked out at a time: enough for a loop over them to pay, and few enough to stay
 // close at hand.
 const CHUNK: usize = 64;
 
 // The blocks of the largest mask.
 const BLOCKS: usize = 128;
+
+// From so many voices on most blocks are full before the last of them is raised.
+const CROWD: usize = 16;
 
 // The ends of the table's blocks, where the walk by blocks may be taken.
 fn ends_where(compact: bool, lows: &mut [f32], highs: &mut [f32], row: &mut [f32], table: &[f32])
@@ -82,6 +98,13 @@ pub fn open_one(
     let compact = walks(tabled, grid);
     fill(out, 0.0);
     ends_where(compact, &mut lows, &mut highs, &mut chunk, table);
+    let way = Way {
+        tabled,
+        compact,
+        crowded: CROWD < count,
+        stereo: false,
+        grid,
+    };
     raise_voices(
         out,
         &mut nothing,
@@ -91,13 +114,10 @@ pub fn open_one(
         &octaves,
         sines,
         gaussians,
-        tabled,
+        way,
         table,
         &lows,
         &highs,
-        compact,
-        false,
-        grid,
         voices,
         count,
     );
@@ -131,6 +151,13 @@ pub fn open_two(
     fill(left, 0.0);
     fill(right, 0.0);
     ends_where(compact, &mut lows, &mut highs, &mut chunk, table);
+    let way = Way {
+        tabled: true,
+        compact,
+        crowded: CROWD < count,
+        stereo: true,
+        grid,
+    };
     raise_voices(
         left,
         right,
@@ -140,13 +167,10 @@ pub fn open_two(
         &octaves,
         sines,
         gaussians,
-        true,
+        way,
         table,
         &lows,
         &highs,
-        compact,
-        true,
-        grid,
         voices,
         count,
     );

@@ -8,11 +8,11 @@ ghost use Rattle.lobes.specs.Distance.{lent, logsOf};
 ghost use Rattle.lobe_joins.specs.Joined.{lobesJoined};
 ghost use Rattle.openness.specs.Openness.{toneJoined};
 ghost use Rattle.openness.specs.Raising.{RaiseTogether, RaiseTone};
+use crate::Way;
 use block_walk::compact::rasterize_compact_harmonic_envelope;
 use gaussian::GaussianTable;
 use lobe_rows::Gains;
 use lobe_rows::plain::raise_lobes;
-use lobes::Grid;
 use lobes::Lobe;
 use lobes::Tone;
 use lobes::octaves::PartialOctaves;
@@ -27,28 +27,26 @@ fn raised_together(
     chunk: &mut [f32],
     indexes: &mut [u32],
     gaussians: &GaussianTable,
+    way: Way,
     table: &[f32],
     lows: &[f32],
     highs: &[f32],
-    compact: bool,
-    crowded: bool,
-    grid: Grid,
     lobes: [Lobe; 24],
     count: usize,
     gains: Gains,
 ) -> bool
     requires { ⌜ RaiseTogether (now first) (now second) (now chunk) (now indexes) (now gaussians)
-        (now table) (now lows) (now highs) compact grid lobes count (gains .first)
-        (gains .second) ⌝ }
-    ensures { λ r. ⌜ (r ≡ true → compact ≡ true)
+        way (now table) (now lows) (now highs) lobes count (gains .first) (gains .second) ⌝ }
+    ensures { λ r. ⌜ (r ≡ true → way .compact ≡ true)
         × (now (first .exit) ≡ cond r (mapAt
-        (lobesJoined grid (lent (now (table .entry))) (gains .first) (take count lobes))
+        (lobesJoined (way .grid) (lent (now (table .entry))) (gains .first) (take count lobes))
         (now (first .entry))) (now (first .entry)))
         × (now (second .exit) ≡ cond r (mapAt
-        (lobesJoined grid (lent (now (table .entry))) (gains .second) (take count lobes))
+        (lobesJoined (way .grid) (lent (now (table .entry))) (gains .second) (take count lobes))
         (now (second .entry))) (now (second .entry))) ⌝ }
 {
-    if compact {
+    if way.compact {
+        let grid = way.grid;
         return rasterize_compact_harmonic_envelope(
             first,
             second,
@@ -62,7 +60,7 @@ fn raised_together(
             lobes,
             count,
             gains,
-            crowded,
+            way.crowded,
         );
     }
     false
@@ -77,40 +75,36 @@ pub fn raise_tone(
     powers: &PowerTable,
     octaves: &PartialOctaves,
     gaussians: &GaussianTable,
-    tabled: bool,
+    way: Way,
     table: &[f32],
     lows: &[f32],
     highs: &[f32],
-    compact: bool,
-    crowded: bool,
-    grid: Grid,
     tone: Tone,
     gains: Gains,
 )
     requires { ⌜ RaiseTone (now first) (now second) (now chunk) (now indexes) (now powers)
-        (now octaves) (now gaussians) tabled (now table) (now lows) (now highs) compact grid tone
-        (gains .first) (gains .second) ⌝ }
+        (now octaves) (now gaussians) way (now table) (now lows) (now highs) tone (gains .first)
+        (gains .second) ⌝ }
     ensures { λ _. ⌜ (now (first .exit) ≡ mapAt
-        (toneJoined grid (logsOf tabled (now (table .entry))) (gains .first) tone)
+        (toneJoined (way .grid) (logsOf (way .tabled) (now (table .entry))) (gains .first) tone)
         (now (first .entry)))
         × (now (second .exit) ≡ mapAt
-        (toneJoined grid (logsOf tabled (now (table .entry))) (gains .second) tone)
+        (toneJoined (way .grid) (logsOf (way .tabled) (now (table .entry))) (gains .second) tone)
         (now (second .entry))) ⌝ }
 {
+    let grid = way.grid;
     let count = partials_of(grid, tone);
-    let lobes = lobes_of(powers, octaves, tabled, table, grid, tone, count);
+    let lobes = lobes_of(powers, octaves, way.tabled, table, grid, tone, count);
     if raised_together(
         first,
         second,
         chunk,
         indexes,
         gaussians,
+        way,
         table,
         lows,
         highs,
-        compact,
-        crowded,
-        grid,
         lobes,
         count,
         gains,
@@ -124,7 +118,7 @@ pub fn raise_tone(
         indexes,
         powers,
         gaussians,
-        tabled,
+        way.tabled,
         table,
         grid,
         lobes,

@@ -9,10 +9,10 @@ ghost use Rattle.lobes.specs.Distance.{logsOf};
 ghost use Rattle.openness.specs.Sides.{firstSide, secondSide};
 ghost use Rattle.openness.specs.Openness.{voiceJoined};
 ghost use Rattle.openness.specs.Raising.{RaiseVoice, RaiseVoices};
+use crate::Way;
 use crate::raise::raise_tone;
 use gaussian::GaussianTable;
 use lobe_rows::Gains;
-use lobes::Grid;
 use lobes::octaves::PartialOctaves;
 use lobes::pan::left_gain;
 use lobes::pan::mono_gain;
@@ -24,9 +24,6 @@ use sine::table::SineTable;
 
 // A voice at this level or below does nothing.
 pub const SKIPPED_LEVEL: f32 = 0.00001;
-
-// From so many voices on most blocks are full before the last of them is raised.
-const CROWD: usize = 16;
 
 fn gains_of(sines: &SineTable, stereo: bool, voice: MaskVoice) -> Gains
     requires { ⌜ now sines ≡ sineTable ⌝ }
@@ -55,31 +52,27 @@ fn raise_voice(
     octaves: &PartialOctaves,
     sines: &SineTable,
     gaussians: &GaussianTable,
-    tabled: bool,
+    way: Way,
     table: &[f32],
     lows: &[f32],
     highs: &[f32],
-    compact: bool,
-    crowded: bool,
-    stereo: bool,
-    grid: Grid,
     voice: MaskVoice,
 )
     requires { ⌜ RaiseVoice (now first) (now second) (now chunk) (now indexes) (now powers)
-        (now octaves) (now sines) (now gaussians) tabled (now table) (now lows) (now highs) compact
-        grid voice ⌝ }
-    ensures { λ _. ⌜ (now (first .exit) ≡ mapAt (λ bin held. voiceJoined grid
-        (logsOf tabled (now (table .entry))) (channelGain (firstSide stereo)) bin held voice)
-        (now (first .entry)))
-        × (now (second .exit) ≡ mapAt (λ bin held. voiceJoined grid
-        (logsOf tabled (now (table .entry))) (channelGain (secondSide stereo)) bin held voice)
-        (now (second .entry))) ⌝ }
+        (now octaves) (now sines) (now gaussians) way (now table) (now lows) (now highs) voice ⌝ }
+    ensures { λ _. ⌜ (now (first .exit) ≡ mapAt (λ bin held. voiceJoined (way .grid)
+        (logsOf (way .tabled) (now (table .entry))) (channelGain (firstSide (way .stereo))) bin held
+        voice) (now (first .entry)))
+        × (now (second .exit) ≡ mapAt (λ bin held. voiceJoined (way .grid)
+        (logsOf (way .tabled) (now (table .entry))) (channelGain (secondSide (way .stereo))) bin
+        held voice) (now (second .entry))) ⌝ }
 {
     if voice.level <= SKIPPED_LEVEL {
         return;
     }
+    let grid = way.grid;
     let tone = tone_of(powers, grid, voice);
-    let gains = gains_of(sines, stereo, voice);
+    let gains = gains_of(sines, way.stereo, voice);
     raise_tone(
         first,
         second,
@@ -88,13 +81,10 @@ fn raise_voice(
         powers,
         octaves,
         gaussians,
-        tabled,
+        way,
         table,
         lows,
         highs,
-        compact,
-        crowded,
-        grid,
         tone,
         gains,
     );
@@ -109,25 +99,22 @@ pub fn raise_voices(
     octaves: &PartialOctaves,
     sines: &SineTable,
     gaussians: &GaussianTable,
-    tabled: bool,
+    way: Way,
     table: &[f32],
     lows: &[f32],
     highs: &[f32],
-    compact: bool,
-    stereo: bool,
-    grid: Grid,
     voices: [MaskVoice; 128],
     count: usize,
 )
     requires { ⌜ RaiseVoices (now first) (now second) (now chunk) (now indexes) (now powers)
-        (now octaves) (now sines) (now gaussians) tabled (now table) (now lows) (now highs) compact
-        grid voices count ⌝ }
-    ensures { λ _. ⌜ (now (first .exit) ≡ mapAt (λ bin held. fold
-        (voiceJoined grid (logsOf tabled (now (table .entry))) (channelGain (firstSide stereo)) bin)
+        (now octaves) (now sines) (now gaussians) way (now table) (now lows) (now highs) voices
+        count ⌝ }
+    ensures { λ _. ⌜ (now (first .exit) ≡ mapAt (λ bin held. fold (voiceJoined (way .grid)
+        (logsOf (way .tabled) (now (table .entry))) (channelGain (firstSide (way .stereo))) bin)
         held (take count voices)) (now (first .entry)))
-        × (now (second .exit) ≡ mapAt (λ bin held. fold (voiceJoined grid
-        (logsOf tabled (now (table .entry))) (channelGain (secondSide stereo)) bin) held
-        (take count voices)) (now (second .entry))) ⌝ }
+        × (now (second .exit) ≡ mapAt (λ bin held. fold (voiceJoined (way .grid)
+        (logsOf (way .tabled) (now (table .entry))) (channelGain (secondSide (way .stereo))) bin)
+        held (take count voices)) (now (second .entry))) ⌝ }
 {
     let mut index: usize = 0;
     while index < count {
@@ -141,14 +128,10 @@ pub fn raise_voices(
             octaves,
             sines,
             gaussians,
-            tabled,
+            way,
             table,
             lows,
             highs,
-            compact,
-            CROWD < count,
-            stereo,
-            grid,
             voice,
         );
         index += 1;

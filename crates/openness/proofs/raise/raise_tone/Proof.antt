@@ -25,7 +25,7 @@ raised-together-requires : tie.Need-raised-together-requires
 raised-together-requires c κs =
     let o = c .before .before .before .before in
     let n = o .before in
-    let s = n .before .before .before .before .before .before .before .before in
+    let s = n .before .before .before .before .before .before .before .before .before in
     let of = o .lobes-of .ensures .0 in
     record {
       gaussians = s .pre .gaussians;
@@ -36,7 +36,7 @@ raised-together-requires c κs =
           record {
             sides = k .sides;
             sound = k .tone-ready .sound (o .lobes-of .result) (n .partials-of .result) (n .partials-of .ensures .0)
-                (subst (λ (b : Bool). take (n .partials-of .result) (o .lobes-of .result) ≡ lobesOf (s .args .grid) (logsOf b (s .args .table .now)) (s .args .tone)) (k .by-table) of);
+                (subst (λ (b : Bool). take (n .partials-of .result) (o .lobes-of .result) ≡ lobesOf (s .args .way .grid) (logsOf b (s .args .table .now)) (s .args .tone)) (k .by-table) of);
             first-gain = k .tone-ready .first-gain;
             second-gain = k .tone-ready .second-gain;
           };
@@ -59,14 +59,14 @@ returns c =
     let r = c .before .before .before .before .before .before .before .before .before in
     let o = r .before .before .before .before .before in
     let n = o .before in
-    let s = n .before .before .before .before .before .before .before .before in
+    let s = n .before .before .before .before .before .before .before .before .before in
     let k = s .pre .walk (r .raised-together .ensures .0 (c .if1 .taken)) in
     let first = rw (c .if1 .taken) at (r .raised-together .ensures .1) in
     let second = rw (c .if1 .taken) at (r .raised-together .ensures .2) in
-    let of = subst (λ (b : Bool). take (n .partials-of .result) (o .lobes-of .result) ≡ lobesOf (s .args .grid) (logsOf b (s .args .table .now)) (s .args .tone)) (k .by-table) (o .lobes-of .ensures .0) in
+    let of = subst (λ (b : Bool). take (n .partials-of .result) (o .lobes-of .result) ≡ lobesOf (s .args .way .grid) (logsOf b (s .args .table .now)) (s .args .tone)) (k .by-table) (o .lobes-of .ensures .0) in
     rw (k .by-table) (
-      tone-raised (s .args .grid) (lent (s .args .table .now)) (s .args .tone) _ (n .partials-of .result) (o .lobes-of .result) of (s .args .first .now) first,
-      tone-raised (s .args .grid) (lent (s .args .table .now)) (s .args .tone) _ (n .partials-of .result) (o .lobes-of .result) of (s .args .second .now) second,
+      tone-raised (s .args .way .grid) (lent (s .args .table .now)) (s .args .tone) _ (n .partials-of .result) (o .lobes-of .result) of (s .args .first .now) first,
+      tone-raised (s .args .way .grid) (lent (s .args .table .now)) (s .args .tone) _ (n .partials-of .result) (o .lobes-of .result) of (s .args .second .now) second,
     )
 
 raise-lobes-requires : tie.Need-raise-lobes-requires
@@ -74,7 +74,7 @@ raise-lobes-requires c κs =
     let r = c .before .before .before .before .before .before .before .before .before .before .before .before .before in
     let o = r .before .before .before .before .before in
     let n = o .before in
-    let s = n .before .before .before .before .before .before .before .before in (
+    let s = n .before .before .before .before .before .before .before .before .before in (
       s .pre .powers,
       s .pre .gaussians,
       omega (arith, r .raised-together .kept .1 .1 .0, s .pre .scratch .chunk-64),
@@ -82,7 +82,7 @@ raise-lobes-requires c κs =
       omega (arith, s .pre .on-grid .few, n .partials-of .ensures .1),
       s .pre .on-grid .last,
       s .pre .on-grid .inside,
-      known-lobes (s .args .grid) _ (s .args .tone) (o .lobes-of .result) (n .partials-of .result) (n .partials-of .ensures .0) (o .lobes-of .ensures .0),
+      known-lobes (s .args .way .grid) _ (s .args .tone) (o .lobes-of .result) (n .partials-of .result) (n .partials-of .ensures .0) (o .lobes-of .ensures .0),
     )
 
 same-length-5 : tie.Need-same-length-5
@@ -104,15 +104,15 @@ returns-2 c =
     let r = e .before .before .before .before .before .before .before .before .before in
     let o = r .before .before .before .before .before in
     let n = o .before in
-    let s = n .before .before .before .before .before .before .before .before in
-    let logs = logsOf (s .args .tabled) (s .args .table .now) in
+    let s = n .before .before .before .before .before .before .before .before .before in
+    let logs = logsOf (s .args .way .tabled) (s .args .table .now) in
     let lobes = take (n .partials-of .result) (o .lobes-of .result) in
     let first = rw (e .if1 .left) at (r .raised-together .ensures .1) in
     let second = rw (e .if1 .left) at (r .raised-together .ensures .2) in (
-      tone-raised (s .args .grid) logs (s .args .tone) _ (n .partials-of .result) (o .lobes-of .result) (o .lobes-of .ensures .0) (s .args .first .now)
-          (w .raise-lobes .ensures .0 ∙ ap (λ (xs : List Float). mapAt (lobesJoined (s .args .grid) logs (s .args .gains .first) lobes) xs) first),
-      tone-raised (s .args .grid) logs (s .args .tone) _ (n .partials-of .result) (o .lobes-of .result) (o .lobes-of .ensures .0) (s .args .second .now)
-          (w .raise-lobes .ensures .1 ∙ ap (λ (xs : List Float). mapAt (lobesJoined (s .args .grid) logs (s .args .gains .second) lobes) xs) second),
+      tone-raised (s .args .way .grid) logs (s .args .tone) _ (n .partials-of .result) (o .lobes-of .result) (o .lobes-of .ensures .0) (s .args .first .now)
+          (w .raise-lobes .ensures .0 ∙ ap (λ (xs : List Float). mapAt (lobesJoined (s .args .way .grid) logs (s .args .gains .first) lobes) xs) first),
+      tone-raised (s .args .way .grid) logs (s .args .tone) _ (n .partials-of .result) (o .lobes-of .result) (o .lobes-of .ensures .0) (s .args .second .now)
+          (w .raise-lobes .ensures .1 ∙ ap (λ (xs : List Float). mapAt (lobesJoined (s .args .way .grid) logs (s .args .gains .second) lobes) xs) second),
     )
 
 pub raise-tone-spec : {M : Type 1} → statement M

@@ -7,7 +7,7 @@ use Rattle.openness.proofs.raise.raised_together.Tie as tie
 
 compact-requires : tie.Need-rasterize-compact-harmonic-envelope-requires
 compact-requires c κs =
-    let t = c .before .before .before .before in
+    let t = c .before .before .before .before .before in
     let s = t .before .before .before .before .before .before .before .before in
     let k = s .pre .walk (t .if1 .taken) in
     (s .pre .gaussians, k .sound, s .pre .few, s .pre .scratch .chunk-64, s .pre .scratch .indexes-64, k .sides .ready, k .sides .first-open, k .sides .second-open, k .first-gain, k .second-gain)
@@ -27,7 +27,7 @@ same-length-4 c = search needs
 returns : tie.Need-returns
 returns c =
     let r = c .before .before .before .before .before .before .before .before in
-    (λ e. r .before .before .before .before .before .if1 .taken, r .rasterize-compact-harmonic-envelope .ensures .0, r .rasterize-compact-harmonic-envelope .ensures .1)
+    (λ e. r .before .before .before .before .before .before .if1 .taken, r .rasterize-compact-harmonic-envelope .ensures .0, r .rasterize-compact-harmonic-envelope .ensures .1)
 
 returns-2 : tie.Need-returns-2
 returns-2 c = (λ e. absurd (true≢false (sym e)), refl, refl)

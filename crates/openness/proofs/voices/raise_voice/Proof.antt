@@ -19,7 +19,7 @@ raise-tone-requires : tie.Need-raise-tone-requires
 raise-tone-requires c κs =
     let g = c .before .before .before .before in
     let t = g .before in
-    let s = t .before .before .before .before .before .before .before .before .before .before in
+    let s = t .before .before .before .before .before .before .before .before .before .before .before in
     record {
       powers = s .pre .tables .powers;
       octaves = s .pre .octaves;
@@ -31,7 +31,7 @@ raise-tone-requires c κs =
           record {
             by-table = k .by-table;
             sides = k .sides;
-            tone-ready = tone-ready (s .args .grid) (s .args .table .now) (s .args .voice) (firstSide (s .args .stereo)) (secondSide (s .args .stereo)) (k .grid-real) (k .voice-real) (t .tone-of .ensures) (g .gains-of .ensures .0) (g .gains-of .ensures .1);
+            tone-ready = tone-ready (s .args .way .grid) (s .args .table .now) (s .args .voice) (firstSide (s .args .way .stereo)) (secondSide (s .args .way .stereo)) (k .grid-real) (k .voice-real) (t .tone-of .ensures) (g .gains-of .ensures .0) (g .gains-of .ensures .1);
           };
     }
 
@@ -52,7 +52,7 @@ returns-2 c =
     let r = c .before .before .before .before .before .before .before .before in
     let g = r .before .before .before .before .before in
     let t = g .before in
-    let kept = t .before .if1 .left in (
+    let kept = t .before .before .if1 .left in (
       voice-joined _ _ _ _ _ kept (g .gains-of .ensures .0) (t .tone-of .ensures) (r .raise-tone .ensures .0),
       voice-joined _ _ _ _ _ kept (g .gains-of .ensures .1) (t .tone-of .ensures) (r .raise-tone .ensures .1),
     )

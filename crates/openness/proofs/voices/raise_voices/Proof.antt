@@ -16,24 +16,24 @@ use Rattle.openness.proofs.voices.raise_voices.Statement.{statement}
 use Rattle.openness.proofs.voices.raise_voices.Tie as tie
 
 abbrev Inv-loop : tie.InvT-loop
-Inv-loop first₀ second₀ chunk₀ indexes₀ powers octaves sines gaussians tabled table lows highs compact stereo grid count voices index₀ first second chunk indexes index =
+Inv-loop first₀ second₀ chunk₀ indexes₀ powers octaves sines gaussians way table lows highs count voices index₀ first second chunk indexes index =
     (length voices ≡ 128)
     × (length first ≡ length first₀)
     × (length second ≡ length second₀)
     × (length chunk ≡ length chunk₀)
     × (length indexes ≡ length indexes₀)
-    × (voices-from grid (logsOf tabled table) (channelGain (firstSide stereo)) voices count index first ≡ voices-from grid (logsOf tabled table) (channelGain (firstSide stereo)) voices count 0 first₀)
-    × (voices-from grid (logsOf tabled table) (channelGain (secondSide stereo)) voices count index second ≡ voices-from grid (logsOf tabled table) (channelGain (secondSide stereo)) voices count 0 second₀)
-    × (compact ≡ true → Opennesses first × Opennesses second)
+    × (voices-from (way .grid) (logsOf (way .tabled) table) (channelGain (firstSide (way .stereo))) voices count index first ≡ voices-from (way .grid) (logsOf (way .tabled) table) (channelGain (firstSide (way .stereo))) voices count 0 first₀)
+    × (voices-from (way .grid) (logsOf (way .tabled) table) (channelGain (secondSide (way .stereo))) voices count index second ≡ voices-from (way .grid) (logsOf (way .tabled) table) (channelGain (secondSide (way .stereo))) voices count 0 second₀)
+    × (way .compact ≡ true → Opennesses first × Opennesses second)
 
 abbrev μ-loop : tie.MeasureT-loop
-μ-loop first₀ second₀ chunk₀ indexes₀ powers octaves sines gaussians tabled table lows highs compact stereo grid count voices index₀ first second chunk indexes index =
+μ-loop first₀ second₀ chunk₀ indexes₀ powers octaves sines gaussians way table lows highs count voices index₀ first second chunk indexes index =
     count - index
 
 loop-holds : tie.Need-loop-holds Inv-loop μ-loop
 loop-holds c =
     let s = c .before .before .before .before .before .before .before in
-    (s .good .1 .1 .1 .1 .1 .1 .1 .1 .1 .1 .1 .1 .1 .1 .1 .0 .1 .0 .1, refl, refl, refl, refl, refl, refl, λ e. (s .pre .walk e .sides .first-open, s .pre .walk e .sides .second-open))
+    (s .good .1 .1 .1 .1 .1 .1 .1 .1 .1 .1 .1 .1 .0 .1 .0 .1, refl, refl, refl, refl, refl, refl, λ e. (s .pre .walk e .sides .first-open, s .pre .walk e .sides .second-open))
 
 mul-voice : tie.Need-mul-voice Inv-loop μ-loop
 mul-voice c = omega arith
@@ -46,7 +46,7 @@ raise-voice-requires c κs =
     let n = c .before .before .before .before .before in
     let l = n .before in
     let s = l .before .before .before .before .before .before .before .before in
-    let some : s .args .count ≤ length (s .args .t16) = omega (arith, s .pre .heard, l .loop .inv .0) in
+    let some : s .args .count ≤ length (s .args .t13) = omega (arith, s .pre .heard, l .loop .inv .0) in
     record {
       tables = s .pre .tables;
       octaves = s .pre .octaves;
@@ -58,7 +58,7 @@ raise-voice-requires c κs =
             by-table = k .by-table;
             sides = record { ready = k .sides .ready; first-open = l .loop .inv .7 e .0; second-open = l .loop .inv .7 e .1 };
             grid-real = k .grid-real;
-            voice-real = voice-real (s .args .t16) (s .args .count) (l .loop .index) some (k .voices-real) (n .loop-test .taken);
+            voice-real = voice-real (s .args .t13) (s .args .count) (l .loop .index) some (k .voices-real) (n .loop-test .taken);
           };
     }
 
@@ -74,8 +74,8 @@ loop-again c =
     let n = r .before .before .before .before .before .before in
     let l = n .before in
     let s = l .before .before .before .before .before .before .before .before in
-    let voice = getD (s .args .t16) (l .loop .index) noVoice in
-    let some : s .args .count ≤ length (s .args .t16) = omega (arith, s .pre .heard, l .loop .inv .0) in (
+    let voice = getD (s .args .t13) (l .loop .index) noVoice in
+    let some : s .args .count ≤ length (s .args .t13) = omega (arith, s .pre .heard, l .loop .inv .0) in (
       l .loop .inv .0,
       omega (arith, r .raise-voice .kept .0, l .loop .inv .1),
       omega (arith, r .raise-voice .kept .1 .0, l .loop .inv .2),
@@ -85,10 +85,10 @@ loop-again c =
       voices-next _ _ _ _ _ (l .loop .index) _ some (n .loop-test .taken) (r .raise-voice .ensures .1) ∙ l .loop .inv .6,
       λ e.
           let k = s .pre .walk e in
-          let u = voice-real (s .args .t16) (s .args .count) (l .loop .index) some (k .voices-real) (n .loop-test .taken) in
+          let u = voice-real (s .args .t13) (s .args .count) (l .loop .index) some (k .voices-real) (n .loop-test .taken) in
           let first = rw (k .by-table) at (r .raise-voice .ensures .0) in
           let second = rw (k .by-table) at (r .raise-voice .ensures .1) in
-          (voice-open (s .args .grid) (k .grid-real) (s .args .table .now) (firstSide (s .args .stereo)) voice u (l .loop .first) (l .loop .inv .7 e .0) first, voice-open (s .args .grid) (k .grid-real) (s .args .table .now) (secondSide (s .args .stereo)) voice u (l .loop .second) (l .loop .inv .7 e .1) second),
+          (voice-open (s .args .way .grid) (k .grid-real) (s .args .table .now) (firstSide (s .args .way .stereo)) voice u (l .loop .first) (l .loop .inv .7 e .0) first, voice-open (s .args .way .grid) (k .grid-real) (s .args .table .now) (secondSide (s .args .way .stereo)) voice u (l .loop .second) (l .loop .inv .7 e .1) second),
     )
 
 same-length : tie.Need-same-length Inv-loop μ-loop
