@@ -1,5 +1,6 @@
--- What a call answers, in document 01's terms: for each case of each answer its number, its place and its values.
--- A contract equates the reply of what a call returns with the reply that the agreed meaning gives. Assumes nothing.
+-- What a call answers, in document 01's terms: for each case of each answer its number, its place
+-- and its values. A contract equates the reply of what a call returns with the reply that the
+-- agreed meaning gives. Assumes nothing.
 use mathlib.Core.List.{List, [], _∷_}
 use Prim.Native.Nat.{ℕ}
 use lib.Ieee.{Float}
@@ -10,7 +11,8 @@ use Rattle.answer.specs.declared.Outcome.the-variants as outcome
 use Rattle.answer.specs.declared.Prepared.{Prepared}
 use Rattle.answer.specs.declared.Prepared.the-variants as prepared
 
--- A call answers 0 (done), with the numbers that were asked for, or a refusal number and a place: an index where the row names one, else 0.
+-- A call answers 0 (done), with the numbers that were asked for, or a refusal number and a place:
+-- an index where the row names one, else 0.
 pub data Reply : Type 0 where
   done : List Float → Reply
   refused : ℕ → ℕ → Reply

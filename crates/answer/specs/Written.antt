@@ -1,4 +1,5 @@
--- What a lent slice holds when a call returns: "A refused call leaves every lent slice unchanged." Assumes nothing.
+-- What a lent slice holds when a call returns: "A refused call leaves every lent slice unchanged."
+-- Assumes nothing.
 use mathlib.Core.List.{List}
 use lib.Ieee.{Float}
 use Rattle.answer.specs.Reply.{Reply, done, refused}

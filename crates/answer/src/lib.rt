@@ -2,6 +2,9 @@
 // number and the place it names.
 ghost use mathlib.Core.Path.{_≡_};
 ghost use Rattle.answer.specs.Reply.{number, place, ofAnswer, ofOutcome, ofPrepared};
+use limits::lengths::MIDI_NOTES;
+
+pub mod refusal;
 
 // The answer of a call for a single number.
 pub enum Answer {
@@ -24,7 +27,7 @@ pub enum Prepared {
 // The answer of `advance_note_envelopes`, with the bank that was passed by value beside it.
 pub struct Envelopes {
     pub outcome: Outcome,
-    pub levels: [f32; 128],
+    pub levels: [f32; MIDI_NOTES],
 }
 
 impl Answer {

@@ -9,7 +9,7 @@ ghost use lib.Ieee.{nan, binary32, mul};
 ghost use Rattle.lists.specs.Maps.{mapAt, mapRange};
 ghost use Rattle.power.specs.Table.{powerTable};
 ghost use Rattle.sine.specs.Table.{sineTable};
-ghost use Rattle.masks.specs.Manual.{MANUAL-MASK-POINTS};
+ghost use Rattle.limits.specs.Lengths.{MANUAL-MASK-POINTS};
 ghost use Rattle.bin_gains.specs.Gains.{gateAt, ceilingAt, gainAt};
 ghost use Rattle.bin_gains.specs.Shared.{sharedOf};
 use counts::lesser;

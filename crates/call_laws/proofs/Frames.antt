@@ -15,6 +15,7 @@ use Rattle.float_laws.specs.Units.{real-number}
 use Rattle.float_laws.specs.Order.{le-refl-f}
 use Rattle.lists.specs.Folds.{fold, fold-keeps, firstBad, bad-none}
 use Rattle.float32.proofs.Limits.{within-low, within-real}
+use Rattle.answer.specs.Refusal.{SETTING, LIST-VALUE}
 use Rattle.answer.specs.Reply.{done, refused}
 use Rattle.answer.specs.Written.{written}
 use Rattle.limits.specs.Limits as limits
@@ -49,7 +50,7 @@ by-cases P bank frame same next = go (limits.elapsed (frame .elapsed)) (limits.f
     note = firstBad (λ n level. limits.level level) bank
 
     go : (a b c : Bool) → (T a → T b → P (advanced (frame .held) (frame .elapsed) (frame .fade) bank))
-        → P (written (cond (not a) (refused 2 0) (cond (not b) (refused 2 0) (cond c (refused 7 note) (done [])))) (advanced (frame .held) (frame .elapsed) (frame .fade) bank) bank)
+        → P (written (cond (not a) (refused SETTING 0) (cond (not b) (refused SETTING 0) (cond c (refused LIST-VALUE note) (done [])))) (advanced (frame .held) (frame .elapsed) (frame .fade) bank) bank)
     go false b c next = same
     go true false c next = same
     go true true true next = same

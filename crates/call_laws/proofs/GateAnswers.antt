@@ -17,7 +17,8 @@ use Rattle.float32.proofs.Limits.{finite-real}
 use Rattle.limits.specs.Limits as limits
 use Rattle.decibels.proofs.Gains.{two}
 use Rattle.masks.specs.Gates.{emphasisGain, floorGain, limitedGateGain}
-use Rattle.masks.specs.Manual.{MANUAL-MASK-POINTS, curvePoint, manualGain}
+use Rattle.limits.specs.Lengths.{MANUAL-MASK-POINTS}
+use Rattle.masks.specs.Manual.{curvePoint, manualGain}
 use Rattle.masks.proofs.InUnit.{InUnit}
 use Rattle.masks.proofs.Emphasis.{emphasis-at-least-one, emphasis-at-most-two}
 use Rattle.masks.proofs.Gated.{note-gate-at-least-floor, note-gate-at-most-three}

@@ -6,7 +6,7 @@ use lib.ListN.{length, getD}
 use lib.Ieee.{nan, binary32}
 use Rattle.lists.specs.Totals.{All, all-at}
 use Rattle.float_laws.specs.Units.{number}
-use Rattle.masks.specs.Manual.{MANUAL-MASK-POINTS}
+use Rattle.limits.specs.Lengths.{MANUAL-MASK-POINTS}
 use Rattle.scene.specs.Accepted.{noVoice, sizeAccepted, settingsAccepted}
 use Rattle.scene.proofs.Voices.{RealVoice}
 use Rattle.refusals.proofs.MaskAccepted.{Done, is-done, stereo-accepted, stereo-settings}

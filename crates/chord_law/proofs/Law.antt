@@ -18,7 +18,8 @@ use Rattle.limits.specs.Limits as limits
 use Rattle.scene.specs.declared.MaskConfig.{MaskConfig}
 use Rattle.scene.specs.Accepted.{noVoice}
 use Rattle.frequencies.proofs.Sizes.{size-power}
-use Rattle.masks.specs.Manual.{MANUAL-MASK-POINTS, curvePoint, manualGain}
+use Rattle.limits.specs.Lengths.{MANUAL-MASK-POINTS}
+use Rattle.masks.specs.Manual.{curvePoint, manualGain}
 use Rattle.masks.proofs.Points.{point-le}
 use Rattle.lobes.specs.Pan.{Side, left, right}
 use Rattle.lobes.specs.Distance.{lent}

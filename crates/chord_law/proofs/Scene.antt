@@ -15,7 +15,7 @@ use Rattle.lists.specs.Totals.{All, all-at}
 use Rattle.float_laws.specs.Order.{fits-number, le-refl-f, le→not-lt-f}
 use Rattle.float32.specs.Order.{within, finite}
 use Rattle.float32.specs.Remainder as remainder
-use Rattle.masks.specs.Manual.{MANUAL-MASK-POINTS}
+use Rattle.limits.specs.Lengths.{MANUAL-MASK-POINTS}
 use Rattle.scene.specs.declared.MaskVoice.{MaskVoice}
 use Rattle.scene.specs.declared.MaskConfig.{MaskConfig}
 use Rattle.scene.specs.declared.MotionShape.the-variants.{Saw}

@@ -6,7 +6,7 @@ use Prim.Native.Nat.{ℕ, _<_}
 use lib.Dec.{T}
 use lib.ListN.{getD}
 use lib.Ieee.{Float, nan, lt, isNan}
-use Rattle.masks.specs.Manual.{MANUAL-MASK-POINTS}
+use Rattle.limits.specs.Lengths.{MANUAL-MASK-POINTS}
 
 abbrev pub NoNan : List Float → Type 0
 NoNan curve = (i : ℕ) → i < MANUAL-MASK-POINTS → T (not (isNan (getD curve i nan)))

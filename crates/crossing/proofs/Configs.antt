@@ -6,6 +6,7 @@ use Prim.Native.Nat.{_≤_, _<_}
 use borrow.Author.Tests.{le-leb, lt-leb}
 use lib.Dec.{leb}
 use lib.Ieee.{Float}
+use Rattle.answer.specs.Refusal.{SIZE-OR-RATE, SETTING}
 use Rattle.answer.specs.Reply.{Reply, refused}
 use Rattle.scene.specs.declared.MaskConfig.{MaskConfig}
 use Rattle.scene.specs.Accepted.{sizeAccepted}
@@ -14,7 +15,7 @@ use Rattle.refusals.proofs.MaskAccepted.{Done}
 use Rattle.crossing.specs.declared.settings.Settings.{Settings}
 use Rattle.crossing.specs.MaskSettings.{configOf, withSettings}
 
-refused-left : (b : Bool) (new old : List Float) → old ≡ written (cond b (refused 2 0) (refused 1 0)) new old
+refused-left : (b : Bool) (new old : List Float) → old ≡ written (cond b (refused SETTING 0) (refused SIZE-OR-RATE 0)) new old
 refused-left true new old = refl
 refused-left false new old = refl
 
@@ -29,9 +30,9 @@ module _ (settings : Settings) (reply : MaskConfig → Reply) (config : MaskConf
   known-left {a} {xs} mask old e h w = w ∙ ap (λ (k : MaskConfig). written a (mask k) old) same ∙ ap (λ (r : Reply). written r (mask (configOf settings)) old) (known e h)
 
   -- with another shape
-  pub unknown : {a : Reply} → a ≡ cond (sizeAccepted config) (refused 2 0) (refused 1 0) → 7 < settings .«motion_shape» → a ≡ withSettings settings reply
+  pub unknown : {a : Reply} → a ≡ cond (sizeAccepted config) (refused SETTING 0) (refused SIZE-OR-RATE 0) → 7 < settings .«motion_shape» → a ≡ withSettings settings reply
   unfolding withSettings
-  unknown {a} e h = e ∙ ap (λ (k : MaskConfig). cond (sizeAccepted k) (refused 2 0) (refused 1 0)) same ∙ rw (lt-leb (settings .«motion_shape») 7 h)
+  unknown {a} e h = e ∙ ap (λ (k : MaskConfig). cond (sizeAccepted k) (refused SETTING 0) (refused SIZE-OR-RATE 0)) same ∙ rw (lt-leb (settings .«motion_shape») 7 h)
 
 pub unknown-left : (settings : Settings) (reply : MaskConfig → Reply) (new old : List Float) → 7 < settings .«motion_shape» → old ≡ written (withSettings settings reply) new old
 unfolding withSettings
@@ -43,7 +44,7 @@ unfolding withSettings
 with-same settings a b e = rw (e (configOf settings))
 
 -- a call that is done was given what the call itself accepts
-shape-done : (known : Bool) (a : Reply) (size : Bool) → Done (cond known a (cond size (refused 2 0) (refused 1 0))) → Done a
+shape-done : (known : Bool) (a : Reply) (size : Bool) → Done (cond known a (cond size (refused SETTING 0) (refused SIZE-OR-RATE 0))) → Done a
 shape-done true a size d = d
 shape-done false a true d = absurd d
 shape-done false a false d = absurd d

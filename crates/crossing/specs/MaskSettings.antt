@@ -1,6 +1,7 @@
 -- How the settings of a mask cross: as one record of numbers, the motion's shape one of 0..7 in the Rust's order. Assumes nothing.
 use mathlib.Core.Bool.{cond}
 use lib.Dec.{leb}
+use Rattle.answer.specs.Refusal.{SIZE-OR-RATE, SETTING}
 use Rattle.answer.specs.Reply.{Reply, refused}
 use Rattle.scene.specs.declared.MaskConfig.{MaskConfig}
 use Rattle.scene.specs.Accepted.{sizeAccepted}
@@ -17,11 +18,14 @@ configOf settings =
       «width_cents» = settings .«width_cents»;
       partials = settings .partials;
       «harmonic_rolloff_db_per_octave» = settings .«harmonic_rolloff_db_per_octave»;
-      motion = motionOf (settings .«motion_shape») (settings .«motion_depth_db») (settings .«motion_phase») (settings .«motion_size_octaves»);
+      motion =
+          motionOf (settings .«motion_shape») (settings .«motion_depth_db»)
+          (settings .«motion_phase») (settings .«motion_size_octaves»);
     }
 
 -- the reply of a call that is given the settings: another shape is refusal 2, after refusal 1
 unfoldable pub withSettings : Settings → (MaskConfig → Reply) → Reply
 withSettings settings reply =
     let config = configOf settings in
-    cond (leb (settings .«motion_shape») 7) (reply config) (cond (sizeAccepted config) (refused 2 0) (refused 1 0))
+    cond (leb (settings .«motion_shape») 7) (reply config)
+    (cond (sizeAccepted config) (refused SETTING 0) (refused SIZE-OR-RATE 0))

@@ -6,24 +6,27 @@ use Prim.Native.Nat.{ℕ}
 use lib.Dec.{leb, eqb}
 use lib.ListN.{length}
 use lib.Ieee.{Float}
+use Rattle.answer.specs.Refusal.{SETTING, LENGTH}
 use Rattle.answer.specs.Reply.{Reply, refused}
 use Rattle.limits.specs.Limits as limits
+use Rattle.limits.specs.Lengths.{MIDI-NOTES, HELD-BYTES}
 use Rattle.scene.specs.declared.MotionConfig.{MotionConfig}
 use Rattle.scene.specs.Made.{shapeOf}
 use Rattle.list_calls.specs.Advanced.{advanceReply}
 
 abbrev pub motionOf : ℕ → Float → Float → Float → MotionConfig
-motionOf n depth phase size = record { shape = shapeOf n; «depth_db» = depth; phase = phase; «size_octaves» = size }
+motionOf n depth phase size =
+    record { shape = shapeOf n; «depth_db» = depth; phase = phase; «size_octaves» = size }
 
 -- the reply of a call that is given shape n
 abbrev pub withShape : ℕ → Reply → Reply
-withShape n reply = cond (leb n 7) reply (refused 2 0)
+withShape n reply = cond (leb n 7) reply (refused SETTING 0)
 
 -- Refusal 2: elapsed and fade. Refusal 4: the lengths. Refusal 7: a level, at its note.
 unfoldable pub bankReply : List Float → List ℕ → Float → Float → Reply
 bankReply levels held elapsed fade =
-    cond (not (limits.elapsed elapsed)) (refused 2 0)
-    (cond (not (limits.fade fade)) (refused 2 0)
-    (cond (not (eqb (length levels) 128)) (refused 4 0)
-    (cond (not (eqb (length held) 16)) (refused 4 0)
+    cond (not (limits.elapsed elapsed)) (refused SETTING 0)
+    (cond (not (limits.fade fade)) (refused SETTING 0)
+    (cond (not (eqb (length levels) MIDI-NOTES)) (refused LENGTH 0)
+    (cond (not (eqb (length held) HELD-BYTES)) (refused LENGTH 0)
     (advanceReply levels elapsed fade))))

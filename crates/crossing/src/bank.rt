@@ -4,21 +4,25 @@ ghost use mathlib.Core.Path.{_≡_};
 ghost use lib.ListN.{length};
 ghost use Rattle.answer.specs.Reply.{ofOutcome};
 ghost use Rattle.answer.specs.Written.{written};
+ghost use Rattle.limits.specs.Lengths.{MIDI-NOTES, HELD-BYTES};
 ghost use Rattle.envelopes.specs.Envelope.{advanced};
 ghost use Rattle.crossing.specs.Settings.{bankReply};
 use answer::Outcome;
+use answer::refusal;
+use limits::lengths::HELD_BYTES;
+use limits::lengths::MIDI_NOTES;
 
-fn bank_of(levels: &[f32]) -> [f32; 128]
-    requires { ⌜ length (now levels) ≡ 128 ⌝ }
+fn bank_of(levels: &[f32]) -> [f32; MIDI_NOTES]
+    requires { ⌜ length (now levels) ≡ MIDI-NOTES ⌝ }
     ensures { λ r. ⌜ r ≡ now (levels .entry) ⌝ }
 {
-    let mut bank = [0.0f32; 128];
+    let mut bank = [0.0f32; MIDI_NOTES];
     slices::copy(levels, &mut bank);
     bank
 }
 
-fn held_of(held: &[u8]) -> [u8; 16]
-    requires { ⌜ length (now held) ≡ 16 ⌝ }
+fn held_of(held: &[u8]) -> [u8; HELD_BYTES]
+    requires { ⌜ length (now held) ≡ HELD-BYTES ⌝ }
     ensures { λ r. ⌜ r ≡ now (held .entry) ⌝ }
 {
     [
@@ -49,16 +53,16 @@ pub fn advance_bank(levels: &mut [f32], held: &[u8], elapsed_seconds: f32, fade_
         (now (levels .entry)) ⌝ }
 {
     if !limits::elapsed(elapsed_seconds) {
-        return Outcome::Refused(2, 0);
+        return Outcome::Refused(refusal::SETTING, 0);
     }
     if !limits::fade(fade_ms) {
-        return Outcome::Refused(2, 0);
+        return Outcome::Refused(refusal::SETTING, 0);
     }
-    if levels.len() != 128 {
-        return Outcome::Refused(4, 0);
+    if levels.len() != MIDI_NOTES {
+        return Outcome::Refused(refusal::LENGTH, 0);
     }
-    if held.len() != 16 {
-        return Outcome::Refused(4, 0);
+    if held.len() != HELD_BYTES {
+        return Outcome::Refused(refusal::LENGTH, 0);
     }
     let bank = bank_of(levels);
     let bytes = held_of(held);

@@ -1,11 +1,13 @@
 // The settings of a motion and of a mask, from plain numbers.
 ghost use mathlib.Core.Path.{_≡_};
 ghost use mathlib.Core.Bool.{cond};
+ghost use Rattle.answer.specs.Refusal.{SIZE-OR-RATE, SETTING};
 ghost use Rattle.answer.specs.Reply.{ofOutcome, refused};
 ghost use Rattle.scene.specs.Accepted.{sizeAccepted};
 ghost use Rattle.crossing.specs.Settings.{motionOf};
 ghost use Rattle.crossing.specs.MaskSettings.{configOf};
 use answer::Outcome;
+use answer::refusal;
 use scene::MaskConfig;
 use scene::MotionConfig;
 
@@ -59,10 +61,10 @@ pub fn config_of(settings: Settings) -> MaskConfig
 
 // Another shape than 0..7 is refusal 2, where there is no refusal 1.
 pub fn shape_refused(config: MaskConfig) -> Outcome
-    ensures { λ r. ⌜ ofOutcome r ≡ cond (sizeAccepted config) (refused 2 0) (refused 1 0) ⌝ }
+    ensures { λ r. ⌜ ofOutcome r ≡ cond (sizeAccepted config) (refused SETTING 0) (refused SIZE-OR-RATE 0) ⌝ }
 {
     if scene::size_accepted(config) {
-        return Outcome::Refused(2, 0);
+        return Outcome::Refused(refusal::SETTING, 0);
     }
-    Outcome::Refused(1, 0)
+    Outcome::Refused(refusal::SIZE_OR_RATE, 0)
 }

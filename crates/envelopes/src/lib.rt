@@ -6,14 +6,12 @@ ghost use lib.Dec.{eqb};
 ghost use lib.Ieee.{nan};
 ghost use lib.ListN.{length, getD};
 ghost use Rattle.lists.specs.Maps.{mapAt, mapRange, tabulate};
+ghost use Rattle.limits.specs.Lengths.{MIDI-NOTES, HELD-BYTES};
 ghost use Rattle.power.specs.Table.{powerTable};
 ghost use Rattle.envelopes.specs.Envelope.{isHeld, smoothingAlpha, targetOf, settled, levelToward, advanced};
+use limits::lengths::HELD_BYTES;
+use limits::lengths::MIDI_NOTES;
 use power::table::PowerTable;
-
-const NOTES: usize = 128;
-
-// Held notes have a bit each, and note 0 is the top bit of byte 0.
-const BYTES: usize = 16;
 
 const SECONDS_PER_MS: f32 = 0.001;
 
@@ -65,7 +63,7 @@ fn next_level(target: f32, alpha: f32, level: f32) -> f32
 
 // The targets of the eight notes of the byte at `index`.
 fn byte_targets(all: &mut [f32], byte: u8, index: usize)
-    requires { ⌜ (length (now all) ≡ 128) × (index < 16) ⌝ }
+    requires { ⌜ (length (now all) ≡ MIDI-NOTES) × (index < HELD-BYTES) ⌝ }
     ensures { λ _. ⌜ now (all .exit) ≡ mapRange
         (λ note x. targetOf (eqb (byte / 2 ^ (7 - note % 8) % 2) 1)) (8 * index) (8 * index + 8)
         (now (all .entry)) ⌝ }
@@ -79,12 +77,12 @@ fn byte_targets(all: &mut [f32], byte: u8, index: usize)
 
 // The targets of all notes, read byte by byte before the loop over the levels, so that both loops
 // are done for several notes at once.
-fn targets(held: [u8; 16]) -> [f32; 128]
-    ensures { λ r. ⌜ r ≡ tabulate 128 (λ note. targetOf (isHeld held note)) ⌝ }
+fn targets(held: [u8; HELD_BYTES]) -> [f32; MIDI_NOTES]
+    ensures { λ r. ⌜ r ≡ tabulate MIDI-NOTES (λ note. targetOf (isHeld held note)) ⌝ }
 {
-    let mut all = [0.0f32; 128];
+    let mut all = [0.0f32; MIDI_NOTES];
     let mut index: usize = 0;
-    while index < BYTES {
+    while index < HELD_BYTES {
         byte_targets(&mut all, held[index], index);
         index += 1;
     }
@@ -93,13 +91,13 @@ fn targets(held: [u8; 16]) -> [f32; 128]
 
 // The bank is changed in place, and not copied.
 fn step(bank: &mut [f32], targets: &[f32], alpha: f32)
-    requires { ⌜ (length (now bank) ≡ 128) × (length (now targets) ≡ 128) ⌝ }
+    requires { ⌜ (length (now bank) ≡ MIDI-NOTES) × (length (now targets) ≡ MIDI-NOTES) ⌝ }
     ensures { λ _. ⌜ now (bank .exit) ≡ mapAt
         (λ note level. levelToward (getD (now (targets .entry)) note nan) alpha level)
         (now (bank .entry)) ⌝ }
 {
     let mut note: usize = 0;
-    while note < NOTES {
+    while note < MIDI_NOTES {
         bank[note] = next_level(targets[note], alpha, bank[note]);
         note += 1;
     }
@@ -108,11 +106,11 @@ fn step(bank: &mut [f32], targets: &[f32], alpha: f32)
 // The bank after one frame.
 pub fn advance(
     powers: &PowerTable,
-    levels: [f32; 128],
-    held: [u8; 16],
+    levels: [f32; MIDI_NOTES],
+    held: [u8; HELD_BYTES],
     elapsed_seconds: f32,
     fade_ms: f32,
-) -> [f32; 128]
+) -> [f32; MIDI_NOTES]
     requires { ⌜ now powers ≡ powerTable ⌝ }
     ensures { λ r. ⌜ r ≡ advanced held «elapsed_seconds» «fade_ms» levels ⌝ }
 {

@@ -9,12 +9,14 @@ use lib.Ieee.{Float}
 use lib.ListN.{length, take}
 use lib.Seq.{take-length}
 use Rattle.lists.specs.Folds.{firstBad}
+use Rattle.answer.specs.Refusal.{VOICE-COUNT, LENGTH, VOICE}
 use Rattle.answer.specs.Reply.{Reply, done, refused}
 use Rattle.answer.specs.Written.{written}
 use Rattle.scene.specs.declared.MaskVoice.{MaskVoice}
 use Rattle.scene.specs.declared.MaskConfig.{MaskConfig}
 use Rattle.scene.specs.Accepted.{voiceAccepted}
-use Rattle.refusals.specs.Masks.{MOST-VOICES, first, settingsReply, voicesReply, tableReply, voicesMaskReply, tabledMaskReply, stereoReply}
+use Rattle.limits.specs.Lengths.{MOST-VOICES}
+use Rattle.refusals.specs.Masks.{first, settingsReply, voicesReply, tableReply, voicesMaskReply, tabledMaskReply, stereoReply}
 use Rattle.refusals.proofs.MaskAccepted.{Done, both-done, voices-done}
 use Rattle.lent_voices.specs.Gathered.{gathered}
 use Rattle.lent_voices.proofs.Gathered.{take-gathered}
@@ -23,7 +25,7 @@ heard-same : (voices : List MaskVoice) → length voices ≤ 128 → take (lengt
 heard-same voices few = take-gathered voices few ∙ sym (take-length voices)
 
 -- a test that comes after refusal 3
-after-three : (over : Bool) (rest : ℕ → Reply) {a b : ℕ} → (T (not over) → a ≡ b) → cond over (refused 3 0) (rest a) ≡ cond over (refused 3 0) (rest b)
+after-three : (over : Bool) (rest : ℕ → Reply) {a b : ℕ} → (T (not over) → a ≡ b) → cond over (refused VOICE-COUNT 0) (rest a) ≡ cond over (refused VOICE-COUNT 0) (rest b)
 after-three true rest e = refl
 after-three false rest e = ap rest (e tt)
 
@@ -35,7 +37,7 @@ module _ (voices : List MaskVoice) where
   voices-same : (lengths : Bool) → voicesReply (gathered voices) count lengths ≡ voicesReply voices count lengths
   unfolding voicesReply
   voices-same lengths =
-      after-three (ltb MOST-VOICES count) (λ voice. cond (not lengths) (refused 4 0) (cond (ltb voice count) (refused 5 voice) (done [])))
+      after-three (ltb MOST-VOICES count) (λ voice. cond (not lengths) (refused LENGTH 0) (cond (ltb voice count) (refused VOICE voice) (done [])))
       (λ t. ap (λ (heard : List MaskVoice). firstBad (λ index voice. voiceAccepted voice) heard) (heard-same voices (nltb→le MOST-VOICES count t)))
 
   pub mono-same : (n : ℕ) (curve : List Float) (config : MaskConfig) → voicesMaskReply n curve (gathered voices) count config ≡ voicesMaskReply n curve voices count config

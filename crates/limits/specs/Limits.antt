@@ -1,10 +1,12 @@
--- Document 01's limits, 'ends included', in its order of words; 'NaN lies outside every limit'. Assumes nothing.
+-- Document 01's limits, "ends included", in its order of words; "NaN lies outside every limit".
+-- Assumes nothing.
 use mathlib.Core.Bool.{Bool, false, _&&_, _||_}
 use mathlib.Core.List.{List, [], _∷_}
 use Prim.Native.Nat.{ℕ, _%_}
 use lib.Dec.{leb, eqb}
 use lib.Ieee.{Float, binary32, ofBits}
 use Rattle.float32.specs.Order.{within}
+use Rattle.limits.specs.Lengths.{MOST-NOTE, MAX-PARTIALS, MOST-BIN, MOST-OVERLAP}
 
 -- ---- numbers that are floats: the lowest and the highest that are accepted
 
@@ -167,15 +169,15 @@ oneOf (k ∷ ks) n = eqb n k || oneOf ks n
 
 -- a note, 0..127
 abbrev pub note : ℕ → Bool
-note n = leb n 127
+note n = leb n MOST-NOTE
 
 -- partials, 1..24
 abbrev pub partials : ℕ → Bool
-partials n = leb 1 n && leb n 24
+partials n = leb 1 n && leb n MAX-PARTIALS
 
 -- a bin, 0..8,192
 abbrev pub bin : ℕ → Bool
-bin n = leb n 8192
+bin n = leb n MOST-BIN
 
 -- a size: 'a power of two in 64..16,384'
 abbrev pub size : ℕ → Bool
@@ -183,4 +185,4 @@ size n = oneOf (64 ∷ 128 ∷ 256 ∷ 512 ∷ 1024 ∷ 2048 ∷ 4096 ∷ 8192 �
 
 -- an overlap 'in 1..16' that divides the length
 abbrev pub overlap : ℕ → ℕ → Bool
-overlap n length = leb 1 n && leb n 16 && eqb (length % n) 0
+overlap n length = leb 1 n && leb n MOST-OVERLAP && eqb (length % n) 0

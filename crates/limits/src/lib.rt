@@ -4,6 +4,7 @@ ghost use mathlib.Core.Path.{_≡_};
 ghost use Rattle.limits.specs.Limits.{decibels, frequency, noteDepth, width, rolloff, motionDepth, motionSize, elapsed, fade, rate, level, tuning, tableEntry, gain, windowValue, note, partials, bin, size, overlap};
 use float32::order::in_range;
 
+pub mod lengths;
 mod slices;
 
 pub use slices::first_outside;
@@ -162,19 +163,23 @@ pub fn window_value(x: f32) -> bool
 pub fn note(n: u8) -> bool
     ensures { λ r. ⌜ r ≡ note n ⌝ }
 {
-    n <= 127
+    n <= lengths::MOST_NOTE
 }
 
 pub fn partials(n: usize) -> bool
     ensures { λ r. ⌜ r ≡ partials n ⌝ }
 {
-    if 1 <= n { n <= 24 } else { false }
+    if 1 <= n {
+        n <= lengths::MAX_PARTIALS
+    } else {
+        false
+    }
 }
 
 pub fn bin(n: usize) -> bool
     ensures { λ r. ⌜ r ≡ bin n ⌝ }
 {
-    n <= 8192
+    n <= lengths::MOST_BIN
 }
 
 pub fn size(n: usize) -> bool
@@ -192,7 +197,7 @@ pub fn overlap(n: usize, length: usize) -> bool
     if n < 1 {
         return false;
     }
-    if 16 < n {
+    if lengths::MOST_OVERLAP < n {
         return false;
     }
     length % n == 0

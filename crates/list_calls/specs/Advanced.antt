@@ -1,4 +1,5 @@
--- `advance_note_envelopes`: what it answers, and the bank it hands back. "A bank passed by value comes back as it came" from a refused call. Assumes nothing.
+-- `advance_note_envelopes`: what it answers, and the bank it hands back. "A bank passed by value
+-- comes back as it came" from a refused call. Assumes nothing.
 use mathlib.Core.Bool.{cond, not}
 use mathlib.Core.List.{List, []}
 use Prim.Native.Nat.{ℕ}
@@ -6,6 +7,7 @@ use lib.Dec.{ltb}
 use lib.ListN.{length}
 use lib.Ieee.{Float}
 use Rattle.lists.specs.Folds.{firstBad}
+use Rattle.answer.specs.Refusal.{SETTING, LIST-VALUE}
 use Rattle.answer.specs.Reply.{Reply, done, refused, ofOutcome}
 use Rattle.answer.specs.declared.Envelopes.{Envelopes}
 use Rattle.answer.specs.Written.{written}
@@ -24,9 +26,9 @@ ofEnvelopes r = record { reply = ofOutcome (r .outcome); bank = r .levels }
 abbrev pub advanceReply : List Float → Float → Float → Reply
 advanceReply levels elapsed fade =
     let note = firstBad (λ n level. limits.level level) levels in
-    cond (not (limits.elapsed elapsed)) (refused 2 0)
-    (cond (not (limits.fade fade)) (refused 2 0)
-    (cond (ltb note (length levels)) (refused 7 note)
+    cond (not (limits.elapsed elapsed)) (refused SETTING 0)
+    (cond (not (limits.fade fade)) (refused SETTING 0)
+    (cond (ltb note (length levels)) (refused LIST-VALUE note)
     (done [])))
 
 abbrev pub advanceOf : List Float → List ℕ → Float → Float → Advance

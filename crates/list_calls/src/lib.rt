@@ -3,7 +3,6 @@
 // the core. `spectral_dsp` passes them on under the Rust's paths.
 ghost use mathlib.Core.Path.{_≡_};
 ghost use mathlib.Core.List.{[]};
-ghost use Prim.Native.Nat.{_≤_};
 ghost use lib.ListN.{length};
 ghost use Rattle.answer.specs.Reply.{done, ofOutcome, ofPrepared};
 ghost use Rattle.answer.specs.Written.{written};
@@ -11,37 +10,22 @@ ghost use Rattle.lists.specs.Maps.{tabulate};
 ghost use Rattle.frequencies.specs.Frequency.{prepared};
 ghost use Rattle.windows.specs.Windows.{dualOf};
 ghost use Rattle.smoothing.specs.Smoothing.{softenedOf, smoothedOf};
-ghost use Rattle.prepared_spectrum.specs.Block.{blockLength, blockOf};
-ghost use Rattle.list_calls.specs.Processing.{windowLength, gainsLength, dualReply, softenReply, smoothReply, preparedReply};
+ghost use Rattle.prepared_spectrum.specs.Block.{blockOf};
+ghost use Rattle.list_calls.specs.Processing.{dualReply, softenReply, smoothReply, preparedReply};
 ghost use Rattle.list_calls.specs.DualWindow.{IsDual};
 ghost use Rattle.list_calls.specs.Advanced.{ofEnvelopes, advanceOf};
 ghost use Rattle.list_calls.specs.Prepared.{prepareReply};
 use answer::Envelopes;
 use answer::Outcome;
 use answer::Prepared;
+use answer::refusal;
 use limits::LEAST_GAIN;
 use limits::LEAST_WINDOW_VALUE;
 use limits::MOST_GAIN;
 use limits::MOST_WINDOW_VALUE;
-
-fn window_length(n: usize) -> bool
-    ensures { λ r. ⌜ r ≡ windowLength n ⌝ }
-{
-    if 1 <= n { n <= 16384 } else { false }
-}
-
-fn gains_length(n: usize) -> bool
-    ensures { λ r. ⌜ r ≡ gainsLength n ⌝ }
-{
-    n <= 8193
-}
-
-fn block_length(size: usize) -> usize
-    requires { ⌜ size ≤ 16384 ⌝ }
-    ensures { λ r. ⌜ r ≡ blockLength size ⌝ }
-{
-    4 * size + size / 2 + 1
-}
+use limits::lengths;
+use limits::lengths::HELD_BYTES;
+use limits::lengths::MIDI_NOTES;
 
 // Build the canonical dual window for the given overlap.
 pub fn build_dual_synthesis_window(
@@ -57,18 +41,18 @@ pub fn build_dual_synthesis_window(
         IsDual (now (analysis .entry)) (now (synthesis .exit)) overlap) ⌝ }
 {
     let length = analysis.len();
-    if !window_length(length) {
-        return Outcome::Refused(4, 0);
+    if !lengths::window_length(length) {
+        return Outcome::Refused(refusal::LENGTH, 0);
     }
     if length != synthesis.len() {
-        return Outcome::Refused(4, 0);
+        return Outcome::Refused(refusal::LENGTH, 0);
     }
     let index = limits::first_outside(analysis, LEAST_WINDOW_VALUE, MOST_WINDOW_VALUE);
     if index < length {
-        return Outcome::Refused(7, index);
+        return Outcome::Refused(refusal::LIST_VALUE, index);
     }
     if !limits::overlap(overlap, length) {
-        return Outcome::Refused(8, 0);
+        return Outcome::Refused(refusal::OVERLAP, 0);
     }
     windows::dual_window(analysis, synthesis, overlap);
     Outcome::Done
@@ -82,15 +66,15 @@ pub fn soften_spectral_edges(source: &[f32], output: &mut [f32]) -> Outcome
         ≡ written (ofOutcome r) (softenedOf (now (source .entry))) (now (output .entry)) ⌝ }
 {
     let length = source.len();
-    if !gains_length(length) {
-        return Outcome::Refused(4, 0);
+    if !lengths::gains_length(length) {
+        return Outcome::Refused(refusal::LENGTH, 0);
     }
     if length != output.len() {
-        return Outcome::Refused(4, 0);
+        return Outcome::Refused(refusal::LENGTH, 0);
     }
     let bin = limits::first_outside(source, LEAST_GAIN, MOST_GAIN);
     if bin < length {
-        return Outcome::Refused(7, bin);
+        return Outcome::Refused(refusal::LIST_VALUE, bin);
     }
     smoothing::soften(source, output);
     Outcome::Done
@@ -105,18 +89,18 @@ pub fn smooth_mask_in_db(current: &mut [f32], target: &[f32], elapsed_seconds: f
         (now (current .entry)) ⌝ }
 {
     if !limits::elapsed(elapsed_seconds) {
-        return Outcome::Refused(2, 0);
+        return Outcome::Refused(refusal::SETTING, 0);
     }
     let length = current.len();
-    if !gains_length(length) {
-        return Outcome::Refused(4, 0);
+    if !lengths::gains_length(length) {
+        return Outcome::Refused(refusal::LENGTH, 0);
     }
     if length != target.len() {
-        return Outcome::Refused(4, 0);
+        return Outcome::Refused(refusal::LENGTH, 0);
     }
     let place = limits::first_pair_outside(current, target, LEAST_GAIN, MOST_GAIN);
     if place < length {
-        return Outcome::Refused(7, place);
+        return Outcome::Refused(refusal::LIST_VALUE, place);
     }
     smoothing::smooth(current, target, elapsed_seconds);
     Outcome::Done
@@ -144,16 +128,16 @@ impl PreparedSpectrum {
     {
         let size = window.len();
         if !limits::size(size) {
-            return Prepared::Refused(1, 0);
+            return Prepared::Refused(refusal::SIZE_OR_RATE, 0);
         }
         if !limits::rate(sample_rate) {
-            return Prepared::Refused(1, 0);
+            return Prepared::Refused(refusal::SIZE_OR_RATE, 0);
         }
         if size != smooth_analysis_window.len() {
-            return Prepared::Refused(4, 0);
+            return Prepared::Refused(refusal::LENGTH, 0);
         }
-        if block.len() != block_length(size) {
-            return Prepared::Refused(4, 0);
+        if block.len() != lengths::block_length(size) {
+            return Prepared::Refused(refusal::LENGTH, 0);
         }
         let index = limits::first_pair_outside(
             window,
@@ -162,10 +146,10 @@ impl PreparedSpectrum {
             MOST_WINDOW_VALUE,
         );
         if index < size {
-            return Prepared::Refused(7, index);
+            return Prepared::Refused(refusal::LIST_VALUE, index);
         }
         if !limits::overlap(overlap, size) {
-            return Prepared::Refused(8, 0);
+            return Prepared::Refused(refusal::OVERLAP, 0);
         }
         prepared_spectrum::fill_block(sample_rate, window, smooth_analysis_window, overlap, block);
         Prepared::Gains(
@@ -188,13 +172,13 @@ impl MaskWorkspace {
             (now (table .entry)) ⌝ }
     {
         if !limits::size(fft_size) {
-            return Outcome::Refused(1, 0);
+            return Outcome::Refused(refusal::SIZE_OR_RATE, 0);
         }
         if !limits::rate(sample_rate) {
-            return Outcome::Refused(1, 0);
+            return Outcome::Refused(refusal::SIZE_OR_RATE, 0);
         }
-        if table.len() != fft_size / 2 + 1 {
-            return Outcome::Refused(4, 0);
+        if table.len() != lengths::bins(fft_size) {
+            return Outcome::Refused(refusal::LENGTH, 0);
         }
         frequencies::fill(table, sample_rate, fft_size);
         Outcome::Done
@@ -204,8 +188,8 @@ impl MaskWorkspace {
 // The levels of the 128 notes after one frame: 16 bytes say which notes are held, note 0 by the top
 // bit of byte 0.
 pub fn advance_note_envelopes(
-    levels: [f32; 128],
-    held: [u8; 16],
+    levels: [f32; MIDI_NOTES],
+    held: [u8; HELD_BYTES],
     elapsed_seconds: f32,
     fade_ms: f32,
 ) -> Envelopes
@@ -213,20 +197,20 @@ pub fn advance_note_envelopes(
 {
     if !limits::elapsed(elapsed_seconds) {
         return Envelopes {
-            outcome: Outcome::Refused(2, 0),
+            outcome: Outcome::Refused(refusal::SETTING, 0),
             levels: levels,
         };
     }
     if !limits::fade(fade_ms) {
         return Envelopes {
-            outcome: Outcome::Refused(2, 0),
+            outcome: Outcome::Refused(refusal::SETTING, 0),
             levels: levels,
         };
     }
     let note = limits::first_outside(&levels, limits::LEAST_LEVEL, limits::MOST_LEVEL);
-    if note < 128 {
+    if note < MIDI_NOTES {
         return Envelopes {
-            outcome: Outcome::Refused(7, note),
+            outcome: Outcome::Refused(refusal::LIST_VALUE, note),
             levels: levels,
         };
     }

@@ -4,6 +4,7 @@ use lib.Ieee.{Float, binary32, ofBits, neg, mul, div}
 use Rattle.float32.specs.Order.{maximum}
 use Rattle.float32.specs.Remainder.{one, half}
 use Rattle.power.specs.Power.{E2}
+use Rattle.limits.specs.Lengths.{MAX-PARTIALS}
 use Rattle.frequencies.specs.Frequency.{binHz}
 use Rattle.scene.specs.declared.MaskConfig.{MaskConfig}
 use Rattle.lobes.specs.declared.Grid.{Grid}
@@ -14,9 +15,6 @@ CENTS-PER-OCTAVE = ofBits binary32 0x4496_0000
 -- a lobe ends at four widths from its centre
 abbrev pub WIDTHS-TO-THE-END : Float
 WIDTHS-TO-THE-END = ofBits binary32 0x4080_0000
-
-abbrev pub MAX-PARTIALS : ℕ
-MAX-PARTIALS = 24
 
 -- how far a lobe reaches, in octaves
 abbrev pub radius : Float → Float

@@ -12,7 +12,7 @@ use Rattle.pitch.specs.Pitch.{noteHertz}
 use Rattle.scene.specs.declared.MaskVoice.{MaskVoice}
 use Rattle.lobes.specs.declared.Grid.{Grid}
 use Rattle.lobes.specs.declared.Tone.{Tone}
-use Rattle.lobes.specs.Grid.{MAX-PARTIALS}
+use Rattle.limits.specs.Lengths.{MAX-PARTIALS}
 
 -- 0.35 of the level is there without pressure, and 0.65 comes with it
 abbrev pub LEAST-PRESSURE-GAIN : Float

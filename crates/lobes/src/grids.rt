@@ -7,6 +7,7 @@ use crate::Grid;
 use counts::greater;
 use counts::lesser;
 use float32::order::max;
+use limits::lengths::MAX_PARTIALS;
 use power::exp2::exp2;
 use power::table::PowerTable;
 use scene::MaskConfig;
@@ -17,8 +18,6 @@ pub const CENTS_PER_OCTAVE: f32 = 1200.0;
 
 // A lobe ends at four widths from its centre.
 const WIDTHS_TO_THE_END: f32 = 4.0;
-
-pub const MAX_PARTIALS: usize = 24;
 
 pub fn grid_of(powers: &PowerTable, config: MaskConfig) -> Grid
     requires { ⌜ (now powers ≡ powerTable) × (config .«fft_size» ≤ 2 ^ 24) ⌝ }

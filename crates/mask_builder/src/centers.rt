@@ -2,7 +2,9 @@
 ghost use mathlib.Core.Path.{_≡_};
 ghost use Prim.Native.Nat.{_≤_};
 ghost use lib.ListN.{take};
+ghost use Rattle.limits.specs.Lengths.{MOST-VOICES};
 ghost use Rattle.mask_builder.specs.Centered.{centered, allCentered};
+use limits::lengths::MOST_VOICES;
 use openness::voices::SKIPPED_LEVEL;
 use scene::MaskVoice;
 
@@ -15,8 +17,8 @@ fn centered(voice: MaskVoice) -> bool
     lobes::pan::pan_of(voice) == 0.0
 }
 
-pub fn all_centered(voices: [MaskVoice; 128], count: usize) -> bool
-    requires { ⌜ count ≤ 128 ⌝ }
+pub fn all_centered(voices: [MaskVoice; MOST_VOICES], count: usize) -> bool
+    requires { ⌜ count ≤ MOST-VOICES ⌝ }
     ensures { λ r. ⌜ r ≡ allCentered (take count voices) ⌝ }
 {
     let mut i: usize = 0;

@@ -1,7 +1,10 @@
 // The voices of a bank of note levels.
 ghost use mathlib.Core.Path.{_≡_};
 ghost use lib.ListN.{length};
+ghost use Rattle.limits.specs.Lengths.{MIDI-NOTES};
 ghost use Rattle.mask_builder.specs.Levels.{levelVoice, voicesOf};
+use limits::lengths::MIDI_NOTES;
+use limits::lengths::MOST_VOICES;
 use scene::MaskVoice;
 
 // A note at a level, with nothing played on it.
@@ -20,13 +23,13 @@ fn level_voice(note: u8, level: f32) -> MaskVoice
     }
 }
 
-pub fn voices_of(levels: &[f32]) -> [MaskVoice; 128]
-    requires { ⌜ length (now levels) ≡ 128 ⌝ }
+pub fn voices_of(levels: &[f32]) -> [MaskVoice; MOST_VOICES]
+    requires { ⌜ length (now levels) ≡ MIDI-NOTES ⌝ }
     ensures { λ r. ⌜ r ≡ voicesOf (now (levels .entry)) ⌝ }
 {
     let mut voices = scene::silent_voices();
     let mut note: usize = 0;
-    while note < 128 {
+    while note < MIDI_NOTES {
         voices[note] = level_voice(note as u8, levels[note]);
         note += 1;
     }

@@ -9,12 +9,13 @@ ghost use lib.ListN.{length, take};
 ghost use Rattle.lists.specs.Maps.{tabulate};
 ghost use Rattle.power.specs.Table.{powerTable};
 ghost use Rattle.sine.specs.Table.{sineTable};
-ghost use Rattle.masks.specs.Manual.{MANUAL-MASK-POINTS};
+ghost use Rattle.limits.specs.Lengths.{MOST-VOICES, MOST-SIZE, MANUAL-MASK-POINTS};
 ghost use Rattle.lobes.specs.Pan as side;
 ghost use Rattle.lobes.specs.Grid.{gridOf};
 ghost use Rattle.lobes.specs.Distance.{lent, logsOf};
 ghost use Rattle.openness.specs.Scene.{SoundScene};
 ghost use Rattle.mask_builder.specs.Mask.{opennessAt, maskOf};
+use limits::lengths::MOST_VOICES;
 use power::table::PowerTable;
 use scene::MaskConfig;
 use scene::MaskVoice;
@@ -25,7 +26,7 @@ fn open_mono(
     powers: &PowerTable,
     sines: &SineTable,
     out: &mut [f32],
-    voices: [MaskVoice; 128],
+    voices: [MaskVoice; MOST_VOICES],
     count: usize,
     config: MaskConfig,
     tabled: bool,
@@ -33,8 +34,8 @@ fn open_mono(
 )
     requires { ⌜ (now powers ≡ powerTable)
         × (now sines ≡ sineTable)
-        × (count ≤ 128)
-        × (config .«fft_size» ≤ 16384)
+        × (count ≤ MOST-VOICES)
+        × (config .«fft_size» ≤ MOST-SIZE)
         × (length (now out) ≡ config .«fft_size» / 2 + 1)
         × (tabled ≡ true → length (now table) ≡ config .«fft_size» / 2 + 1)
         × (tabled ≡ true → SoundScene (gridOf config) (take count voices) (now table)) ⌝ }
@@ -66,15 +67,15 @@ fn open_sides(
     sines: &SineTable,
     left: &mut [f32],
     right: &mut [f32],
-    voices: [MaskVoice; 128],
+    voices: [MaskVoice; MOST_VOICES],
     count: usize,
     config: MaskConfig,
     table: &[f32],
 )
     requires { ⌜ (now powers ≡ powerTable)
         × (now sines ≡ sineTable)
-        × (count ≤ 128)
-        × (config .«fft_size» ≤ 16384)
+        × (count ≤ MOST-VOICES)
+        × (config .«fft_size» ≤ MOST-SIZE)
         × (length (now left) ≡ config .«fft_size» / 2 + 1)
         × (length (now right) ≡ config .«fft_size» / 2 + 1)
         × (length (now table) ≡ config .«fft_size» / 2 + 1)
@@ -108,15 +109,15 @@ fn open_sides(
 pub fn build_one(
     out: &mut [f32],
     curve: &[f32],
-    voices: [MaskVoice; 128],
+    voices: [MaskVoice; MOST_VOICES],
     count: usize,
     config: MaskConfig,
     tabled: bool,
     table: &[f32],
 )
     requires { ⌜ (length (now curve) ≡ MANUAL-MASK-POINTS)
-        × (count ≤ 128)
-        × (config .«fft_size» ≤ 16384)
+        × (count ≤ MOST-VOICES)
+        × (config .«fft_size» ≤ MOST-SIZE)
         × (length (now out) ≡ config .«fft_size» / 2 + 1)
         × (tabled ≡ true → length (now table) ≡ config .«fft_size» / 2 + 1)
         × (tabled ≡ true → SoundScene (gridOf config) (take count voices) (now table)) ⌝ }
@@ -135,14 +136,14 @@ pub fn build_two(
     left: &mut [f32],
     right: &mut [f32],
     curve: &[f32],
-    voices: [MaskVoice; 128],
+    voices: [MaskVoice; MOST_VOICES],
     count: usize,
     config: MaskConfig,
     table: &[f32],
 )
     requires { ⌜ (length (now curve) ≡ MANUAL-MASK-POINTS)
-        × (count ≤ 128)
-        × (config .«fft_size» ≤ 16384)
+        × (count ≤ MOST-VOICES)
+        × (config .«fft_size» ≤ MOST-SIZE)
         × (length (now left) ≡ config .«fft_size» / 2 + 1)
         × (length (now right) ≡ config .«fft_size» / 2 + 1)
         × (length (now table) ≡ config .«fft_size» / 2 + 1)

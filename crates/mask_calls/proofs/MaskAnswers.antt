@@ -7,10 +7,11 @@ use lib.Dec.{eqb}
 use lib.Ieee.{Float}
 use lib.ListN.{length}
 use Rattle.answer.specs.Reply.{Reply}
-use Rattle.masks.specs.Manual.{MANUAL-MASK-POINTS}
+use Rattle.limits.specs.Lengths.{MANUAL-MASK-POINTS}
 use Rattle.scene.specs.declared.MaskVoice.{MaskVoice}
 use Rattle.scene.specs.declared.MaskConfig.{MaskConfig}
-use Rattle.refusals.specs.Masks.{NOTES, bins, first, settingsReply, voicesReply, tableReply, levelsReply, maskReply, voicesMaskReply, tabledMaskReply, stereoReply}
+use Rattle.limits.specs.Lengths.{NOTES}
+use Rattle.refusals.specs.Masks.{bins, first, settingsReply, voicesReply, tableReply, levelsReply, maskReply, voicesMaskReply, tabledMaskReply, stereoReply}
 
 module _ (curve : List Float) (config : MaskConfig) {outcome settings : Reply} where
   pub mask-answer : (n : ℕ) (levels : List Float) {tested : Reply} {lengths given : Bool}

@@ -19,7 +19,7 @@ use Rattle.answer.specs.Reply.{Reply}
 use Rattle.limits.specs.Limits as limits
 use Rattle.limits.specs.Limits.{LEAST-TABLE-ENTRY, MOST-TABLE-ENTRY}
 use Rattle.frequencies.proofs.Sizes.{PowerOfTwo, size-power}
-use Rattle.masks.specs.Manual.{MANUAL-MASK-POINTS}
+use Rattle.limits.specs.Lengths.{MANUAL-MASK-POINTS}
 use Rattle.scene.specs.declared.MaskVoice.{MaskVoice}
 use Rattle.scene.specs.declared.MaskConfig.{MaskConfig}
 use Rattle.scene.specs.Accepted.{noVoice, sizeAccepted, settingsAccepted}
@@ -29,7 +29,8 @@ use Rattle.lobe_bounds.proofs.Bounded.{grid-width}
 use Rattle.openness.specs.Scene.{SoundScene}
 use Rattle.bin_gains.proofs.Rising.{RealSettings}
 use Rattle.mask_builder.proofs.Built.{grid-partials}
-use Rattle.refusals.specs.Masks.{MOST-VOICES, bins, first, settingsReply, voicesReply, tableReply, voicesMaskReply, tabledMaskReply, stereoReply}
+use Rattle.limits.specs.Lengths.{MOST-VOICES}
+use Rattle.refusals.specs.Masks.{bins, first, settingsReply, voicesReply, tableReply, voicesMaskReply, tabledMaskReply, stereoReply}
 use Rattle.refusals.proofs.MaskAccepted.{Done, both-done, settings-done, voices-done, voice-done, entry-done}
 use Rattle.mask_calls.specs.F32.{F32Voice, F32Settings, F32Voices, F32List}
 use Rattle.mask_calls.proofs.SettingsNumbers as numbers

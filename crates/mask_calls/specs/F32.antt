@@ -1,4 +1,5 @@
--- Every number of a scene is an f32, which is what the types of a call's parameters say. Assumes nothing.
+-- Every number of a scene is an f32, which is what the types of a call's parameters say. Assumes
+-- nothing.
 use mathlib.Core.List.{List}
 use Prim.Native.Nat.{ℕ, _<_}
 use lib.Dec.{T}

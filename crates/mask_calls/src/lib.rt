@@ -11,9 +11,12 @@ ghost use Rattle.mask_builder.specs.Levels.{voicesOf};
 ghost use Rattle.mask_builder.specs.Mask.{maskOf};
 ghost use Rattle.refusals.specs.Masks.{maskReply, voicesMaskReply, tabledMaskReply, stereoReply};
 use answer::Outcome;
+use limits::lengths;
+use limits::lengths::MANUAL_MASK_POINTS;
+use limits::lengths::MIDI_NOTES;
+use limits::lengths::MOST_VOICES;
 use mask_builder::build_one;
 use mask_builder::build_two;
-use masks::manual::MANUAL_MASK_POINTS;
 use refusals::first;
 use refusals::of_levels;
 use refusals::of_settings;
@@ -22,9 +25,6 @@ use refusals::of_voices;
 use scene::MaskConfig;
 use scene::MaskVoice;
 use scene::both;
-
-// The notes of a bank of levels.
-const MIDI_NOTES: usize = 128;
 
 // Builds the mask of a bank of note levels: a voice for each of the 128 notes, with nothing played
 // on it.
@@ -40,7 +40,7 @@ pub fn build_mask(
         (now («manual_mask_db» .entry)) config none side.mono
         (voicesOf (now («note_levels» .entry)))) (now (output .entry)) ⌝ }
 {
-    let bins = config.fft_size / 2 + 1;
+    let bins = lengths::bins(config.fft_size);
     let lengths = both(
         output.len() == bins,
         both(
@@ -71,7 +71,7 @@ pub fn build_mask(
 pub fn build_mask_with_voices(
     output: &mut [f32],
     manual_mask_db: &[f32],
-    voices: [MaskVoice; 128],
+    voices: [MaskVoice; MOST_VOICES],
     count: usize,
     config: MaskConfig,
 ) -> Outcome
@@ -81,7 +81,7 @@ pub fn build_mask_with_voices(
         (maskOf (now («manual_mask_db» .entry)) config none side.mono (take count voices))
         (now (output .entry)) ⌝ }
 {
-    let bins = config.fft_size / 2 + 1;
+    let bins = lengths::bins(config.fft_size);
     let lengths = both(
         output.len() == bins,
         manual_mask_db.len() == MANUAL_MASK_POINTS,
@@ -108,7 +108,7 @@ pub fn build_mask_with_voices(
 pub fn build_mask_with_voices_precomputed(
     output: &mut [f32],
     manual_mask_db: &[f32],
-    voices: [MaskVoice; 128],
+    voices: [MaskVoice; MOST_VOICES],
     count: usize,
     config: MaskConfig,
     table: &[f32],
@@ -119,7 +119,7 @@ pub fn build_mask_with_voices_precomputed(
         (now («manual_mask_db» .entry)) config (lent (now (table .entry))) side.mono
         (take count voices)) (now (output .entry)) ⌝ }
 {
-    let bins = config.fft_size / 2 + 1;
+    let bins = lengths::bins(config.fft_size);
     let lengths = both(
         output.len() == bins,
         both(
@@ -145,7 +145,7 @@ pub fn build_stereo_masks_with_voices_precomputed(
     left: &mut [f32],
     right: &mut [f32],
     manual_mask_db: &[f32],
-    voices: [MaskVoice; 128],
+    voices: [MaskVoice; MOST_VOICES],
     count: usize,
     config: MaskConfig,
     table: &[f32],
@@ -160,7 +160,7 @@ pub fn build_stereo_masks_with_voices_precomputed(
         (now («manual_mask_db» .entry)) config (lent (now (table .entry))) side.right
         (take count voices)) (now (right .entry)) ⌝ }
 {
-    let bins = config.fft_size / 2 + 1;
+    let bins = lengths::bins(config.fft_size);
     let lengths = both(
         both(left.len() == bins, right.len() == bins),
         both(
@@ -196,7 +196,7 @@ pub fn build_stereo_masks_with_prepared_spectrum(
     left: &mut [f32],
     right: &mut [f32],
     manual_mask_db: &[f32],
-    voices: [MaskVoice; 128],
+    voices: [MaskVoice; MOST_VOICES],
     count: usize,
     config: MaskConfig,
     block: &[f32],

@@ -6,7 +6,8 @@ use Prim.Native.Nat.{ℕ, zero, suc, _+_, _*_, _/_, _≤_, _<_, min, zero-le}
 use native.Mathlib.Nat.{add-zero, zero-mul, mul-zero, mul-assoc, mul-le-mul, mul-add-div-right, div-zero, div-eq-of-lt, div-mul-le-self, le-div-iff-mul-le, le-refl, le-trans, le-of-eq, le-of-lt, eq-zero-or-pos}
 use native.Mathlib.Decide.{decLt}
 use native.Mathlib.Omega.{arith}
-use Rattle.masks.specs.Manual.{LAST-POINT, curvePoint}
+use Rattle.limits.specs.Lengths.{LAST-POINT}
+use Rattle.masks.specs.Manual.{curvePoint}
 
 pub halved : (n : ℕ) → n / 2 / 2 ≡ n / 4
 halved n = omega arith

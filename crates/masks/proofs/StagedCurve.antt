@@ -9,7 +9,8 @@ use lib.Ieee.{Float, nan}
 use Rattle.lists.specs.Maps.{mapRange}
 use Rattle.lists.specs.Stages.{stage-same, stages}
 use Rattle.decibels.specs.Gain.{gainOf}
-use Rattle.masks.specs.Manual.{LAST-POINT, curvePoint, manualGain}
+use Rattle.limits.specs.Lengths.{LAST-POINT}
+use Rattle.masks.specs.Manual.{curvePoint, manualGain}
 use Rattle.masks.specs.Counted.{countedAs}
 use Rattle.masks.proofs.Points.{point-by-step}
 use Rattle.masks.proofs.Counted.{counted-gain}

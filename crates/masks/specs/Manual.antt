@@ -6,14 +6,8 @@ use lib.ListN.{getD}
 use lib.Ieee.{Float, nan, binary32, ofBits, le}
 use Rattle.float32.specs.Order.{minimum}
 use Rattle.float32.specs.Remainder.{zero}
+use Rattle.limits.specs.Lengths.{LAST-POINT}
 use Rattle.decibels.specs.Gain.{gainOf}
-
--- the curve has the points 0..8,192, as many as the largest size has bins
-abbrev pub MANUAL-MASK-POINTS : ℕ
-MANUAL-MASK-POINTS = 8193
-
-abbrev pub LAST-POINT : ℕ
-LAST-POINT = 8192
 
 -- "Bin b reads curve point floor((b * 8192 + size / 4) / (size / 2)), at most 8,192." A bin is at most 8,192; one above it would count as that.
 unfoldable pub curvePoint : ℕ → ℕ → ℕ

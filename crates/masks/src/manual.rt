@@ -2,15 +2,12 @@
 ghost use mathlib.Core.Path.{_≡_};
 ghost use lib.ListN.{length};
 ghost use Rattle.power.specs.Table.{powerTable};
-ghost use Rattle.masks.specs.Manual.{MANUAL-MASK-POINTS, curvePoint, curveGain, manualGain};
+ghost use Rattle.limits.specs.Lengths.{MANUAL-MASK-POINTS};
+ghost use Rattle.masks.specs.Manual.{curvePoint, curveGain, manualGain};
 use counts::lesser;
 use float32::order::min;
+use limits::lengths::LAST_POINT;
 use power::table::PowerTable;
-
-// The curve has the points 0..8,192, as many as the largest size has bins.
-pub const MANUAL_MASK_POINTS: usize = 8193;
-
-pub const LAST_POINT: usize = 8192;
 
 pub const MANUAL_CURVE_MUTE_DB: f32 = -144.0;
 

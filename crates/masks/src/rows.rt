@@ -7,13 +7,14 @@ ghost use lib.ListN.{length, getD};
 ghost use lib.Ieee.{nan};
 ghost use Rattle.lists.specs.Maps.{mapRange};
 ghost use Rattle.power.specs.Table.{powerTable};
-ghost use Rattle.masks.specs.Manual.{MANUAL-MASK-POINTS, LAST-POINT, curvePoint, manualGain};
+ghost use Rattle.limits.specs.Lengths.{MANUAL-MASK-POINTS, LAST-POINT};
+ghost use Rattle.masks.specs.Manual.{curvePoint, manualGain};
 ghost use Rattle.masks.specs.Counted.{countedAs};
-use crate::manual::LAST_POINT;
 use crate::manual::MANUAL_CURVE_MUTE_DB;
 use crate::manual::curve_point;
 use counts::lesser;
 use float32::order::min;
+use limits::lengths::LAST_POINT;
 use power::table::PowerTable;
 
 // Low enough for a gain of 0.

@@ -6,7 +6,8 @@ ghost use Rattle.answer.specs.Reply.{ofAnswer};
 ghost use Rattle.number_calls.specs.Gates.{noteEmphasisGain, noteGateGain, manualGainAtBin};
 ghost use Rattle.number_calls.specs.Motion.{opennessReply, attenuationReply, compensationReply};
 use answer::Answer;
-use masks::manual::MANUAL_MASK_POINTS;
+use answer::refusal;
+use limits::lengths::MANUAL_MASK_POINTS;
 use scene::MotionConfig;
 
 // The lift of a fully open note centre: 6 dB for a narrow note, none for the widest.
@@ -14,7 +15,7 @@ pub fn note_emphasis_gain(width_cents: f32) -> Answer
     ensures { λ r. ⌜ ofAnswer r ≡ noteEmphasisGain «width_cents» ⌝ }
 {
     if !limits::width(width_cents) {
-        return Answer::Refused(2, 0);
+        return Answer::Refused(refusal::SETTING, 0);
     }
     let powers = power::table::power_table();
     Answer::Gain(masks::gates::emphasis(&powers, width_cents))
@@ -26,13 +27,13 @@ pub fn note_gate_gain(note_depth_db: f32, width_cents: f32, openness: f32) -> An
     ensures { λ r. ⌜ ofAnswer r ≡ noteGateGain «note_depth_db» «width_cents» openness ⌝ }
 {
     if !limits::note_depth(note_depth_db) {
-        return Answer::Refused(2, 0);
+        return Answer::Refused(refusal::SETTING, 0);
     }
     if !limits::width(width_cents) {
-        return Answer::Refused(2, 0);
+        return Answer::Refused(refusal::SETTING, 0);
     }
     if !float32::order::is_finite(openness) {
-        return Answer::Refused(2, 0);
+        return Answer::Refused(refusal::SETTING, 0);
     }
     let powers = power::table::power_table();
     Answer::Gain(masks::gates::gate(&powers, note_depth_db, width_cents, openness))
@@ -43,13 +44,13 @@ pub fn manual_gain_at_bin(mask_db: &[f32], bin: usize, fft_size: usize) -> Answe
     ensures { λ r. ⌜ ofAnswer r ≡ manualGainAtBin (now («mask_db» .entry)) bin «fft_size» ⌝ }
 {
     if !limits::size(fft_size) {
-        return Answer::Refused(1, 0);
+        return Answer::Refused(refusal::SIZE_OR_RATE, 0);
     }
     if !limits::bin(bin) {
-        return Answer::Refused(2, 0);
+        return Answer::Refused(refusal::SETTING, 0);
     }
     if mask_db.len() != MANUAL_MASK_POINTS {
-        return Answer::Refused(4, 0);
+        return Answer::Refused(refusal::LENGTH, 0);
     }
     let powers = power::table::power_table();
     Answer::Gain(masks::manual::manual_gain(&powers, mask_db, bin, fft_size))
@@ -61,10 +62,10 @@ pub fn motion_openness(frequency: f32, config: MotionConfig) -> Answer
     ensures { λ r. ⌜ ofAnswer r ≡ opennessReply frequency config ⌝ }
 {
     if !limits::frequency(frequency) {
-        return Answer::Refused(2, 0);
+        return Answer::Refused(refusal::SETTING, 0);
     }
     if !scene::motion_accepted(config) {
-        return Answer::Refused(2, 0);
+        return Answer::Refused(refusal::SETTING, 0);
     }
     let powers = power::table::power_table();
     let sines = sine::table::sine_table();
@@ -76,10 +77,10 @@ pub fn motion_attenuation_db(frequency: f32, config: MotionConfig) -> Answer
     ensures { λ r. ⌜ ofAnswer r ≡ attenuationReply frequency config ⌝ }
 {
     if !limits::frequency(frequency) {
-        return Answer::Refused(2, 0);
+        return Answer::Refused(refusal::SETTING, 0);
     }
     if !scene::motion_accepted(config) {
-        return Answer::Refused(2, 0);
+        return Answer::Refused(refusal::SETTING, 0);
     }
     let powers = power::table::power_table();
     let sines = sine::table::sine_table();
@@ -91,7 +92,7 @@ pub fn motion_compensation_gain(config: MotionConfig) -> Answer
     ensures { λ r. ⌜ ofAnswer r ≡ compensationReply config ⌝ }
 {
     if !scene::motion_accepted(config) {
-        return Answer::Refused(2, 0);
+        return Answer::Refused(refusal::SETTING, 0);
     }
     let powers = power::table::power_table();
     let sines = sine::table::sine_table();

@@ -4,13 +4,14 @@ ghost use mathlib.Core.Path.{_≡_};
 ghost use Rattle.answer.specs.Reply.{ofAnswer};
 ghost use Rattle.oiko_dsp.specs.Calls.{dbToGain, noteFrequency, noteFrequencyWithTuning};
 use answer::Answer;
+use answer::refusal;
 
 // The gain of a number of decibels.
 pub fn db_to_gain(db: f32) -> Answer
     ensures { λ r. ⌜ ofAnswer r ≡ dbToGain db ⌝ }
 {
     if !limits::decibels(db) {
-        return Answer::Refused(2, 0);
+        return Answer::Refused(refusal::SETTING, 0);
     }
     let powers = power::table::power_table();
     Answer::Gain(decibels::gain(&powers, db))
@@ -28,10 +29,10 @@ pub fn note_frequency_with_tuning(note: u8, tuning_semitones: f32) -> Answer
     ensures { λ r. ⌜ ofAnswer r ≡ noteFrequencyWithTuning note «tuning_semitones» ⌝ }
 {
     if !limits::note(note) {
-        return Answer::Refused(2, 0);
+        return Answer::Refused(refusal::SETTING, 0);
     }
     if !limits::tuning(tuning_semitones) {
-        return Answer::Refused(2, 0);
+        return Answer::Refused(refusal::SETTING, 0);
     }
     let powers = power::table::power_table();
     Answer::Gain(pitch::note_hertz(&powers, note, tuning_semitones))

@@ -2,7 +2,8 @@
 ghost use mathlib.Core.Path.{_≡_};
 ghost use Prim.Native.Nat.{_*_, _≤_, _<_};
 ghost use lib.ListN.{length};
-ghost use Rattle.prepared_spectrum.specs.Block.{blockLength, pairOf, blockOf};
+ghost use Rattle.limits.specs.Lengths.{MOST-SIZE, blockLength};
+ghost use Rattle.prepared_spectrum.specs.Block.{pairOf, blockOf};
 
 // A window and, after it, its dual.
 fn fill_pair(window: &[f32], overlap: usize, block: &mut [f32])
@@ -22,7 +23,7 @@ pub fn fill_block(
     overlap: usize,
     block: &mut [f32],
 )
-    requires { ⌜ (length (now window) ≤ 16384)
+    requires { ⌜ (length (now window) ≤ MOST-SIZE)
         × (length (now smooth) ≡ length (now window))
         × (length (now block) ≡ blockLength (length (now window)))
         × (0 < overlap) ⌝ }

@@ -17,8 +17,9 @@ use Rattle.frequencies.proofs.Sizes.{size-power}
 use Rattle.scene.specs.declared.MaskVoice.{MaskVoice}
 use Rattle.scene.specs.declared.MaskConfig.{MaskConfig}
 use Rattle.scene.specs.Accepted.{noVoice, sizeAccepted, settingsAccepted, voiceAccepted, firstVoiceOutside}
-use Rattle.masks.specs.Manual.{MANUAL-MASK-POINTS}
-use Rattle.refusals.specs.Masks.{MOST-VOICES, NOTES, bins, entryAccepted, first, settingsReply, voicesReply, tableReply, levelsReply, firstEntryOutside, maskReply, voicesMaskReply, tabledMaskReply, stereoReply}
+use Rattle.limits.specs.Lengths.{MANUAL-MASK-POINTS}
+use Rattle.limits.specs.Lengths.{MOST-VOICES, NOTES}
+use Rattle.refusals.specs.Masks.{bins, entryAccepted, first, settingsReply, voicesReply, tableReply, levelsReply, firstEntryOutside, maskReply, voicesMaskReply, tabledMaskReply, stereoReply}
 
 -- a reply that is no refusal
 abbrev pub Done : Reply → Type 0

@@ -5,7 +5,8 @@ ghost use lib.ListN.{length};
 ghost use Rattle.answer.specs.Reply.{ofOutcome};
 ghost use Rattle.refusals.specs.Masks.{first, settingsReply, voicesReply, tableReply, levelsReply, entryAccepted, firstEntryOutside};
 use answer::Outcome;
-use scene::MOST_VOICES;
+use answer::refusal;
+use limits::lengths::MOST_VOICES;
 use scene::MaskConfig;
 use scene::MaskVoice;
 
@@ -24,28 +25,28 @@ pub fn of_settings(config: MaskConfig) -> Outcome
     ensures { λ r. ⌜ ofOutcome r ≡ settingsReply config ⌝ }
 {
     if !scene::size_accepted(config) {
-        return Outcome::Refused(1, 0);
+        return Outcome::Refused(refusal::SIZE_OR_RATE, 0);
     }
     if !scene::settings_accepted(config) {
-        return Outcome::Refused(2, 0);
+        return Outcome::Refused(refusal::SETTING, 0);
     }
     Outcome::Done
 }
 
 // Refusals 3, 4 and 5: the number of voices, the lengths of the slices, and a voice outside its
 // limits.
-pub fn of_voices(voices: [MaskVoice; 128], count: usize, lengths: bool) -> Outcome
+pub fn of_voices(voices: [MaskVoice; MOST_VOICES], count: usize, lengths: bool) -> Outcome
     ensures { λ r. ⌜ ofOutcome r ≡ voicesReply voices count lengths ⌝ }
 {
     if MOST_VOICES < count {
-        return Outcome::Refused(3, 0);
+        return Outcome::Refused(refusal::VOICE_COUNT, 0);
     }
     if !lengths {
-        return Outcome::Refused(4, 0);
+        return Outcome::Refused(refusal::LENGTH, 0);
     }
     let voice = scene::first_voice_outside(voices, count);
     if voice < count {
-        return Outcome::Refused(5, voice);
+        return Outcome::Refused(refusal::VOICE, voice);
     }
     Outcome::Done
 }
@@ -100,7 +101,7 @@ pub fn of_table(table: &[f32]) -> Outcome
     }
     let entry = first_entry_outside(table);
     if entry < table.len() {
-        return Outcome::Refused(6, entry);
+        return Outcome::Refused(refusal::TABLE_ENTRY, entry);
     }
     Outcome::Done
 }
@@ -110,11 +111,11 @@ pub fn of_levels(levels: &[f32], lengths: bool) -> Outcome
     ensures { λ r. ⌜ ofOutcome r ≡ levelsReply (now (levels .entry)) lengths ⌝ }
 {
     if !lengths {
-        return Outcome::Refused(4, 0);
+        return Outcome::Refused(refusal::LENGTH, 0);
     }
     let note = limits::first_outside(levels, limits::LEAST_LEVEL, limits::MOST_LEVEL);
     if note < levels.len() {
-        return Outcome::Refused(7, note);
+        return Outcome::Refused(refusal::LIST_VALUE, note);
     }
     Outcome::Done
 }

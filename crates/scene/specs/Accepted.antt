@@ -13,7 +13,9 @@ use Rattle.scene.specs.declared.MaskVoice.{MaskVoice}
 
 -- "motion depth 0..96 dB; motion phase any finite; motion size 0..100 octaves"; every shape
 unfoldable pub motionAccepted : MotionConfig → Bool
-motionAccepted config = limits.motionDepth (config .«depth_db») && (finite (config .phase) && limits.motionSize (config .«size_octaves»))
+motionAccepted config =
+    limits.motionDepth (config .«depth_db»)
+    && (finite (config .phase) && limits.motionSize (config .«size_octaves»))
 
 -- refusal 1: "size not a power of two in 64..16,384, or rate outside 8,000..192,000 Hz"
 unfoldable pub sizeAccepted : MaskConfig → Bool
@@ -23,13 +25,18 @@ sizeAccepted config = limits.size (config .«fft_size») && limits.rate (config 
 unfoldable pub settingsAccepted : MaskConfig → Bool
 settingsAccepted config =
     (limits.noteDepth (config .«note_depth_db») && limits.width (config .«width_cents»))
-    && ((limits.partials (config .partials) && limits.rolloff (config .«harmonic_rolloff_db_per_octave»)) && motionAccepted (config .motion))
+    && ((limits.partials (config .partials)
+    && limits.rolloff (config .«harmonic_rolloff_db_per_octave»))
+    && motionAccepted (config .motion))
 
 -- "A voice: note 0..127, level 0..1, tuning -48..48 semitones; pressure, timbre, volume, expression and pan any finite"
 unfoldable pub voiceAccepted : MaskVoice → Bool
 voiceAccepted voice =
-    (limits.note (voice .note) && limits.tuning (voice .«tuning_semitones»)) && (limits.level (voice .level)
-    && (((finite (voice .pressure) && finite (voice .timbre)) && (finite (voice .«volume_gain») && finite (voice .«expression_gain»))) && finite (voice .pan)))
+    (limits.note (voice .note) && limits.tuning (voice .«tuning_semitones»))
+    && (limits.level (voice .level)
+    && (((finite (voice .pressure) && finite (voice .timbre))
+    && (finite (voice .«volume_gain») && finite (voice .«expression_gain»)))
+    && finite (voice .pan)))
 
 -- of the first `count` voices the lowest index of one outside its limits, or the count
 abbrev pub firstVoiceOutside : List MaskVoice → ℕ → ℕ
@@ -37,4 +44,14 @@ firstVoiceOutside voices count = firstBad (λ index voice. voiceAccepted voice) 
 
 -- what stands past the end of a list of voices, and does not count
 abbrev pub noVoice : MaskVoice
-noVoice = record { note = 0; level = nan; «tuning_semitones» = nan; pressure = nan; timbre = nan; «volume_gain» = nan; «expression_gain» = nan; pan = nan }
+noVoice =
+    record {
+      note = 0;
+      level = nan;
+      «tuning_semitones» = nan;
+      pressure = nan;
+      timbre = nan;
+      «volume_gain» = nan;
+      «expression_gain» = nan;
+      pan = nan;
+    }

@@ -21,4 +21,14 @@ shapeOf n =
 
 -- what stands in an array where there is no voice
 abbrev pub silentVoice : MaskVoice
-silentVoice = record { note = 0; level = zero; «tuning_semitones» = zero; pressure = zero; timbre = zero; «volume_gain» = zero; «expression_gain» = zero; pan = zero }
+silentVoice =
+    record {
+      note = 0;
+      level = zero;
+      «tuning_semitones» = zero;
+      pressure = zero;
+      timbre = zero;
+      «volume_gain» = zero;
+      «expression_gain» = zero;
+      pan = zero;
+    }

@@ -3,11 +3,10 @@ ghost use mathlib.Core.Path.{_≡_};
 ghost use mathlib.Core.Bool.{_&&_};
 ghost use Prim.Native.Nat.{_≤_};
 ghost use lib.ListN.{replicate};
+ghost use Rattle.limits.specs.Lengths.{MOST-VOICES};
 ghost use Rattle.scene.specs.Accepted.{motionAccepted, sizeAccepted, settingsAccepted, voiceAccepted, firstVoiceOutside};
 ghost use Rattle.scene.specs.Made.{shapeOf, silentVoice};
-
-// A call is given at most so many voices.
-pub const MOST_VOICES: usize = 128;
+use limits::lengths::MOST_VOICES;
 
 // A note that is held, with its expression. Laid out as in C, so that a slice of them crosses to
 // other languages.
@@ -80,8 +79,8 @@ pub fn shape_of(number: u32) -> MotionShape
 }
 
 // What an array of voices holds before any is put in. Their level is 0.
-pub fn silent_voices() -> [MaskVoice; 128]
-    ensures { λ r. ⌜ r ≡ replicate 128 silentVoice ⌝ }
+pub fn silent_voices() -> [MaskVoice; MOST_VOICES]
+    ensures { λ r. ⌜ r ≡ replicate MOST-VOICES silentVoice ⌝ }
 {
     let voice = MaskVoice {
         note: 0,
@@ -93,7 +92,7 @@ pub fn silent_voices() -> [MaskVoice; 128]
         expression_gain: 0.0f32,
         pan: 0.0f32,
     };
-    [voice; 128]
+    [voice; MOST_VOICES]
 }
 
 // Both of two tests, made without a branch.
@@ -160,8 +159,8 @@ pub fn voice_accepted(voice: MaskVoice) -> bool
 
 // The lowest index of a voice outside its limits; the count where there is none. Voices past the
 // count are not tested.
-pub fn first_voice_outside(voices: [MaskVoice; 128], count: usize) -> usize
-    requires { ⌜ count ≤ 128 ⌝ }
+pub fn first_voice_outside(voices: [MaskVoice; MOST_VOICES], count: usize) -> usize
+    requires { ⌜ count ≤ MOST-VOICES ⌝ }
     ensures { λ r. ⌜ r ≡ firstVoiceOutside voices count ⌝ }
 {
     let mut i: usize = 0;

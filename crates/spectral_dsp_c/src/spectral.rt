@@ -11,6 +11,7 @@ ghost use Rattle.list_calls.specs.Prepared.{prepareReply};
 ghost use Rattle.crossing.specs.Given.{Given, GivenValue};
 ghost use Rattle.crossing.specs.Settings.{motionOf, withShape, bankReply};
 use answer::Answer;
+use answer::refusal;
 use crossing::answers::give_answer;
 use crossing::answers::give_outcome;
 use crossing::bank::advance_bank;
@@ -80,7 +81,7 @@ pub extern "C" fn dovetable_motion_openness(
         (now (openness .exit)) ⌝ }
 {
     if 7 < shape {
-        return give_answer(Answer::Refused(2, 0), openness, place);
+        return give_answer(Answer::Refused(refusal::SETTING, 0), openness, place);
     }
     let motion = motion_of(shape, depth_db, phase, size_octaves);
     give_answer(
@@ -106,7 +107,7 @@ pub extern "C" fn dovetable_motion_attenuation_db(
         (now («attenuation_db» .exit)) ⌝ }
 {
     if 7 < shape {
-        return give_answer(Answer::Refused(2, 0), attenuation_db, place);
+        return give_answer(Answer::Refused(refusal::SETTING, 0), attenuation_db, place);
     }
     let motion = motion_of(shape, depth_db, phase, size_octaves);
     give_answer(
@@ -130,7 +131,7 @@ pub extern "C" fn dovetable_motion_compensation_gain(
         (now (place .entry)) (now (place .exit)) (now (gain .entry)) (now (gain .exit)) ⌝ }
 {
     if 7 < shape {
-        return give_answer(Answer::Refused(2, 0), gain, place);
+        return give_answer(Answer::Refused(refusal::SETTING, 0), gain, place);
     }
     let motion = motion_of(shape, depth_db, phase, size_octaves);
     give_answer(spectral_dsp::motion_compensation_gain(motion), gain, place)

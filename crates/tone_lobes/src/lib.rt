@@ -4,9 +4,11 @@ ghost use mathlib.Core.Bool.{true};
 ghost use Prim.Native.Nat.{_^_, _≤_, _<_};
 ghost use lib.ListN.{length, take};
 ghost use Rattle.power.specs.Table.{powerTable};
+ghost use Rattle.limits.specs.Lengths.{MAX-PARTIALS};
 ghost use Rattle.lobes.specs.Tone.{partialOctaves};
 ghost use Rattle.lobes.specs.Distance.{logsOf};
 ghost use Rattle.tone_lobes.specs.ToneLobes.{partialsOf, lobesOf};
+use limits::lengths::MAX_PARTIALS;
 use lobes::Grid;
 use lobes::Lobe;
 use lobes::Tone;
@@ -17,7 +19,7 @@ use power::table::PowerTable;
 
 // How many partials there are up to the first above nyquist.
 pub fn partials_of(grid: Grid, tone: Tone) -> usize
-    requires { ⌜ grid .partials ≤ 24 ⌝ }
+    requires { ⌜ grid .partials ≤ MAX-PARTIALS ⌝ }
     ensures { λ r. ⌜ (r ≡ length (partialsOf grid tone)) × (r ≤ grid .partials) ⌝ }
 {
     let mut count: usize = 0;
@@ -30,8 +32,8 @@ pub fn partials_of(grid: Grid, tone: Tone) -> usize
     count
 }
 
-fn empty_lobes() -> [Lobe; 24]
-    ensures { λ r. ⌜ length r ≡ 24 ⌝ }
+fn empty_lobes() -> [Lobe; MAX_PARTIALS]
+    ensures { λ r. ⌜ length r ≡ MAX-PARTIALS ⌝ }
 {
     let lobe = Lobe {
         center: 0.0,
@@ -41,7 +43,7 @@ fn empty_lobes() -> [Lobe; 24]
         last_bin: 0,
         peak_squared: 0.0,
     };
-    [lobe; 24]
+    [lobe; MAX_PARTIALS]
 }
 
 // The lobes of the first `count` partials, which are all that the tone has.
@@ -53,15 +55,15 @@ pub fn lobes_of(
     grid: Grid,
     tone: Tone,
     count: usize,
-) -> [Lobe; 24]
+) -> [Lobe; MAX_PARTIALS]
     requires { ⌜ (now powers ≡ powerTable)
         × (now octaves ≡ partialOctaves)
-        × (grid .partials ≤ 24)
+        × (grid .partials ≤ MAX-PARTIALS)
         × (grid .«last_bin» ≤ 2 ^ 24)
         × (tabled ≡ true → grid .«last_bin» < length (now table))
         × (count ≡ length (partialsOf grid tone)) ⌝ }
     ensures { λ r. ⌜ (take count r ≡ lobesOf grid (logsOf tabled (now (table .entry))) tone)
-        × (length r ≡ 24) ⌝ }
+        × (length r ≡ MAX-PARTIALS) ⌝ }
 {
     let mut lobes = empty_lobes();
     let mut p: usize = 0;

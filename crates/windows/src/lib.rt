@@ -2,6 +2,7 @@
 ghost use mathlib.Core.Path.{_≡_};
 ghost use Prim.Native.Nat.{_+_, _/_, _%_, _^_, _≤_, _<_};
 ghost use lib.ListN.{length};
+ghost use Rattle.limits.specs.Lengths.{MOST-WINDOW};
 ghost use Rattle.windows.specs.Windows.{denominatorAt, dualOf, sumOf, coherentGain};
 
 // A sum of squares below this counts as this.
@@ -62,7 +63,7 @@ fn sum(window: &[f32]) -> f32
 
 // The mean of a window's values: what it does to a steady tone's level.
 pub fn coherent_gain(window: &[f32]) -> f32
-    requires { ⌜ length (now window) ≤ 16384 ⌝ }
+    requires { ⌜ length (now window) ≤ MOST-WINDOW ⌝ }
     ensures { λ r. ⌜ r ≡ coherentGain (now (window .entry)) ⌝ }
 {
     sum(window) / (window.len() as f32)

@@ -5,7 +5,7 @@ use Prim.Native.Nat.{_/_}
 use native.Mathlib.Nat.{div-le-self, div-mul-le-self}
 use native.Mathlib.Omega.{arith}
 use borrow.Author.Needs.{needs}
-use Rattle.masks.specs.Manual.{LAST-POINT}
+use Rattle.limits.specs.Lengths.{LAST-POINT}
 use Rattle.masks.proofs.rows.point_step.Statement.{statement}
 use Rattle.masks.proofs.rows.point_step.Tie as tie
 

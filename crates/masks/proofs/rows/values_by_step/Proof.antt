@@ -7,7 +7,7 @@ use lib.Ieee.{nan}
 use Rattle.lists.specs.Turned.{Turned, turned-none, turned-more, turned-to}
 use mathlib.Core.Path.{ap}
 use lib.ListN.{getD}
-use Rattle.masks.specs.Manual.{LAST-POINT}
+use Rattle.limits.specs.Lengths.{LAST-POINT}
 use borrow.Author.Needs.{needs}
 use Rattle.masks.proofs.rows.values_by_step.Statement.{statement}
 use Rattle.masks.proofs.rows.values_by_step.Tie as tie

@@ -1,7 +1,7 @@
 -- `window_length` is the definition's pair of tests. Assumes nothing.
 use borrow.Author.Tests.{le-leb, lt-leb}
-use Rattle.list_calls.proofs.window_length.Statement.{statement}
-use Rattle.list_calls.proofs.window_length.Tie as tie
+use Rattle.limits.proofs.lengths.window_length.Statement.{statement}
+use Rattle.limits.proofs.lengths.window_length.Tie as tie
 
 returns : tie.Need-returns
 returns c = rw (le-leb _ _ (c .if1 .taken))

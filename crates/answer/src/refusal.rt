@@ -1,0 +1,25 @@
+// Document 01's refusal numbers by name, in the order of its table.
+
+// The size is not a power of two in 64..16,384, or the rate is outside its limits.
+pub const SIZE_OR_RATE: u8 = 1;
+
+// A setting or a lone number is outside its limits.
+pub const SETTING: u8 = 2;
+
+// There are over 128 voices.
+pub const VOICE_COUNT: u8 = 3;
+
+// A slice has the wrong length.
+pub const LENGTH: u8 = 4;
+
+// A voice is outside its limits. The place is its index.
+pub const VOICE: u8 = 5;
+
+// A table entry from 1 on is outside its limits. The place is its index.
+pub const TABLE_ENTRY: u8 = 6;
+
+// A level, gain or window value is outside its limits. The place is its index.
+pub const LIST_VALUE: u8 = 7;
+
+// The overlap is outside its limits or does not divide the length.
+pub const OVERLAP: u8 = 8;
