@@ -10,13 +10,13 @@ use Rattle.answer.specs.Reply.{Reply}
 use Rattle.limits.specs.Lengths.{MANUAL-MASK-POINTS}
 use Rattle.scene.specs.declared.MaskVoice.{MaskVoice}
 use Rattle.scene.specs.declared.MaskConfig.{MaskConfig}
-use Rattle.limits.specs.Lengths.{NOTES}
+use Rattle.limits.specs.Lengths.{MIDI-NOTES}
 use Rattle.refusals.specs.Masks.{bins, first, settingsReply, voicesReply, tableReply, levelsReply, maskReply, voicesMaskReply, tabledMaskReply, stereoReply}
 
 module _ (curve : List Float) (config : MaskConfig) {outcome settings : Reply} where
   pub mask-answer : (n : ℕ) (levels : List Float) {tested : Reply} {lengths given : Bool}
       → outcome ≡ first settings tested → settings ≡ settingsReply config → tested ≡ levelsReply levels lengths
-      → lengths ≡ (eqb n (bins config) && given) → given ≡ (eqb (length curve) MANUAL-MASK-POINTS && eqb (length levels) NOTES) → outcome ≡ maskReply n curve levels config
+      → lengths ≡ (eqb n (bins config) && given) → given ≡ (eqb (length curve) MANUAL-MASK-POINTS && eqb (length levels) MIDI-NOTES) → outcome ≡ maskReply n curve levels config
   unfolding maskReply
   mask-answer n levels o s t l g = rw (o, s, t, l, g) refl
 

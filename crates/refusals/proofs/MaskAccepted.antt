@@ -18,7 +18,7 @@ use Rattle.scene.specs.declared.MaskVoice.{MaskVoice}
 use Rattle.scene.specs.declared.MaskConfig.{MaskConfig}
 use Rattle.scene.specs.Accepted.{noVoice, sizeAccepted, settingsAccepted, voiceAccepted, firstVoiceOutside}
 use Rattle.limits.specs.Lengths.{MANUAL-MASK-POINTS}
-use Rattle.limits.specs.Lengths.{MOST-VOICES, NOTES}
+use Rattle.limits.specs.Lengths.{MOST-VOICES, MIDI-NOTES}
 use Rattle.refusals.specs.Masks.{bins, entryAccepted, first, settingsReply, voicesReply, tableReply, levelsReply, firstEntryOutside, maskReply, voicesMaskReply, tabledMaskReply, stereoReply}
 
 -- a reply that is no refusal
@@ -100,15 +100,15 @@ module _ (curve : List Float) (config : MaskConfig) where
   abbrev Common : Type 0
   Common = (length curve ≡ MANUAL-MASK-POINTS) × (config .«fft_size» ≤ 16384)
 
-  pub mask-accepted : (n : ℕ) (levels : List Float) → Done (maskReply n curve levels config) → Common × (length levels ≡ NOTES) × (n ≡ bins config)
+  pub mask-accepted : (n : ℕ) (levels : List Float) → Done (maskReply n curve levels config) → Common × (length levels ≡ MIDI-NOTES) × (n ≡ bins config)
   unfolding maskReply
   mask-accepted n levels d =
-      let p = both-done (settingsReply config) (levelsReply levels (eqb n (bins config) && (eqb (length curve) MANUAL-MASK-POINTS && eqb (length levels) NOTES))) d in
+      let p = both-done (settingsReply config) (levelsReply levels (eqb n (bins config) && (eqb (length curve) MANUAL-MASK-POINTS && eqb (length levels) MIDI-NOTES))) d in
       let t = lengths-done levels _ (p .1) in
-      let u = and-r (eqb n (bins config)) (eqb (length curve) MANUAL-MASK-POINTS && eqb (length levels) NOTES) t in (
-        (eqb→eq _ _ (and-l (eqb (length curve) MANUAL-MASK-POINTS) (eqb (length levels) NOTES) u), size-most config (settings-done config (p .0) .0)),
-        eqb→eq _ _ (and-r (eqb (length curve) MANUAL-MASK-POINTS) (eqb (length levels) NOTES) u),
-        eqb→eq _ _ (and-l (eqb n (bins config)) (eqb (length curve) MANUAL-MASK-POINTS && eqb (length levels) NOTES) t),
+      let u = and-r (eqb n (bins config)) (eqb (length curve) MANUAL-MASK-POINTS && eqb (length levels) MIDI-NOTES) t in (
+        (eqb→eq _ _ (and-l (eqb (length curve) MANUAL-MASK-POINTS) (eqb (length levels) MIDI-NOTES) u), size-most config (settings-done config (p .0) .0)),
+        eqb→eq _ _ (and-r (eqb (length curve) MANUAL-MASK-POINTS) (eqb (length levels) MIDI-NOTES) u),
+        eqb→eq _ _ (and-l (eqb n (bins config)) (eqb (length curve) MANUAL-MASK-POINTS && eqb (length levels) MIDI-NOTES) t),
       )
 
   module _ (voices : List MaskVoice) (count : ℕ) where

@@ -1,5 +1,5 @@
 -- `MaskWorkspace::prepare` answers as the chain of its tests says, leaves the table as it was where it refuses, and fills it where it is done. Assumes nothing.
-use mathlib.Core.Path.{refl}
+use mathlib.Core.Path.{refl, sym, _∙_}
 use native.Mathlib.Omega.{arith}
 use borrow.Author.Needs.{needs}
 use Rattle.refusals.proofs.Tests.{fails, passes, differ, agree}
@@ -21,21 +21,22 @@ returns-2 c =
     let s = c .before .before in
     (passes _ _ (s .before .size .ensures) (s .if1 .left) (fails _ _ (c .before .rate .ensures) (c .if2 .taken)), refl)
 
-add-if3 : tie.Need-add-if3
-add-if3 c = search needs
+bins-requires : tie.Need-bins-requires
+bins-requires c κs = search needs
 
 returns-3 : tie.Need-returns-3
 returns-3 c =
-    let r = c .before in
+    let r = c .before .before in
     let s = r .before .before in
-    (passes _ _ (s .before .size .ensures) (s .if1 .left) (passes _ _ (r .before .rate .ensures) (r .if2 .left) (differ _ _ (c .if3 .taken))), refl)
+    let other = differ _ _ (λ e. c .if3 .taken (e ∙ sym (c .before .bins .ensures))) in
+    (passes _ _ (s .before .size .ensures) (s .if1 .left) (passes _ _ (r .before .rate .ensures) (r .if2 .left) other), refl)
 
 fill-requires : tie.Need-fill-requires
 fill-requires c κs =
     let t = c .before in
-    let s = t .before .before .before in
+    let s = t .before .before .before .before in
     let small = size-at-most (s .before .before .before .args .fft-size) (passed (s .before .size .ensures) (s .if1 .left)) in
-    (omega arith, omega arith)
+    (omega arith, omega (arith, t .if3 .left, t .before .bins .ensures))
 
 same-length : tie.Need-same-length
 same-length c = search needs
@@ -43,9 +44,10 @@ same-length c = search needs
 returns-4 : tie.Need-returns-4
 returns-4 c =
     let t = c .before .before .before .before in
-    let r = t .before in
-    let s = r .before .before in (
-      passes _ _ (s .before .size .ensures) (s .if1 .left) (passes _ _ (r .before .rate .ensures) (r .if2 .left) (agree _ _ (t .if3 .left) refl)),
+    let r = t .before .before in
+    let s = r .before .before in
+    let same = t .if3 .left ∙ t .before .bins .ensures in (
+      passes _ _ (s .before .size .ensures) (s .if1 .left) (passes _ _ (r .before .rate .ensures) (r .if2 .left) (agree _ _ same refl)),
       c .before .before .fill .ensures,
     )
 
@@ -57,7 +59,7 @@ prepare-spec =
     returns
     rate-requires
     returns-2
-    add-if3
+    bins-requires
     returns-3
     fill-requires
     same-length
