@@ -18,8 +18,8 @@ use borrow.Author.Needs.{needs}
 use Rattle.mask_calls.proofs.build_mask.Statement.{statement}
 use Rattle.mask_calls.proofs.build_mask.Tie as tie
 
-add-bins : tie.Need-add-bins
-add-bins c = search needs
+bins-requires : tie.Need-bins-requires
+bins-requires c κs = search needs
 
 both-requires : tie.Need-both-requires
 both-requires c κs = search needs
@@ -53,7 +53,7 @@ voices-of-requires c κs =
     let v = k .before in
     let a = v .before .before .before .before .before .before .before .before .args in
     let e =
-    mask-answer (a .manual-mask-db .now) (a .config) (length (a .output .now)) (a .note-levels .now) (k .first .ensures) (v .before .of-settings .ensures) (v .of-levels .ensures)
+    mask-answer (a .manual-mask-db .now) (a .config) (v .before .before .before .before .bins .ensures) (length (a .output .now)) (a .note-levels .now) (k .first .ensures) (v .before .of-settings .ensures) (v .of-levels .ensures)
     (v .before .before .both2 .ensures) (v .before .before .before .both .ensures) in
     let d = is-done _ (sym e ∙ ap ofOutcome (told .enum-told .given .1)) in
     let f = mask-accepted (a .manual-mask-db .now) (a .config) (length (a .output .now)) (a .note-levels .now) d in
@@ -66,7 +66,7 @@ build-one-requires c κs =
     let v = k .before in
     let a = v .before .before .before .before .before .before .before .before .args in
     let e =
-    mask-answer (a .manual-mask-db .now) (a .config) (length (a .output .now)) (a .note-levels .now) (k .first .ensures) (v .before .of-settings .ensures) (v .of-levels .ensures)
+    mask-answer (a .manual-mask-db .now) (a .config) (v .before .before .before .before .bins .ensures) (length (a .output .now)) (a .note-levels .now) (k .first .ensures) (v .before .of-settings .ensures) (v .of-levels .ensures)
     (v .before .before .both2 .ensures) (v .before .before .before .both .ensures) in
     let d = is-done _ (sym e ∙ ap ofOutcome (told .enum-told .given .1)) in
     let f = mask-accepted (a .manual-mask-db .now) (a .config) (length (a .output .now)) (a .note-levels .now) d in
@@ -78,7 +78,7 @@ returns c =
     let v = k .before in
     let a = v .before .before .before .before .before .before .before .before .args in
     let e =
-    mask-answer (a .manual-mask-db .now) (a .config) (length (a .output .now)) (a .note-levels .now) (k .first .ensures) (v .before .of-settings .ensures) (v .of-levels .ensures)
+    mask-answer (a .manual-mask-db .now) (a .config) (v .before .before .before .before .bins .ensures) (length (a .output .now)) (a .note-levels .now) (k .first .ensures) (v .before .of-settings .ensures) (v .of-levels .ensures)
     (v .before .before .both2 .ensures) (v .before .before .before .both .ensures) in
     (ap ofOutcome (sym (c .before .outcome .given .1)) ∙ e, refl)
 
@@ -93,7 +93,7 @@ returns-2 c =
     let v = k .before in
     let a = v .before .before .before .before .before .before .before .before .args in
     let e =
-    mask-answer (a .manual-mask-db .now) (a .config) (length (a .output .now)) (a .note-levels .now) (k .first .ensures) (v .before .of-settings .ensures) (v .of-levels .ensures)
+    mask-answer (a .manual-mask-db .now) (a .config) (v .before .before .before .before .bins .ensures) (length (a .output .now)) (a .note-levels .now) (k .first .ensures) (v .before .of-settings .ensures) (v .of-levels .ensures)
     (v .before .before .both2 .ensures) (v .before .before .before .both .ensures) in
     (ap ofOutcome (sym (told .enum-told .given .1)) ∙ e, built .build-one .ensures ∙ ap (maskOf (a .manual-mask-db .now) (a .config) none mono) (ap (take 128) (built .before .before .voices-of .ensures) ∙ all-voices (a .note-levels .now)))
 
@@ -101,7 +101,7 @@ pub build-mask-spec : {M : Type 1} → statement M
 build-mask-spec =
     tie.close
     (tie.spec
-    add-bins
+    bins-requires
     both-requires
     both-requires-2
     of-settings-requires

@@ -9,8 +9,8 @@ use borrow.Author.Needs.{needs}
 use Rattle.mask_calls.proofs.build_mask_with_voices.Statement.{statement}
 use Rattle.mask_calls.proofs.build_mask_with_voices.Tie as tie
 
-add-bins : tie.Need-add-bins
-add-bins c = search needs
+bins-requires : tie.Need-bins-requires
+bins-requires c κs = search needs
 
 both-requires : tie.Need-both-requires
 both-requires c κs = search needs
@@ -37,7 +37,7 @@ build-one-requires c κs =
     let v = k .before in
     let a = v .before .before .before .before .before .before .args in
     let e =
-    voices-mask-answer (a .manual-mask-db .now) (a .config) (a .voices) (a .count) (length (a .output .now)) (k .first .ensures) (v .before .of-settings .ensures) (v .of-voices .ensures)
+    voices-mask-answer (a .manual-mask-db .now) (a .config) (v .before .before .before .bins .ensures) (a .voices) (a .count) (length (a .output .now)) (k .first .ensures) (v .before .of-settings .ensures) (v .of-voices .ensures)
     (v .before .before .both .ensures) in
     let d = is-done _ (sym e ∙ ap ofOutcome (told .enum-told .given .1)) in
     let f = voices-mask-accepted (a .manual-mask-db .now) (a .config) (a .voices) (a .count) (length (a .output .now)) d in
@@ -49,7 +49,7 @@ returns c =
     let v = k .before in
     let a = v .before .before .before .before .before .before .args in
     let e =
-    voices-mask-answer (a .manual-mask-db .now) (a .config) (a .voices) (a .count) (length (a .output .now)) (k .first .ensures) (v .before .of-settings .ensures) (v .of-voices .ensures)
+    voices-mask-answer (a .manual-mask-db .now) (a .config) (v .before .before .before .bins .ensures) (a .voices) (a .count) (length (a .output .now)) (k .first .ensures) (v .before .of-settings .ensures) (v .of-voices .ensures)
     (v .before .before .both .ensures) in
     (ap ofOutcome (sym (c .before .outcome .given .1)) ∙ e, refl)
 
@@ -64,7 +64,7 @@ returns-2 c =
     let v = k .before in
     let a = v .before .before .before .before .before .before .args in
     let e =
-    voices-mask-answer (a .manual-mask-db .now) (a .config) (a .voices) (a .count) (length (a .output .now)) (k .first .ensures) (v .before .of-settings .ensures) (v .of-voices .ensures)
+    voices-mask-answer (a .manual-mask-db .now) (a .config) (v .before .before .before .bins .ensures) (a .voices) (a .count) (length (a .output .now)) (k .first .ensures) (v .before .of-settings .ensures) (v .of-voices .ensures)
     (v .before .before .both .ensures) in
     (ap ofOutcome (sym (told .enum-told .given .1)) ∙ e, built .build-one .ensures)
 
@@ -72,7 +72,7 @@ pub build-mask-with-voices-spec : {M : Type 1} → statement M
 build-mask-with-voices-spec =
     tie.close
     (tie.spec
-    add-bins
+    bins-requires
     both-requires
     of-settings-requires
     of-voices-requires

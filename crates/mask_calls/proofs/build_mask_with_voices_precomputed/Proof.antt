@@ -12,8 +12,8 @@ use Rattle.mask_calls.proofs.build_mask_with_voices_precomputed.Stateme
 }
 use Rattle.mask_calls.proofs.build_mask_with_voices_precomputed.Tie as tie
 
-add-bins : tie.Need-add-bins
-add-bins c = search needs
+bins-requires : tie.Need-bins-requires
+bins-requires c κs = search needs
 
 both-requires : tie.Need-both-requires
 both-requires c κs = search needs
@@ -49,7 +49,7 @@ build-one-requires c κs =
     let v = k .before .before .before .before in
     let a = v .before .before .before .before .before .before .before .args in
     let e =
-    tabled-mask-answer (a .manual-mask-db .now) (a .config) (a .voices) (a .count) (a .table .now) (k .first2 .ensures) (k .before .of-settings .ensures) (k .before .before .first .ensures)
+    tabled-mask-answer (a .manual-mask-db .now) (a .config) (v .before .before .before .bins .ensures) (a .voices) (a .count) (a .table .now) (k .first2 .ensures) (k .before .of-settings .ensures) (k .before .before .first .ensures)
     (v .of-voices .ensures) (k .before .before .before .of-table .ensures) (v .before .before .both .ensures) (length (a .output .now)) (v .before .both2 .ensures) in
     let d = is-done _ (sym e ∙ ap ofOutcome (told .enum-told .given .1)) in
     let f = tabled-mask-accepted (a .manual-mask-db .now) (a .config) (a .voices) (a .count) (a .table .now) (length (a .output .now)) d in
@@ -64,7 +64,7 @@ returns c =
     let v = k .before .before .before .before in
     let a = v .before .before .before .before .before .before .before .args in
     let e =
-    tabled-mask-answer (a .manual-mask-db .now) (a .config) (a .voices) (a .count) (a .table .now) (k .first2 .ensures) (k .before .of-settings .ensures) (k .before .before .first .ensures)
+    tabled-mask-answer (a .manual-mask-db .now) (a .config) (v .before .before .before .bins .ensures) (a .voices) (a .count) (a .table .now) (k .first2 .ensures) (k .before .of-settings .ensures) (k .before .before .first .ensures)
     (v .of-voices .ensures) (k .before .before .before .of-table .ensures) (v .before .before .both .ensures) (length (a .output .now)) (v .before .both2 .ensures) in
     (ap ofOutcome (sym (c .before .outcome .given .1)) ∙ e, refl)
 
@@ -79,7 +79,7 @@ returns-2 c =
     let v = k .before .before .before .before in
     let a = v .before .before .before .before .before .before .before .args in
     let e =
-    tabled-mask-answer (a .manual-mask-db .now) (a .config) (a .voices) (a .count) (a .table .now) (k .first2 .ensures) (k .before .of-settings .ensures) (k .before .before .first .ensures)
+    tabled-mask-answer (a .manual-mask-db .now) (a .config) (v .before .before .before .bins .ensures) (a .voices) (a .count) (a .table .now) (k .first2 .ensures) (k .before .of-settings .ensures) (k .before .before .first .ensures)
     (v .of-voices .ensures) (k .before .before .before .of-table .ensures) (v .before .before .both .ensures) (length (a .output .now)) (v .before .both2 .ensures) in
     (ap ofOutcome (sym (told .enum-told .given .1)) ∙ e, built .build-one .ensures)
 
@@ -87,7 +87,7 @@ pub build-mask-with-voices-precomputed-spec : {M : Type 1} → statement M
 build-mask-with-voices-precomputed-spec =
     tie.close
     (tie.spec
-    add-bins
+    bins-requires
     both-requires
     both-requires-2
     of-voices-requires

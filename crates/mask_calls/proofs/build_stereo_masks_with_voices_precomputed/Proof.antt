@@ -12,8 +12,8 @@ use Rattle.mask_calls.proofs.build_stereo_masks_with_voices_precomputed
 }
 use Rattle.mask_calls.proofs.build_stereo_masks_with_voices_precomputed.Tie as tie
 
-add-bins : tie.Need-add-bins
-add-bins c = search needs
+bins-requires : tie.Need-bins-requires
+bins-requires c κs = search needs
 
 both-requires : tie.Need-both-requires
 both-requires c κs = search needs
@@ -52,7 +52,7 @@ build-two-requires c κs =
     let v = k .before .before .before .before in
     let a = v .before .before .before .before .before .before .before .before .before .args in
     let e =
-    stereo-answer (a .manual-mask-db .now) (a .config) (a .voices) (a .count) (a .table .now) (k .first2 .ensures) (k .before .of-settings .ensures) (k .before .before .first .ensures) (v .of-voices .ensures) (k .before .before .before .of-table .ensures)
+    stereo-answer (a .manual-mask-db .now) (a .config) (v .before .before .before .before .bins .ensures) (a .voices) (a .count) (a .table .now) (k .first2 .ensures) (k .before .of-settings .ensures) (k .before .before .first .ensures) (v .of-voices .ensures) (k .before .before .before .of-table .ensures)
     (v .before .before .both2 .ensures) (length (a .left .now)) (length (a .right .now)) (v .before .both3 .ensures) (v .before .before .before .both .ensures) in
     let d = is-done _ (sym e ∙ ap ofOutcome (told .enum-told .given .1)) in
     let f = stereo-accepted (a .manual-mask-db .now) (a .config) (a .voices) (a .count) (a .table .now) (length (a .left .now)) (length (a .right .now)) d in
@@ -67,7 +67,7 @@ returns c =
     let v = k .before .before .before .before in
     let a = v .before .before .before .before .before .before .before .before .before .args in
     let e =
-    stereo-answer (a .manual-mask-db .now) (a .config) (a .voices) (a .count) (a .table .now) (k .first2 .ensures) (k .before .of-settings .ensures) (k .before .before .first .ensures) (v .of-voices .ensures) (k .before .before .before .of-table .ensures)
+    stereo-answer (a .manual-mask-db .now) (a .config) (v .before .before .before .before .bins .ensures) (a .voices) (a .count) (a .table .now) (k .first2 .ensures) (k .before .of-settings .ensures) (k .before .before .first .ensures) (v .of-voices .ensures) (k .before .before .before .of-table .ensures)
     (v .before .before .both2 .ensures) (length (a .left .now)) (length (a .right .now)) (v .before .both3 .ensures) (v .before .before .before .both .ensures) in
     (ap ofOutcome (sym (c .before .outcome .given .1)) ∙ e, (refl, refl))
 
@@ -85,7 +85,7 @@ returns-2 c =
     let v = k .before .before .before .before in
     let a = v .before .before .before .before .before .before .before .before .before .args in
     let e =
-    stereo-answer (a .manual-mask-db .now) (a .config) (a .voices) (a .count) (a .table .now) (k .first2 .ensures) (k .before .of-settings .ensures) (k .before .before .first .ensures) (v .of-voices .ensures) (k .before .before .before .of-table .ensures)
+    stereo-answer (a .manual-mask-db .now) (a .config) (v .before .before .before .before .bins .ensures) (a .voices) (a .count) (a .table .now) (k .first2 .ensures) (k .before .of-settings .ensures) (k .before .before .first .ensures) (v .of-voices .ensures) (k .before .before .before .of-table .ensures)
     (v .before .before .both2 .ensures) (length (a .left .now)) (length (a .right .now)) (v .before .both3 .ensures) (v .before .before .before .both .ensures) in
     (ap ofOutcome (sym (told .enum-told .given .1)) ∙ e, built .build-two .ensures)
 
@@ -93,7 +93,7 @@ pub build-stereo-masks-with-voices-precomputed-spec : {M : Type 1} → statement
 build-stereo-masks-with-voices-precomputed-spec =
     tie.close
     (tie.spec
-    add-bins
+    bins-requires
     both-requires
     both-requires-2
     both-requires-3
