@@ -1,4 +1,5 @@
--- The array fills from its start, and of a list of at most 128 voices it begins with the list. Assumes nothing.
+-- The array fills from its start, and of a list of at most 128 voices it begins with the list.
+-- Assumes nothing.
 use mathlib.Core.Path.{_≡_, refl, sym, ap, _∙_}
 use mathlib.Core.List.{List, [], _∷_, _++_}
 use Prim.Native.Nat.{ℕ, zero, suc, _+_, _-_, _<_, _≤_}

@@ -1,5 +1,6 @@
--- Of the array that `gather` gives, the mask builders make what they make of the list itself: a list of more than 128 voices is refused, and of another they read
--- the first `length` entries of the array. Assumes nothing.
+-- Of the array that `gather` gives, the mask builders make what they make of the list itself: a
+-- list of more than 128 voices is refused, and of another they read the first `length` entries of
+-- the array. Assumes nothing.
 use mathlib.Core.Path.{_≡_, refl, sym, ap, _∙_}
 use mathlib.Core.Bool.{Bool, true, false, cond, not}
 use mathlib.Core.List.{List, []}
