@@ -1,4 +1,5 @@
--- What equal settings, equal entries and matched voices are worth to the laws below: settings that differ at most in signs of zeros, and a voice raised above another. Assumes nothing.
+-- What equal settings, equal entries and matched voices are worth to the laws below: settings that
+-- differ at most in signs of zeros, and a voice raised above another. Assumes nothing.
 use mathlib.Core.Path.{_≡_, refl, sym, ap, _∙_}
 use mathlib.Core.Bool.{true, false, not}
 use Prim.Native.Nat.{ℕ, _/_, _+_, _<_}
@@ -19,7 +20,7 @@ use Rattle.scene.proofs.Voices.{RealVoice}
 use Rattle.lobes.proofs.Raised.{Raised}
 use Rattle.lobes.proofs.ZeroSigns.{SameTable, pitch-same, timbre-same, balance-same}
 use Rattle.mask_builder.proofs.ZeroSigns.{SameConfig}
-use Rattle.chord_law.specs.Calls.{Call, Accepted, F32Call}
+use Rattle.chord_law.specs.Calls.{Call, Accepted, whole, F32Call}
 use Rattle.chord_law.specs.Voices.{NoLower, Matched}
 use Rattle.chord_law.specs.Settings.{SameSettings, SameEntries}
 use Rattle.mask_calls.specs.F32.{F32Settings}
@@ -71,7 +72,7 @@ module _ (a b : MaskConfig) (s : T (sizeAccepted a)) (s' : T (sizeAccepted b)) (
       }
 
 -- ---- the table
-module _ (a b : Call) (p : Accepted a) (q : Accepted b) (f : F32Call a) (g : F32Call b) where
+module _ (a b : Call) (p : Accepted (whole a)) (q : Accepted (whole b)) (f : F32Call a) (g : F32Call b) where
   pub same-lengths : a .config .«fft_size» ≡ b .config .«fft_size» → length (a .table) ≡ length (b .table)
   same-lengths e = table-length a p ∙ ap (λ (n : ℕ). n / 2 + 1) e ∙ sym (table-length b q)
 

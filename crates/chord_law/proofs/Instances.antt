@@ -1,5 +1,7 @@
--- The premise on voices can be met: a chord is matched in itself with one note more, in itself turned round, and in itself with one level raised. The law then says, for every curve, table and
--- settings that are accepted with the two lists: a note more or a level raised lowers no bin, and the order of the notes is not heard. Assumes nothing.
+-- The premise on voices can be met: a chord is matched in itself with one note more, in itself
+-- turned round, and in itself with one level raised. The law then says, for every curve, table and
+-- settings that are accepted with the two lists: a note more or a level raised lowers no bin, and
+-- the order of the notes is not heard. Assumes nothing.
 use mathlib.Core.Path.{_≡_, refl, sym, subst}
 use mathlib.Core.Bool.{not}
 use mathlib.Core.List.{List, [], _∷_}
@@ -11,12 +13,12 @@ use lib.Ieee.{Float, ofBits, ofFields, odd, eq, lt}
 use Rattle.scene.specs.declared.MaskVoice.{MaskVoice}
 use Rattle.float32.specs.Remainder as remainder
 use Rattle.float32.specs.Remainder.{half}
-use Rattle.chord_law.specs.Calls.{Call, F32Call, given}
+use Rattle.chord_law.specs.Calls.{Call, F32Call, given, whole}
 use Rattle.chord_law.specs.Voices.{Matched, MatchIn, MatchedIn}
 use Rattle.chord_law.specs.Curves.{NowhereAbove}
 use Rattle.chord_law.specs.Masks.{MasksNotAbove, MasksEqual}
 use Rattle.chord_law.specs.Premises.{Comparable, Beneath}
-use Rattle.chord_law.proofs.Law.{chord-law, chord-law-equal}
+use Rattle.chord_law.proofs.Law.{masks-not-above, masks-equal}
 
 -- a note at a level, with full pressure and volume, at the centre
 abbrev pub voice : ℕ → Float → MaskVoice
@@ -111,17 +113,29 @@ raised =
     (record { place = 2; there = lit< tt; matches = at-level 67 half remainder.one (kind .one-above-half) })
 
 -- ---- the law at each
-module _ (a b : Call) (fa : F32Call a) (fb : F32Call b) (c : Comparable a b) (is-chord : given a ≡ chord) where
-  beneath : (ys : List MaskVoice) → given b ≡ ys → MatchedIn chord ys → NowhereAbove (a .curve) (b .curve) → Beneath a b
-  beneath ys e m h = record { matched = subst (λ xs. MatchedIn xs (given b)) (sym is-chord) (subst (λ zs. MatchedIn chord zs) (sym e) m); curve = h }
+module _ (a b : Call) (fa : F32Call a) (fb : F32Call b)
+    (c : Comparable (whole a) (whole b)) (is-chord : given a ≡ chord) where
+  beneath :
+      (ys : List MaskVoice) → given b ≡ ys → MatchedIn chord ys → NowhereAbove (a .curve) (b .curve)
+      → Beneath (whole a) (whole b)
+  beneath ys e m h =
+      let on-chord = subst (λ zs. MatchedIn chord zs) (sym e) m in
+      record { matched = subst (λ xs. MatchedIn xs (given b)) (sym is-chord) on-chord; curve = h }
 
-  pub a-note-more-lowers-no-bin : given b ≡ with-one-more → NowhereAbove (a .curve) (b .curve) → MasksNotAbove a b
-  a-note-more-lowers-no-bin e h = chord-law a b fa fb c (beneath with-one-more e one-more h)
+  pub a-note-more-lowers-no-bin :
+      given b ≡ with-one-more → NowhereAbove (a .curve) (b .curve)
+      → MasksNotAbove (whole a) (whole b)
+  a-note-more-lowers-no-bin e h = masks-not-above a b fa fb c (beneath with-one-more e one-more h)
 
-  pub a-level-raised-lowers-no-bin : given b ≡ with-G-raised → NowhereAbove (a .curve) (b .curve) → MasksNotAbove a b
-  a-level-raised-lowers-no-bin e h = chord-law a b fa fb c (beneath with-G-raised e raised h)
+  pub a-level-raised-lowers-no-bin :
+      given b ≡ with-G-raised → NowhereAbove (a .curve) (b .curve)
+      → MasksNotAbove (whole a) (whole b)
+  a-level-raised-lowers-no-bin e h = masks-not-above a b fa fb c (beneath with-G-raised e raised h)
 
-  pub the-order-is-not-heard : given b ≡ reversed → NowhereAbove (a .curve) (b .curve) → NowhereAbove (b .curve) (a .curve) → MasksEqual a b
+  pub the-order-is-not-heard :
+      given b ≡ reversed → NowhereAbove (a .curve) (b .curve) → NowhereAbove (b .curve) (a .curve)
+      → MasksEqual (whole a) (whole b)
   the-order-is-not-heard e h k =
-      chord-law-equal a b fa fb c (beneath reversed e turned-round h)
-      (record { matched = subst (λ xs. MatchedIn xs (given a)) (sym e) (subst (λ zs. MatchedIn reversed zs) (sym is-chord) turned-back); curve = k })
+      let back = subst (λ zs. MatchedIn reversed zs) (sym is-chord) turned-back in
+      masks-equal a b fa fb c (beneath reversed e turned-round h)
+      (record { matched = subst (λ xs. MatchedIn xs (given a)) (sym e) back; curve = k })

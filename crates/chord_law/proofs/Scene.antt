@@ -1,5 +1,6 @@
--- Two whole calls that meet every premise, on any curve without NaN: a chord, and the same chord with one note more, at 48,000 Hz and size 64 with a table of zeros. So the law is not empty: no bin
--- of the chord's masks is above that of the larger chord. Assumes nothing.
+-- Two whole calls that meet every premise, on any curve without NaN: a chord, and the same chord
+-- with one note more, at 48,000 Hz and size 64 with a table of zeros. So the law is not empty: no
+-- bin of the chord's masks is above that of the larger chord. Assumes nothing.
 use mathlib.Core.Path.{_≡_, refl, sym, subst}
 use mathlib.Core.Bool.{true}
 use mathlib.Core.List.{List}
@@ -23,15 +24,16 @@ use Rattle.scene.specs.Accepted.{noVoice, motionAccepted, sizeAccepted, setting
 use Rattle.float32.specs.Remainder.{half}
 use Rattle.refusals.specs.Masks.{settingsReply, voicesReply, tableReply, stereoReply}
 use Rattle.mask_calls.specs.F32.{F32Voice, F32Settings}
-use Rattle.chord_law.specs.Calls.{Call, F32Call, Accepted}
+use Rattle.chord_law.specs.Calls.{Call, F32Call, Accepted, whole}
 use Rattle.chord_law.specs.Settings.{SameSettings}
 use Rattle.chord_law.specs.Curves.{NoNan, NowhereAbove}
 use Rattle.chord_law.specs.Masks.{MasksNotAbove}
 use Rattle.chord_law.specs.Premises.{Comparable}
-use Rattle.chord_law.proofs.Law.{chord-law}
+use Rattle.chord_law.proofs.Law.{masks-not-above}
 use Rattle.chord_law.proofs.Instances.{voice, chord, with-one-more, one-more}
 
--- 48,000 Hz, size 64, a depth of 96 dB, widths of 100 cents, 8 partials that fall by 6 dB an octave, and a saw of 12 dB, an octave long
+-- 48,000 Hz, size 64, a depth of 96 dB, widths of 100 cents, 8 partials that fall by 6 dB an
+-- octave, and a saw of 12 dB, an octave long
 abbrev config : MaskConfig
 config =
     record {
@@ -78,24 +80,24 @@ module _ (curve : List Float) (long : length curve ≡ MANUAL-MASK-POINTS) (numb
   abbrev call : List MaskVoice → Call
   call voices = record { left-length = 33; right-length = 33; curve = curve; voices = voices; count = length voices; config = config; table = table }
 
-  chord-accepted : Accepted (call chord)
+  chord-accepted : Accepted (whole (call chord))
   unfolding stereoReply settingsReply voicesReply tableReply sizeAccepted settingsAccepted motionAccepted voiceAccepted firstBadFrom tabFrom within finite le lt eq ofBits ofFields odd trailingZeros
   chord-accepted = rw long refl
 
-  larger-accepted : Accepted (call with-one-more)
+  larger-accepted : Accepted (whole (call with-one-more))
   unfolding stereoReply settingsReply voicesReply tableReply sizeAccepted settingsAccepted motionAccepted voiceAccepted firstBadFrom tabFrom within finite le lt eq ofBits ofFields odd trailingZeros
   larger-accepted = rw long refl
 
   call-f32 : (voices : List MaskVoice) → All F32Voice voices → F32Call (call voices)
   call-f32 voices f =
       record {
-        curve = f32;
-        voices = λ i h. all-at F32Voice voices i noVoice f h;
-        settings = settings-f32;
-        table = λ i h. subst (λ (x : Float). T (fits binary32 x)) (sym (entry-is i h)) (zero-f32 .0);
+        curve-f32 = f32;
+        voices-f32 = λ i h. all-at F32Voice voices i noVoice f h;
+        settings-f32 = settings-f32;
+        table-f32 = λ i h. subst (λ (x : Float). T (fits binary32 x)) (sym (entry-is i h)) (zero-f32 .0);
       }
 
-  comparable : Comparable (call chord) (call with-one-more)
+  comparable : Comparable (whole (call chord)) (whole (call with-one-more))
   comparable =
       record {
         a-accepted = chord-accepted;
@@ -112,5 +114,9 @@ module _ (curve : List Float) (long : length curve ≡ MANUAL-MASK-POINTS) (numb
       let n = fits-number binary32 x (f32 i (rw long h)) (numbers i h) in
       le→not-lt-f binary32 x x n n (le-refl-f binary32 x n)
 
-  pub the-larger-chord-is-above : MasksNotAbove (call chord) (call with-one-more)
-  the-larger-chord-is-above = chord-law (call chord) (call with-one-more) (call-f32 chord chord-f32) (call-f32 with-one-more larger-f32) comparable (record { matched = one-more; curve = not-above-itself })
+  pub the-larger-chord-is-above :
+      MasksNotAbove (whole (call chord)) (whole (call with-one-more))
+  the-larger-chord-is-above =
+      masks-not-above (call chord) (call with-one-more) (call-f32 chord chord-f32)
+      (call-f32 with-one-more larger-f32) comparable
+      (record { matched = one-more; curve = not-above-itself })

@@ -1,4 +1,5 @@
--- What two calls are compared by holds the other way round: equality is symmetric, as all its numbers are numbers. Assumes nothing.
+-- What two calls are compared by holds the other way round: equality is symmetric, as all its
+-- numbers are numbers. Assumes nothing.
 use mathlib.Core.Path.{sym}
 use Prim.Native.Nat.{_<_}
 use native.Mathlib.Omega.{arith}
@@ -9,7 +10,7 @@ use Rattle.float_laws.specs.Units.{real-number}
 use Rattle.float_laws.specs.Order.{eq-sym-f}
 use Rattle.scene.specs.declared.MaskConfig.{MaskConfig}
 use Rattle.scene.specs.Accepted.{sizeAccepted, settingsAccepted}
-use Rattle.chord_law.specs.Calls.{Call, F32Call}
+use Rattle.chord_law.specs.Calls.{Call, whole, F32Call}
 use Rattle.chord_law.specs.Settings.{SameSettings, SameEntries}
 use Rattle.chord_law.specs.Premises.{Comparable}
 use Rattle.chord_law.proofs.Acceptance.{size-accepted, settings-accepted, entry-number}
@@ -40,21 +41,21 @@ settings-turned a b s s' t t' f f' h =
           };
     }
 
-module _ (a b : Call) (fa : F32Call a) (fb : F32Call b) (c : Comparable a b) where
+module _ (a b : Call) (fa : F32Call a) (fb : F32Call b) (c : Comparable (whole a) (whole b)) where
   entries-turned : SameEntries (b .table) (a .table)
   entries-turned i l h =
       let e = same-lengths a b (c .a-accepted) (c .b-accepted) fa fb (c .settings .size) in
       let k : i < length (a .table) = omega arith in
       eq-sym-f binary32 (getD (a .table) i nan) (getD (b .table) i nan) (entry-number a (c .a-accepted) fa i l k) (entry-number b (c .b-accepted) fb i l h) (c .table i l k)
 
-  pub turned : Comparable b a
+  pub turned : Comparable (whole b) (whole a)
   turned =
       record {
         a-accepted = c .b-accepted;
         b-accepted = c .a-accepted;
         settings =
             settings-turned (a .config) (b .config) (size-accepted a (c .a-accepted)) (size-accepted b (c .b-accepted)) (settings-accepted a (c .a-accepted)) (settings-accepted b (c .b-accepted))
-            (fa .settings) (fb .settings) (c .settings);
+            (fa .settings-f32) (fb .settings-f32) (c .settings);
         table = entries-turned;
         a-curve = c .b-curve;
         b-curve = c .a-curve;
