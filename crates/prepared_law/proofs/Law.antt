@@ -27,8 +27,9 @@ use Rattle.refusals.specs.Masks.{entryAccepted, firstEntryOutside, tableReply}
 use Rattle.refusals.proofs.MaskAccepted.{Done, is-done}
 use Rattle.list_calls.specs.Prepared.{prepareReply}
 use Rattle.list_calls.specs.Processing.{preparedReply}
-use Rattle.prepared_law.specs.Calls.{NewCall, StereoCall, sizeOf, newReply, blockAfter, tableIn, tableAfter, onTable, onBlock}
-use Rattle.prepared_law.specs.Law.{TableFor, AtRateAndSize, BlockIsPrepared, PreparedLaw}
+use Rattle.prepared_law.specs.Calls.{NewCall, sizeOf, newReply, blockAfter, tableIn}
+use Rattle.prepared_law.specs.Calls.{tableAfter, onTable}
+use Rattle.prepared_law.specs.Law.{TableFor, BlockIsPrepared, PreparedLaw}
 
 -- ---- a reply that is done passed its first test
 past :
@@ -50,7 +51,8 @@ four-windows n a b c d e la lb lc ld = drop-at (a ++ b ++ c ++ d) e (4 * n) fron
 dual-length : (w : List Float) (overlap : ℕ) → length (dualOf w overlap) ≡ length w
 dual-length w overlap = length-tab (dualAt w (length w / overlap) overlap) 0 (length w)
 
-module _ (new : NewCall) (gains : List Float) (f32 : T (fits binary32 (new .rate))) (is-new-done : newReply new ≡ done gains) where
+module _ (new : NewCall) (f32 : T (fits binary32 (new .rate)))
+    (gains : List Float) (is-new-done : newReply new ≡ done gains) where
   abbrev size : ℕ
   size = sizeOf new
 
@@ -65,29 +67,43 @@ module _ (new : NewCall) (gains : List Float) (f32 : T (fits binary32 (new .rate
       let p = past (limits.size size) _ _ _ (is-done (newReply new) is-new-done) in
       let q = past (limits.rate (new .rate)) _ _ _ (p .1) in
       let r = past (eqb size (length (new .smooth))) _ _ _ (q .1) in
-      record { size-within = p .0; rate-within = q .0; same-length = eqb→eq size (length (new .smooth)) (r .0) }
+      record {
+        size-within = p .0;
+        rate-within = q .0;
+        same-length = eqb→eq size (length (new .smooth)) (r .0);
+      }
 
   abbrev logs : List Float
   logs = logarithms (new .rate) size
 
-  filled : blockAfter new ≡ blockOf (new .rate) (new .window) (new .smooth) (new .overlap)
-  filled = ap (λ (a : Reply). written a (blockOf (new .rate) (new .window) (new .smooth) (new .overlap)) (new .block)) is-new-done
+  abbrev filled : List Float
+  filled = blockOf (new .rate) (new .window) (new .smooth) (new .overlap)
+
+  block-is : blockAfter new ≡ filled
+  block-is = ap (λ (a : Reply). written a filled (new .block)) is-new-done
 
   table-is : tableIn new ≡ logs
   unfolding blockOf
   table-is =
+      let window = new .window in
+      let smooth = new .smooth in
+      let overlap = new .overlap in
       let same = passed .same-length in
-      ap (drop (4 * size)) filled
-      ∙ four-windows size (new .window) (dualOf (new .window) (new .overlap)) (new .smooth) (dualOf (new .smooth) (new .overlap)) logs
-      refl (dual-length (new .window) (new .overlap)) (sym same) (dual-length (new .smooth) (new .overlap) ∙ sym same)
+      ap (drop (4 * size)) block-is
+      ∙ four-windows size window (dualOf window overlap) smooth (dualOf smooth overlap) logs refl
+      (dual-length window overlap) (sym same) (dual-length smooth overlap ∙ sym same)
 
   -- ---- what `prepare` leaves
-  prepare-leaves : (table : List Float) → TableFor new table → tableAfter (new .rate) size table ≡ logs
+  prepare-leaves :
+      (table : List Float) → TableFor new table → tableAfter (new .rate) size table ≡ logs
   prepare-leaves table long =
-      let done-here : prepareReply (length table) (new .rate) size ≡ done [] =
-      simp (is-true (limits.size size) (passed .size-within), is-true (limits.rate (new .rate)) (passed .rate-within), eq-eqb (length table) (size / 2 + 1) long) in
-      ap (λ (a : Reply). written a (tabulate (length table) (prepared (new .rate) size)) table) done-here
-      ∙ ap (λ (n : ℕ). tabulate n (prepared (new .rate) size)) long
+      let entries = prepared (new .rate) size in
+      let s = is-true (limits.size size) (passed .size-within) in
+      let r = is-true (limits.rate (new .rate)) (passed .rate-within) in
+      let l = eq-eqb (length table) (size / 2 + 1) long in
+      let is-done-too : prepareReply (length table) (new .rate) size ≡ done [] = simp (s, r, l) in
+      ap (λ (a : Reply). written a (tabulate (length table) entries) table) is-done-too
+      ∙ ap (λ (n : ℕ). tabulate n entries) long
 
   -- ---- no entry is refused
   long-enough : length logs ≡ size / 2 + 1
@@ -102,7 +118,9 @@ module _ (new : NewCall) (gains : List Float) (f32 : T (fits binary32 (new .rate
 
   none-refused : tableReply logs ≡ done []
   unfolding tableReply
-  none-refused = simp (bad-none nan entryAccepted logs entry, le-ltb (length logs) (length logs) (le-refl (length logs)))
+  none-refused =
+      let n = length logs in
+      simp (bad-none nan entryAccepted logs entry, le-ltb n n (le-refl n))
 
   block-is-prepared : BlockIsPrepared new
   block-is-prepared =
@@ -115,4 +133,4 @@ module _ (new : NewCall) (gains : List Float) (f32 : T (fits binary32 (new .rate
       }
 
 pub prepared-law : PreparedLaw
-prepared-law new gains f32 e = block-is-prepared new gains f32 e
+prepared-law new f32 d = block-is-prepared new f32 (d .0) (d .1)

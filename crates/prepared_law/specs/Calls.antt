@@ -1,6 +1,6 @@
--- Three whole calls, each from what it is given to what it answers and leaves in its lent slices, by
--- the definitions that its contract cites: `PreparedSpectrum::new`, `MaskWorkspace::prepare`, and the
--- stereo call, on a lent table and on a prepared block. Assumes nothing.
+-- Three whole calls, each from what it is given to what it answers and leaves in its lent slices,
+-- by the definitions that its contract cites: `PreparedSpectrum::new`, `MaskWorkspace::prepare`,
+-- and the stereo call, on a lent table and on a prepared block. Assumes nothing.
 use mathlib.Core.List.{List}
 use Prim.Native.Nat.{ℕ, _*_}
 use lib.ListN.{length, take, drop}
@@ -27,6 +27,10 @@ pub record NewCall : Type 0 where
   pub smooth : List Float
   pub overlap : ℕ
   pub block : List Float
+
+abbrev pub newOf : Float → List Float → List Float → ℕ → List Float → NewCall
+newOf rate window smooth overlap block =
+    record { rate = rate; window = window; smooth = smooth; overlap = overlap; block = block }
 
 -- "Its size is the window's length"
 abbrev pub sizeOf : NewCall → ℕ
@@ -61,11 +65,26 @@ pub record StereoCall : Type 0 where
   pub count : ℕ
   pub config : MaskConfig
 
+abbrev pub stereoOf :
+    List Float → List Float → List Float → List MaskVoice → ℕ → MaskConfig → StereoCall
+stereoOf l r curve voices count config =
+    record {
+      left = l;
+      right = r;
+      curve = curve;
+      voices = voices;
+      count = count;
+      config = config;
+    }
+
 -- what it answers, and what it leaves in left and right
 pub record Built : Type 0 where
   pub reply : Reply
   pub left : List Float
   pub right : List Float
+
+abbrev pub builtOf : Reply → List Float → List Float → Built
+builtOf reply l r = record { reply = reply; left = l; right = r }
 
 -- `build_stereo_masks_with_voices_precomputed`
 abbrev pub onTable : StereoCall → List Float → Built
