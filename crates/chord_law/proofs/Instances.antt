@@ -68,7 +68,14 @@ record Kind : Type 0 where
 
 kind : Kind
 unfolding ofBits ofFields odd trailingZeros eq lt
-kind = record { same-zero = tt; same-half = tt; one-no-lower = tt; half-no-lower = tt; one-above-half = tt }
+kind =
+    record {
+      same-zero = tt;
+      same-half = tt;
+      one-no-lower = tt;
+      half-no-lower = tt;
+      one-above-half = tt;
+    }
 
 at-level : (note : ℕ) (x y : Float) → T (not (lt y x)) → Matched (voice note x) (voice note y)
 at-level note x y h =
@@ -86,7 +93,9 @@ itself : (note : ℕ) → Matched (voice note half) (voice note half)
 itself note = at-level note half half (kind .half-no-lower)
 
 -- the three voices of a list, each with its match
-three : (a b c : MaskVoice) (ys : List MaskVoice) → MatchIn a ys → MatchIn b ys → MatchIn c ys → MatchedIn (a ∷ b ∷ c ∷ []) ys
+three :
+    (a b c : MaskVoice) (ys : List MaskVoice) → MatchIn a ys → MatchIn b ys → MatchIn c ys
+    → MatchedIn (a ∷ b ∷ c ∷ []) ys
 three a b c ys p q r zero h = p
 three a b c ys p q r (suc zero) h = q
 three a b c ys p q r (suc (suc zero)) h = r
@@ -94,23 +103,31 @@ three a b c ys p q r (suc (suc (suc i))) h = absurd (omega arith)
 
 pub one-more : MatchedIn chord with-one-more
 one-more =
-    three C E G with-one-more (record { place = 0; there = lit< tt; matches = itself 60 }) (record { place = 1; there = lit< tt; matches = itself 64 })
+    three C E G with-one-more (record { place = 0; there = lit< tt; matches = itself 60 })
+    (record { place = 1; there = lit< tt; matches = itself 64 })
     (record { place = 3; there = lit< tt; matches = itself 67 })
 
 pub turned-round : MatchedIn chord reversed
 turned-round =
-    three C E G reversed (record { place = 2; there = lit< tt; matches = itself 60 }) (record { place = 1; there = lit< tt; matches = itself 64 })
+    three C E G reversed (record { place = 2; there = lit< tt; matches = itself 60 })
+    (record { place = 1; there = lit< tt; matches = itself 64 })
     (record { place = 0; there = lit< tt; matches = itself 67 })
 
 pub turned-back : MatchedIn reversed chord
 turned-back =
-    three G E C chord (record { place = 2; there = lit< tt; matches = itself 67 }) (record { place = 1; there = lit< tt; matches = itself 64 })
+    three G E C chord (record { place = 2; there = lit< tt; matches = itself 67 })
+    (record { place = 1; there = lit< tt; matches = itself 64 })
     (record { place = 0; there = lit< tt; matches = itself 60 })
 
 pub raised : MatchedIn chord with-G-raised
 raised =
-    three C E G with-G-raised (record { place = 0; there = lit< tt; matches = itself 60 }) (record { place = 1; there = lit< tt; matches = itself 64 })
-    (record { place = 2; there = lit< tt; matches = at-level 67 half remainder.one (kind .one-above-half) })
+    three C E G with-G-raised (record { place = 0; there = lit< tt; matches = itself 60 })
+    (record { place = 1; there = lit< tt; matches = itself 64 })
+    (record {
+      place = 2;
+      there = lit< tt;
+      matches = at-level 67 half remainder.one (kind .one-above-half);
+    })
 
 -- ---- the law at each
 module _ (a b : Call) (fa : F32Call a) (fb : F32Call b)

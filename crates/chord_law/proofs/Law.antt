@@ -45,14 +45,19 @@ use Rattle.chord_law.proofs.Turned.{turned}
 abbrev Risen : List Float → List Float → Type 0
 Risen = All2 (λ x y. Rise binary32 7 x y)
 
-rise-tab : (f g : ℕ → Float) → ((bin : ℕ) → Rise binary32 7 (f bin) (g bin)) → (j n : ℕ) → Risen (tabFrom f j n) (tabFrom g j n)
+rise-tab :
+    (f g : ℕ → Float) → ((bin : ℕ) → Rise binary32 7 (f bin) (g bin)) → (j n : ℕ)
+    → Risen (tabFrom f j n) (tabFrom g j n)
 unfolding tabFrom
 rise-tab f g h j zero = none
 rise-tab f g h j (suc n) = more (h j) (rise-tab f g h (suc j) n)
 
 -- ---- a size has bins above bin 0
 some-bins : (n : ℕ) → T (limits.size n) → 1 ≤ n / 2
-some-bins n t = let p = size-power n t in rw (p .is) (half-of (2 ^ p .exponent) (pow-mono {i = 1} {j = p .exponent} (omega (arith, p .from))))
+some-bins n t =
+    let p = size-power n t in
+    let two = pow-mono {i = 1} {j = p .exponent} (omega (arith, p .from)) in
+    rw (p .is) (half-of (2 ^ p .exponent) two)
   where
     half-of : (m : ℕ) → 2 ≤ m → 1 ≤ m / 2
     half-of m h = omega arith
@@ -73,13 +78,17 @@ module _ (a b : Call) (fa : F32Call a) (fb : F32Call b)
   abbrev B : MaskConfig
   B = b .config
 
-  manual : (bin : ℕ) → Rise binary32 0 (manualGain (a .curve) bin (B .«fft_size»)) (manualGain (b .curve) bin (B .«fft_size»))
+  manual :
+      (bin : ℕ)
+      → Rise binary32 0 (manualGain (a .curve) bin (B .«fft_size»))
+      (manualGain (b .curve) bin (B .«fft_size»))
   manual bin =
       let i = curvePoint bin (B .«fft_size») in
       let h : i < MANUAL-MASK-POINTS = omega (arith, point-le bin (B .«fft_size»)) in
       let p = curve-number a (c .a-accepted) fa (c .a-curve) i h in
       let q = curve-number b (c .b-accepted) fb (c .b-curve) i h in
-      manual-rises (a .curve) (b .curve) bin (B .«fft_size») p q (not-lt-f binary32 (getD (b .curve) i nan) (getD (a .curve) i nan) q p (u .curve i h))
+      manual-rises (a .curve) (b .curve) bin (B .«fft_size») p q
+      (not-lt-f binary32 (getD (b .curve) i nan) (getD (a .curve) i nan) q p (u .curve i h))
 
   raised : (i : ℕ) → i < length (given a) → RaisedIn (getD (given a) i noVoice) (given b)
   raised i h =
@@ -88,30 +97,50 @@ module _ (a b : Call) (fa : F32Call a) (fb : F32Call b)
         place = m .place;
         there = m .there;
         above =
-            matched-raised (getD (given a) i noVoice) (getD (given b) (m .place) noVoice) (given-real a (c .a-accepted) fa i h)
+            matched-raised (getD (given a) i noVoice) (getD (given b) (m .place) noVoice)
+            (given-real a (c .a-accepted) fa i h)
             (given-real b (c .b-accepted) fb (m .place) (m .there)) (m .matches);
       }
 
   module _ (side : Side) where
-    on-B : (bin : ℕ) → Rise binary32 7 (maskAt (a .curve) B (lent (b .table)) side (given a) bin) (maskAt (b .curve) B (lent (b .table)) side (given b) bin)
-    on-B bin =
-        mask-rises B (numbers.real-settings B (size-accepted b (c .b-accepted)) (settings-accepted b (c .b-accepted)) (fb .settings-f32)) (b .table) side (given a) (given b)
-        (all-real a (c .a-accepted) fa) (all-real b (c .b-accepted) fb) raised (a .curve) (b .curve) bin (manual bin)
+    -- a bin's gain by A, by B, and by A's curve and voices on B's settings and table
+    abbrev by-A : ℕ → Float
+    by-A = maskAt (a .curve) A (lent (a .table)) side (given a)
 
-    from-A : (bin : ℕ) → maskAt (a .curve) A (lent (a .table)) side (given a) bin ≡ maskAt (a .curve) B (lent (b .table)) side (given a) bin
-    from-A bin =
-        let s = size-accepted a (c .a-accepted) in
-        let t = settings-accepted a (c .a-accepted) in
-        mask-same A B
-        (same-config A B s (size-accepted b (c .b-accepted)) t (settings-accepted b (c .b-accepted)) (fa .settings-f32) (fb .settings-f32) (c .settings))
-        (a .table) (b .table) (some-bins (A .«fft_size») (numbers.size-within A s t (fa .settings-f32)))
-        (same-table a b (c .a-accepted) (c .b-accepted) fa fb (c .settings .size) (c .table)) side (a .curve) (given a) bin
+    abbrev by-B : ℕ → Float
+    by-B = maskAt (b .curve) B (lent (b .table)) side (given b)
+
+    abbrev on-B : ℕ → Float
+    on-B = maskAt (a .curve) B (lent (b .table)) side (given a)
+
+    rises-to-B : (bin : ℕ) → Rise binary32 7 (on-B bin) (by-B bin)
+    rises-to-B bin =
+        let s = size-accepted b (c .b-accepted) in
+        let t = settings-accepted b (c .b-accepted) in
+        let real = numbers.real-settings B s t (fb .settings-f32) in
+        mask-rises B real (b .table) side (given a) (given b) (all-real a (c .a-accepted) fa)
+        (all-real b (c .b-accepted) fb) raised (a .curve) (b .curve) bin (manual bin)
+
+    same-on-B : (bin : ℕ) → by-A bin ≡ on-B bin
+    same-on-B bin =
+        let p = c .a-accepted in
+        let q = c .b-accepted in
+        let s = size-accepted a p in
+        let t = settings-accepted a p in
+        let settings =
+        same-config A B s (size-accepted b q) t (settings-accepted b q) (fa .settings-f32)
+        (fb .settings-f32) (c .settings) in
+        let bins = some-bins (A .«fft_size») (numbers.size-within A s t (fa .settings-f32)) in
+        let table = same-table a b p q fa fb (c .settings .size) (c .table) in
+        mask-same A B settings (a .table) (b .table) bins table side (a .curve) (given a) bin
 
     pub masks-rise : Risen (maskOn side a) (maskOn side b)
     masks-rise =
-        subst (λ (n : ℕ). Risen (maskOn side a) (tabFrom (maskAt (b .curve) B (lent (b .table)) side (given b)) 0 (n / 2 + 1))) (c .settings .size)
-        (rise-tab (maskAt (a .curve) A (lent (a .table)) side (given a)) (maskAt (b .curve) B (lent (b .table)) side (given b))
-        (λ bin. subst (λ (x : Float). Rise binary32 7 x (maskAt (b .curve) B (lent (b .table)) side (given b) bin)) (sym (from-A bin)) (on-B bin)) 0 (A .«fft_size» / 2 + 1))
+        let rises : (bin : ℕ) → Rise binary32 7 (by-A bin) (by-B bin) =
+        λ bin. subst (λ (x : Float). Rise binary32 7 x (by-B bin)) (sym (same-on-B bin))
+        (rises-to-B bin) in
+        subst (λ (n : ℕ). Risen (maskOn side a) (tabFrom by-B 0 (n / 2 + 1))) (c .settings .size)
+        (rise-tab by-A by-B rises 0 (A .«fft_size» / 2 + 1))
 
 not-above : {xs ys : List Float} → Risen xs ys → NotAbove xs ys
 not-above none = none

@@ -1,7 +1,7 @@
 -- The chord law of two calls on lent slices of voice records: the law of the same calls with the
 -- records as the voices of an array and their number as the count, of which all count. Assumes
 -- nothing.
-use mathlib.Core.Path.{_≡_, sym, ap, subst}
+use mathlib.Core.Path.{_≡_, ap, subst}
 use mathlib.Core.List.{List}
 use lib.ListN.{length}
 use lib.Seq.{take-length}

@@ -20,7 +20,8 @@ use Rattle.masks.specs.Manual.{MANUAL-MASK-POINTS}
 use Rattle.scene.specs.declared.MaskVoice.{MaskVoice}
 use Rattle.scene.specs.declared.MaskConfig.{MaskConfig}
 use Rattle.scene.specs.declared.MotionShape.the-variants.{Saw}
-use Rattle.scene.specs.Accepted.{noVoice, motionAccepted, sizeAccepted, settingsAccepted, voiceAccepted}
+use Rattle.scene.specs.Accepted.{noVoice, sizeAccepted, settingsAccepted}
+use Rattle.scene.specs.Accepted.{motionAccepted, voiceAccepted}
 use Rattle.float32.specs.Remainder.{half}
 use Rattle.refusals.specs.Masks.{settingsReply, voicesReply, tableReply, stereoReply}
 use Rattle.mask_calls.specs.F32.{F32Voice, F32Settings}
@@ -44,7 +45,13 @@ config =
       «width_cents» = ofBits binary32 0x42c8_0000;
       partials = 8;
       «harmonic_rolloff_db_per_octave» = ofBits binary32 0x40c0_0000;
-      motion = record { shape = Saw; «depth_db» = ofBits binary32 0x4140_0000; phase = remainder.zero; «size_octaves» = remainder.one };
+      motion =
+          record {
+            shape = Saw;
+            «depth_db» = ofBits binary32 0x4140_0000;
+            phase = remainder.zero;
+            «size_octaves» = remainder.one;
+          };
     }
 
 abbrev table : List Float
@@ -52,23 +59,52 @@ table = tabulate 33 (λ k. remainder.zero)
 
 settings-f32 : F32Settings config
 unfolding ofBits ofFields odd trailingZeros fits
-settings-f32 = record { rate = tt; note-depth = tt; width = tt; rolloff = tt; motion-depth = tt; phase = tt; motion-size = tt }
+settings-f32 =
+    record {
+      rate = tt;
+      note-depth = tt;
+      width = tt;
+      rolloff = tt;
+      motion-depth = tt;
+      phase = tt;
+      motion-size = tt;
+    }
 
 settings-same : SameSettings config config
 unfolding ofBits ofFields odd trailingZeros eq
 settings-same =
-    record { rate = tt; size = refl; note-depth = tt; note-layer = refl; width = tt; partials = refl; rolloff = tt; motion = record { shape = refl; depth = tt; phase = tt; size = tt } }
+    record {
+      rate = tt;
+      size = refl;
+      note-depth = tt;
+      note-layer = refl;
+      width = tt;
+      partials = refl;
+      rolloff = tt;
+      motion = record { shape = refl; depth = tt; phase = tt; size = tt };
+    }
 
 zero-f32 : T (fits binary32 remainder.zero) × T (eq remainder.zero remainder.zero)
 unfolding ofBits fits eq
 zero-f32 = (tt, tt)
 
 entry-is : (i : ℕ) → i < length table → getD table i nan ≡ remainder.zero
-entry-is i h = getD-tabulate (λ k. remainder.zero) 33 i nan (omega (arith, length-tab (λ k. remainder.zero) 0 33))
+entry-is i h =
+    getD-tabulate (λ k. remainder.zero) 33 i nan
+    (omega (arith, length-tab (λ k. remainder.zero) 0 33))
 
 note-f32 : (note : ℕ) → F32Voice (voice note half)
 unfolding ofBits ofFields odd trailingZeros fits
-note-f32 note = record { level = tt; tuning = tt; pressure = tt; timbre = tt; volume = tt; expression = tt; pan = tt }
+note-f32 note =
+    record {
+      level = tt;
+      tuning = tt;
+      pressure = tt;
+      timbre = tt;
+      volume = tt;
+      expression = tt;
+      pan = tt;
+    }
 
 chord-f32 : All F32Voice chord
 chord-f32 = (note-f32 60, (note-f32 64, (note-f32 67, tt)))
@@ -76,16 +112,30 @@ chord-f32 = (note-f32 60, (note-f32 64, (note-f32 67, tt)))
 larger-f32 : All F32Voice with-one-more
 larger-f32 = (note-f32 60, (note-f32 64, (note-f32 70, (note-f32 67, tt))))
 
-module _ (curve : List Float) (long : length curve ≡ MANUAL-MASK-POINTS) (numbers : NoNan curve) (f32 : (i : ℕ) → i < length curve → T (fits binary32 (getD curve i nan))) where
+module _ (curve : List Float) (long : length curve ≡ MANUAL-MASK-POINTS) (numbers : NoNan curve)
+    (f32 : (i : ℕ) → i < length curve → T (fits binary32 (getD curve i nan))) where
   abbrev call : List MaskVoice → Call
-  call voices = record { left-length = 33; right-length = 33; curve = curve; voices = voices; count = length voices; config = config; table = table }
+  call voices =
+      record {
+        left-length = 33;
+        right-length = 33;
+        curve = curve;
+        voices = voices;
+        count = length voices;
+        config = config;
+        table = table;
+      }
 
   chord-accepted : Accepted (whole (call chord))
-  unfolding stereoReply settingsReply voicesReply tableReply sizeAccepted settingsAccepted motionAccepted voiceAccepted firstBadFrom tabFrom within finite le lt eq ofBits ofFields odd trailingZeros
+  unfolding stereoReply settingsReply voicesReply tableReply sizeAccepted settingsAccepted
+      motionAccepted voiceAccepted firstBadFrom tabFrom within finite le lt eq ofBits ofFields odd
+      trailingZeros
   chord-accepted = rw long refl
 
   larger-accepted : Accepted (whole (call with-one-more))
-  unfolding stereoReply settingsReply voicesReply tableReply sizeAccepted settingsAccepted motionAccepted voiceAccepted firstBadFrom tabFrom within finite le lt eq ofBits ofFields odd trailingZeros
+  unfolding stereoReply settingsReply voicesReply tableReply sizeAccepted settingsAccepted
+      motionAccepted voiceAccepted firstBadFrom tabFrom within finite le lt eq ofBits ofFields odd
+      trailingZeros
   larger-accepted = rw long refl
 
   call-f32 : (voices : List MaskVoice) → All F32Voice voices → F32Call (call voices)
@@ -94,7 +144,8 @@ module _ (curve : List Float) (long : length curve ≡ MANUAL-MASK-POINTS) (numb
         curve-f32 = f32;
         voices-f32 = λ i h. all-at F32Voice voices i noVoice f h;
         settings-f32 = settings-f32;
-        table-f32 = λ i h. subst (λ (x : Float). T (fits binary32 x)) (sym (entry-is i h)) (zero-f32 .0);
+        table-f32 =
+            λ i h. subst (λ (x : Float). T (fits binary32 x)) (sym (entry-is i h)) (zero-f32 .0);
       }
 
   comparable : Comparable (whole (call chord)) (whole (call with-one-more))

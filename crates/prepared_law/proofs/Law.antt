@@ -1,7 +1,7 @@
 -- The block of `PreparedSpectrum::new` is the four windows, each of the size's length, and then the
 -- logarithms; so what stands after them is the prepared table, whose entries are all accepted.
 -- Assumes nothing.
-use mathlib.Core.Path.{_≡_, refl, sym, ap, _∙_, subst}
+use mathlib.Core.Path.{_≡_, refl, sym, ap, _∙_}
 use mathlib.Core.Bool.{Bool, true, false, cond, not}
 use mathlib.Core.List.{List, [], _++_}
 use Prim.Native.Nat.{ℕ, zero, suc, _+_, _*_, _/_, _<_}
@@ -23,7 +23,7 @@ use Rattle.frequencies.specs.Frequency.{prepared}
 use Rattle.frequencies.proofs.Accepted.{table-accepted}
 use Rattle.windows.specs.Windows.{dualOf}
 use Rattle.prepared_spectrum.specs.Block.{logarithms, blockOf}
-use Rattle.refusals.specs.Masks.{entryAccepted, firstEntryOutside, tableReply}
+use Rattle.refusals.specs.Masks.{entryAccepted, tableReply}
 use Rattle.refusals.proofs.MaskAccepted.{Done, is-done}
 use Rattle.list_calls.specs.Prepared.{prepareReply}
 use Rattle.list_calls.specs.Processing.{preparedReply}

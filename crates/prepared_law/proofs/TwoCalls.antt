@@ -14,7 +14,7 @@ use Rattle.lobes.specs.Distance.{lent}
 use Rattle.mask_builder.specs.Mask.{maskOf}
 use Rattle.prepared_spectrum.specs.Block.{blockOf}
 use Rattle.prepared_law.specs.Calls.{NewCall, newReply, blockAfter}
-use Rattle.prepared_law.specs.Calls.{StereoCall, Built, builtOf, onBlock}
+use Rattle.prepared_law.specs.Calls.{StereoCall, builtOf, onBlock}
 use Rattle.prepared_law.specs.Law.{BuiltByBlock}
 use Rattle.prepared_law.proofs.Law.{prepared-law}
 

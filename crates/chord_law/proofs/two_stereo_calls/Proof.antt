@@ -39,8 +39,12 @@ returns c =
     let start = a-curve .before .before .before in
     let g = start .good in
     let p = start .args in
-    let a = callOf (length (p .a-left .now)) (length (p .a-right .now)) (p .a-curve .now) (p .a-voices) (p .a-count) (p .a-config) (p .a-table .now) in
-    let b = callOf (length (p .b-left .now)) (length (p .b-right .now)) (p .b-curve .now) (p .b-voices) (p .b-count) (p .b-config) (p .b-table .now) in
+    let a =
+    callOf (length (p .a-left .now)) (length (p .a-right .now)) (p .a-curve .now) (p .a-voices)
+    (p .a-count) (p .a-config) (p .a-table .now) in
+    let b =
+    callOf (length (p .b-left .now)) (length (p .b-right .now)) (p .b-curve .now) (p .b-voices)
+    (p .b-count) (p .b-config) (p .b-table .now) in
     let a-numbers : F32Call a =
     record {
       curve-f32 = λ i l. a-curve .shared-slice-known .given i;
@@ -61,8 +65,20 @@ returns c =
       (
         y .0,
         law-holds a b a-numbers b-numbers
-            (record { left-before = p .a-left .now; right-before = p .a-right .now; answer = x .0; left-after = x .1 .0; right-after = x .1 .1 })
-            (record { left-before = p .b-left .now; right-before = p .b-right .now; answer = y .0; left-after = y .1 .0; right-after = y .1 .1 }),
+            (record {
+              left-before = p .a-left .now;
+              right-before = p .a-right .now;
+              answer = x .0;
+              left-after = x .1 .0;
+              right-after = x .1 .1;
+            })
+            (record {
+              left-before = p .b-left .now;
+              right-before = p .b-right .now;
+              answer = y .0;
+              left-after = y .1 .0;
+              right-after = y .1 .1;
+            }),
       ),
     )
 
