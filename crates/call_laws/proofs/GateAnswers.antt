@@ -1,5 +1,6 @@
--- What the calls on the gate and the drawn curve answer to accepted input, and the range of it: an emphasis from 1 to 2; a gate from the floor to 3, the floor from 0 to 1; a manual
--- gain from 0 to 1. The tests pass, and the rest is known of the core. Assumes nothing.
+-- What the calls on the gate and the drawn curve answer to accepted input, and the range of it: an
+-- emphasis from 1 to 2; a gate from the floor to 3, the floor from 0 to 1; a manual gain from 0 to
+-- 1. The tests pass, and the rest is known of the core. Assumes nothing.
 use mathlib.Core.Path.{_≡_, refl}
 use mathlib.Core.Bool.{false}
 use mathlib.Core.List.{List, [], _∷_}
@@ -33,21 +34,40 @@ module _ (width : Float) (a : T (limits.width width)) where
   pub emphasis-range : T (le one (emphasisGain width)) × T (le (emphasisGain width) two)
   emphasis-range = (emphasis-at-least-one width, emphasis-at-most-two width)
 
-module _ (depth width openness : Float) (d : T (limits.noteDepth depth)) (w : T (limits.width width)) (o : T (finite openness)) where
-  pub gate-answered : noteGateGain depth width openness ≡ done (limitedGateGain depth width openness ∷ [])
+module _ (depth width openness : Float) (d : T (limits.noteDepth depth))
+    (w : T (limits.width width)) (o : T (finite openness)) where
+  pub gate-answered :
+      noteGateGain depth width openness ≡ done (limitedGateGain depth width openness ∷ [])
   unfolding noteGateGain
-  gate-answered = rw (is-true (limits.noteDepth depth) d, is-true (limits.width width) w, is-true (finite openness) o) refl
+  gate-answered =
+      rw (
+        is-true (limits.noteDepth depth) d,
+        is-true (limits.width width) w,
+        is-true (finite openness) o,
+      ) refl
 
-  pub gate-range : T (fits binary32 depth) → T (fits binary32 openness) → T (le (floorGain depth) (limitedGateGain depth width openness)) × T (le (limitedGateGain depth width openness) (fin false 3 (pos 0)))
+  pub gate-range :
+      T (fits binary32 depth) → T (fits binary32 openness)
+      → T (le (floorGain depth) (limitedGateGain depth width openness))
+      × T (le (limitedGateGain depth width openness) (fin false 3 (pos 0)))
   gate-range f g =
-      let r = finite-real binary32 openness g o in
-      (note-gate-at-least-floor depth width openness f r, note-gate-at-most-three depth width openness f r)
+      let r = finite-real binary32 openness g o in (
+        note-gate-at-least-floor depth width openness f r,
+        note-gate-at-most-three depth width openness f r,
+      )
 
-module _ (curve : List Float) (bin size : ℕ) (s : T (limits.size size)) (b : T (limits.bin bin)) (l : length curve ≡ MANUAL-MASK-POINTS) where
+module _ (curve : List Float) (bin size : ℕ) (s : T (limits.size size)) (b : T (limits.bin bin))
+    (l : length curve ≡ MANUAL-MASK-POINTS) where
   pub manual-answered : manualGainAtBin curve bin size ≡ done (manualGain curve bin size ∷ [])
   unfolding manualGainAtBin
-  manual-answered = rw (is-true (limits.size size) s, is-true (limits.bin bin) b, eq-eqb (length curve) MANUAL-MASK-POINTS l) refl
+  manual-answered =
+      rw (
+        is-true (limits.size size) s,
+        is-true (limits.bin bin) b,
+        eq-eqb (length curve) MANUAL-MASK-POINTS l,
+      ) refl
 
-  pub manual-in-unit : T (fits binary32 (getD curve (curvePoint bin size) nan)) → InUnit (manualGain curve bin size)
+  pub manual-in-unit :
+      T (fits binary32 (getD curve (curvePoint bin size) nan)) → InUnit (manualGain curve bin size)
   unfolding manualGain
   manual-in-unit f = curve-gain-in-unit (getD curve (curvePoint bin size) nan) f

@@ -1,4 +1,5 @@
--- What an accepted call is given: what `mask_calls` knows of a scene that is built, said of a call. Assumes nothing.
+-- What an accepted call is given: what `mask_calls` knows of a scene that is built, said of a call.
+-- Assumes nothing.
 use mathlib.Core.Path.{_≡_}
 use Prim.Native.Nat.{ℕ, _<_}
 use lib.Dec.{T}
@@ -12,30 +13,43 @@ use Rattle.scene.proofs.Voices.{RealVoice}
 use Rattle.refusals.proofs.MaskAccepted.{Done, is-done, stereo-accepted, stereo-settings}
 use Rattle.mask_calls.proofs.RealScene.{RealScene, RealTable, stereo-scene, stereo-table}
 use Rattle.refusals.specs.Masks.{bins}
-use Rattle.chord_law.specs.Calls.{Call, Accepted, replyTo, given, F32Call}
+use Rattle.chord_law.specs.Calls.{Call, Accepted, replyTo, given, whole, F32Call}
 
-module _ (call : Call) (accepted : Accepted call) where
+module _ (call : Call) (accepted : Accepted (whole call)) where
   built : Done (replyTo call)
   built = is-done (replyTo call) accepted
 
+  settings : T (sizeAccepted (call .config)) × T (settingsAccepted (call .config))
+  settings =
+      stereo-settings (call .curve) (call .config) (call .voices) (call .count) (call .table)
+      (call .left-length) (call .right-length) built
+
   pub size-accepted : T (sizeAccepted (call .config))
-  size-accepted = stereo-settings (call .curve) (call .config) (call .voices) (call .count) (call .table) (call .left-length) (call .right-length) built .0
+  size-accepted = settings .0
 
   pub settings-accepted : T (settingsAccepted (call .config))
-  settings-accepted = stereo-settings (call .curve) (call .config) (call .voices) (call .count) (call .table) (call .left-length) (call .right-length) built .1
+  settings-accepted = settings .1
 
   pub curve-length : length (call .curve) ≡ MANUAL-MASK-POINTS
-  curve-length = stereo-accepted (call .curve) (call .config) (call .voices) (call .count) (call .table) (call .left-length) (call .right-length) built .0 .0
+  curve-length =
+      stereo-accepted (call .curve) (call .config) (call .voices) (call .count) (call .table)
+      (call .left-length) (call .right-length) built .0 .0
 
   pub table-length : length (call .table) ≡ bins (call .config)
-  table-length = stereo-accepted (call .curve) (call .config) (call .voices) (call .count) (call .table) (call .left-length) (call .right-length) built .2
+  table-length =
+      stereo-accepted (call .curve) (call .config) (call .voices) (call .count) (call .table)
+      (call .left-length) (call .right-length) built .2
 
   module _ (f : F32Call call) where
     real : RealScene (call .voices) (call .count) (call .config)
-    real = stereo-scene (call .curve) (call .voices) (call .count) (call .config) (call .table) (call .left-length) (call .right-length) built (f .voices) (f .settings)
+    real =
+        stereo-scene (call .curve) (call .voices) (call .count) (call .config) (call .table)
+        (call .left-length) (call .right-length) built (f .voices-f32) (f .settings-f32)
 
     table : RealTable (call .config) (call .table)
-    table = stereo-table (call .curve) (call .voices) (call .count) (call .config) (call .table) (call .left-length) (call .right-length) built (f .table)
+    table =
+        stereo-table (call .curve) (call .voices) (call .count) (call .config) (call .table)
+        (call .left-length) (call .right-length) built (f .table-f32)
 
     pub all-real : All RealVoice (given call)
     all-real = real .voices-real
@@ -43,5 +57,6 @@ module _ (call : Call) (accepted : Accepted call) where
     pub given-real : (i : ℕ) → i < length (given call) → RealVoice (getD (given call) i noVoice)
     given-real i h = all-at RealVoice (given call) i noVoice all-real h
 
-    pub entry-number : (i : ℕ) → 0 < i → i < length (call .table) → T (number binary32 (getD (call .table) i nan))
+    pub entry-number :
+        (i : ℕ) → 0 < i → i < length (call .table) → T (number binary32 (getD (call .table) i nan))
     entry-number = table .entry-number

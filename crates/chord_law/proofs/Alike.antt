@@ -1,4 +1,5 @@
--- What equal settings, equal entries and matched voices are worth to the laws below: settings that differ at most in signs of zeros, and a voice raised above another. Assumes nothing.
+-- What equal settings, equal entries and matched voices are worth to the laws below: settings that
+-- differ at most in signs of zeros, and a voice raised above another. Assumes nothing.
 use mathlib.Core.Path.{_≡_, refl, sym, ap, _∙_}
 use mathlib.Core.Bool.{true, false, not}
 use Prim.Native.Nat.{ℕ, _/_, _+_, _<_}
@@ -19,7 +20,7 @@ use Rattle.scene.proofs.Voices.{RealVoice}
 use Rattle.lobes.proofs.Raised.{Raised}
 use Rattle.lobes.proofs.ZeroSigns.{SameTable, pitch-same, timbre-same, balance-same}
 use Rattle.mask_builder.proofs.ZeroSigns.{SameConfig}
-use Rattle.chord_law.specs.Calls.{Call, Accepted, F32Call}
+use Rattle.chord_law.specs.Calls.{Call, Accepted, whole, F32Call}
 use Rattle.chord_law.specs.Voices.{NoLower, Matched}
 use Rattle.chord_law.specs.Settings.{SameSettings, SameEntries}
 use Rattle.mask_calls.specs.F32.{F32Settings}
@@ -45,41 +46,66 @@ unfolding ofBits ofFields odd trailingZeros le
 width-above = record { plus = tt; minus = tt }
 
 -- ---- the settings
-module _ (a b : MaskConfig) (s : T (sizeAccepted a)) (s' : T (sizeAccepted b)) (t : T (settingsAccepted a)) (t' : T (settingsAccepted b)) (f : F32Settings a) (f' : F32Settings b) (h : SameSettings a b) where
+module _ (a b : MaskConfig) (s : T (sizeAccepted a)) (s' : T (sizeAccepted b))
+    (t : T (settingsAccepted a)) (t' : T (settingsAccepted b)) (f : F32Settings a)
+    (f' : F32Settings b) (h : SameSettings a b) where
   pub same-config : SameConfig a b
   same-config =
       record {
         rate =
-            same-above LEAST-RATE rate-above (eq-same binary32 (a .«sample_rate») (b .«sample_rate») (numbers.rate-number a s t f) (numbers.rate-number b s' t' f') (h .rate))
+            same-above LEAST-RATE rate-above
+            (eq-same binary32 (a .«sample_rate») (b .«sample_rate») (numbers.rate-number a s t f)
+            (numbers.rate-number b s' t' f') (h .rate))
             (within-low LEAST-RATE MOST-RATE (a .«sample_rate») (numbers.rate-within a s t f));
         size = h .size;
-        note-depth = eq-same binary32 (a .«note_depth_db») (b .«note_depth_db») (numbers.note-depth-number a s t f) (numbers.note-depth-number b s' t' f') (h .note-depth);
+        note-depth =
+            eq-same binary32 (a .«note_depth_db») (b .«note_depth_db»)
+            (numbers.note-depth-number a s t f) (numbers.note-depth-number b s' t' f')
+            (h .note-depth);
         note-layer = h .note-layer;
         width =
-            same-above LEAST-WIDTH width-above (eq-same binary32 (a .«width_cents») (b .«width_cents») (numbers.width-number a s t f) (numbers.width-number b s' t' f') (h .width))
+            same-above LEAST-WIDTH width-above
+            (eq-same binary32 (a .«width_cents») (b .«width_cents») (numbers.width-number a s t f)
+            (numbers.width-number b s' t' f') (h .width))
             (within-low LEAST-WIDTH MOST-WIDTH (a .«width_cents») (numbers.width-within a s t f));
         partials = h .partials;
         rolloff =
-            eq-same binary32 (a .«harmonic_rolloff_db_per_octave») (b .«harmonic_rolloff_db_per_octave») (real-number binary32 (a .«harmonic_rolloff_db_per_octave») (numbers.rolloff-real a s t f))
-            (real-number binary32 (b .«harmonic_rolloff_db_per_octave») (numbers.rolloff-real b s' t' f')) (h .rolloff);
+            eq-same binary32 (a .«harmonic_rolloff_db_per_octave»)
+            (b .«harmonic_rolloff_db_per_octave»)
+            (real-number binary32 (a .«harmonic_rolloff_db_per_octave»)
+            (numbers.rolloff-real a s t f))
+            (real-number binary32 (b .«harmonic_rolloff_db_per_octave»)
+            (numbers.rolloff-real b s' t' f')) (h .rolloff);
         shape = h .motion .shape;
         motion-depth =
-            eq-same binary32 (a .motion .«depth_db») (b .motion .«depth_db») (real-number binary32 (a .motion .«depth_db») (numbers.motion-depth-real a s t f))
-            (real-number binary32 (b .motion .«depth_db») (numbers.motion-depth-real b s' t' f')) (h .motion .depth);
-        phase = eq-same binary32 (a .motion .phase) (b .motion .phase) (numbers.phase-number a s t f) (numbers.phase-number b s' t' f') (h .motion .phase);
-        motion-size = eq-same binary32 (a .motion .«size_octaves») (b .motion .«size_octaves») (numbers.motion-size-number a s t f) (numbers.motion-size-number b s' t' f') (h .motion .size);
+            eq-same binary32 (a .motion .«depth_db») (b .motion .«depth_db»)
+            (real-number binary32 (a .motion .«depth_db») (numbers.motion-depth-real a s t f))
+            (real-number binary32 (b .motion .«depth_db») (numbers.motion-depth-real b s' t' f'))
+            (h .motion .depth);
+        phase =
+            eq-same binary32 (a .motion .phase) (b .motion .phase) (numbers.phase-number a s t f)
+            (numbers.phase-number b s' t' f') (h .motion .phase);
+        motion-size =
+            eq-same binary32 (a .motion .«size_octaves») (b .motion .«size_octaves»)
+            (numbers.motion-size-number a s t f) (numbers.motion-size-number b s' t' f')
+            (h .motion .size);
       }
 
 -- ---- the table
-module _ (a b : Call) (p : Accepted a) (q : Accepted b) (f : F32Call a) (g : F32Call b) where
-  pub same-lengths : a .config .«fft_size» ≡ b .config .«fft_size» → length (a .table) ≡ length (b .table)
+module _ (a b : Call) (p : Accepted (whole a)) (q : Accepted (whole b)) (f : F32Call a)
+    (g : F32Call b) where
+  pub same-lengths :
+      a .config .«fft_size» ≡ b .config .«fft_size» → length (a .table) ≡ length (b .table)
   same-lengths e = table-length a p ∙ ap (λ (n : ℕ). n / 2 + 1) e ∙ sym (table-length b q)
 
-  pub same-table : a .config .«fft_size» ≡ b .config .«fft_size» → SameEntries (a .table) (b .table) → SameTable (a .config .«fft_size» / 2) (a .table) (b .table)
+  pub same-table :
+      a .config .«fft_size» ≡ b .config .«fft_size» → SameEntries (a .table) (b .table)
+      → SameTable (a .config .«fft_size» / 2) (a .table) (b .table)
   same-table e h bin l m =
       let k : bin < length (a .table) = omega (arith, table-length a p) in
       let k' : bin < length (b .table) = omega (arith, same-lengths e) in
-      eq-same binary32 (getD (a .table) bin nan) (getD (b .table) bin nan) (entry-number a p f bin l k) (entry-number b q g bin l k') (h bin l k)
+      eq-same binary32 (getD (a .table) bin nan) (getD (b .table) bin nan)
+      (entry-number a p f bin l k) (entry-number b q g bin l k') (h bin l k)
 
 -- ---- a voice
 no-lower : (x y : Float) → T (real binary32 x) → T (real binary32 y) → NoLower x y → T (le x y)
@@ -91,11 +117,25 @@ equal {x} {y} p q h = eq-same binary32 x y (real-number binary32 x p) (real-numb
 pub matched-raised : (a b : MaskVoice) → RealVoice a → RealVoice b → Matched a b → Raised a b
 matched-raised a b u v m =
     record {
-      pitch = pitch-same a b (m .pitch .note) (equal (u .tuning-real) (v .tuning-real) (m .pitch .tuning));
+      pitch =
+          pitch-same a b (m .pitch .note)
+          (equal (u .tuning-real) (v .tuning-real) (m .pitch .tuning));
       rolloff = timbre-same a b (equal (u .timbre-real) (v .timbre-real) (m .timbre));
       balance = balance-same a b (equal (u .pan-real) (v .pan-real) (m .pan));
-      level = record { from = u .level-unit; to = v .level-unit; up = no-lower (a .level) (b .level) (u .level-unit .is-real) (v .level-unit .is-real) (m .level) };
-      volume = no-lower (a .«volume_gain») (b .«volume_gain») (u .volume-real) (v .volume-real) (m .volume);
-      pressure = no-lower (a .pressure) (b .pressure) (u .pressure-real) (v .pressure-real) (m .pressure);
-      expression = no-lower (a .«expression_gain») (b .«expression_gain») (u .expression-real) (v .expression-real) (m .expression);
+      level =
+          record {
+            from = u .level-unit;
+            to = v .level-unit;
+            up =
+                no-lower (a .level) (b .level) (u .level-unit .is-real) (v .level-unit .is-real)
+                (m .level);
+          };
+      volume =
+          no-lower (a .«volume_gain») (b .«volume_gain») (u .volume-real) (v .volume-real)
+          (m .volume);
+      pressure =
+          no-lower (a .pressure) (b .pressure) (u .pressure-real) (v .pressure-real) (m .pressure);
+      expression =
+          no-lower (a .«expression_gain») (b .«expression_gain») (u .expression-real)
+          (v .expression-real) (m .expression);
     }

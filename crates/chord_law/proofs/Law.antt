@@ -1,6 +1,9 @@
--- The chord law: where two stereo calls are accepted, on the same settings, table entries and curves without NaN, and each voice of A is matched by one of B and A's curve is nowhere above B's,
--- then on every bin, left and right, A's mask is not above B's. Where B is beneath A too the masks are equal.
--- A's mask is that on B's settings and table (`mask-same`); there each bin rises with the voices and with the curve (`mask-rises`). Assumes nothing.
+-- The chord law: where two stereo calls are accepted, on the same settings, table entries and
+-- curves without NaN, and each voice of A is matched by one of B and A's curve is nowhere above
+-- B's, then on every bin, left and right, A's mask is not above B's. Where B is matched in A too
+-- and the curves are equal, the masks are equal: the first part, both ways round. A's mask is that
+-- on B's settings and table (`mask-same`); there each bin rises with the voices and with the curve
+-- (`mask-rises`). Assumes nothing.
 use mathlib.Core.Path.{_≡_, sym, subst}
 use mathlib.Core.List.{List}
 use Prim.Native.Nat.{ℕ, zero, suc, _/_, _+_, _^_, _≤_, _<_}
@@ -21,19 +24,21 @@ use Rattle.frequencies.proofs.Sizes.{size-power}
 use Rattle.limits.specs.Lengths.{MANUAL-MASK-POINTS}
 use Rattle.masks.specs.Manual.{curvePoint, manualGain}
 use Rattle.masks.proofs.Points.{point-le}
-use Rattle.lobes.specs.Pan.{Side, left, right}
+use Rattle.lobes.specs.Pan.{Side}
 use Rattle.lobes.specs.Distance.{lent}
 use Rattle.openness.proofs.RaisedVoices.{RaisedIn}
 use Rattle.mask_builder.specs.Mask.{maskAt}
 use Rattle.bin_gains.proofs.Rising.{manual-rises}
 use Rattle.mask_builder.proofs.Rising.{mask-rises}
 use Rattle.mask_builder.proofs.ZeroSigns.{mask-same}
-use Rattle.chord_law.specs.Calls.{Call, Accepted, F32Call, given, maskOn}
-use Rattle.chord_law.specs.Curves.{NoNan}
-use Rattle.chord_law.specs.Masks.{NotAbove, EqualMasks}
+use Rattle.chord_law.specs.Calls.{Call, Accepted, F32Call, given, whole, maskOn}
+use Rattle.chord_law.specs.Voices.{MatchedIn}
+use Rattle.chord_law.specs.Curves.{NoNan, EqualCurves}
+use Rattle.chord_law.specs.Masks.{NotAbove, EqualMasks, MasksNotAbove, MasksEqual}
 use Rattle.chord_law.specs.Premises.{Comparable, Beneath}
-use Rattle.chord_law.specs.Law.{ChordLaw, ChordLawEqual}
-use Rattle.chord_law.proofs.Acceptance.{size-accepted, settings-accepted, curve-length, given-real, all-real}
+use Rattle.chord_law.specs.Law.{ChordLaw}
+use Rattle.chord_law.proofs.Acceptance.{size-accepted, settings-accepted, curve-length}
+use Rattle.chord_law.proofs.Acceptance.{given-real, all-real}
 use Rattle.mask_calls.proofs.SettingsNumbers as numbers
 use Rattle.chord_law.proofs.Alike.{same-config, same-table, matched-raised}
 use Rattle.chord_law.proofs.Turned.{turned}
@@ -41,36 +46,50 @@ use Rattle.chord_law.proofs.Turned.{turned}
 abbrev Risen : List Float → List Float → Type 0
 Risen = All2 (λ x y. Rise binary32 7 x y)
 
-rise-tab : (f g : ℕ → Float) → ((bin : ℕ) → Rise binary32 7 (f bin) (g bin)) → (j n : ℕ) → Risen (tabFrom f j n) (tabFrom g j n)
+rise-tab :
+    (f g : ℕ → Float) → ((bin : ℕ) → Rise binary32 7 (f bin) (g bin)) → (j n : ℕ)
+    → Risen (tabFrom f j n) (tabFrom g j n)
 unfolding tabFrom
 rise-tab f g h j zero = none
 rise-tab f g h j (suc n) = more (h j) (rise-tab f g h (suc j) n)
 
 -- ---- a size has bins above bin 0
 some-bins : (n : ℕ) → T (limits.size n) → 1 ≤ n / 2
-some-bins n t = let p = size-power n t in rw (p .is) (half-of (2 ^ p .exponent) (pow-mono {i = 1} {j = p .exponent} (omega (arith, p .from))))
+some-bins n t =
+    let p = size-power n t in
+    let two = pow-mono {i = 1} {j = p .exponent} (omega (arith, p .from)) in
+    rw (p .is) (half-of (2 ^ p .exponent) two)
   where
     half-of : (m : ℕ) → 2 ≤ m → 1 ≤ m / 2
     half-of m h = omega arith
 
 -- ---- a curve point
-curve-number : (call : Call) → Accepted call → F32Call call → NoNan (call .curve) → (i : ℕ) → i < MANUAL-MASK-POINTS → T (number binary32 (getD (call .curve) i nan))
-curve-number call p f n i h = fits-number binary32 (getD (call .curve) i nan) (f .curve i (rw (curve-length call p) h)) (n i h)
+curve-number :
+    (call : Call) → Accepted (whole call) → F32Call call → NoNan (call .curve)
+    → (i : ℕ) → i < MANUAL-MASK-POINTS → T (number binary32 (getD (call .curve) i nan))
+curve-number call p f n i h =
+    let x = getD (call .curve) i nan in
+    fits-number binary32 x (f .curve-f32 i (rw (curve-length call p) h)) (n i h)
 
-module _ (a b : Call) (fa : F32Call a) (fb : F32Call b) (c : Comparable a b) (u : Beneath a b) where
+module _ (a b : Call) (fa : F32Call a) (fb : F32Call b)
+    (c : Comparable (whole a) (whole b)) (u : Beneath (whole a) (whole b)) where
   abbrev A : MaskConfig
   A = a .config
 
   abbrev B : MaskConfig
   B = b .config
 
-  manual : (bin : ℕ) → Rise binary32 0 (manualGain (a .curve) bin (B .«fft_size»)) (manualGain (b .curve) bin (B .«fft_size»))
+  manual :
+      (bin : ℕ)
+      → Rise binary32 0 (manualGain (a .curve) bin (B .«fft_size»))
+      (manualGain (b .curve) bin (B .«fft_size»))
   manual bin =
       let i = curvePoint bin (B .«fft_size») in
       let h : i < MANUAL-MASK-POINTS = omega (arith, point-le bin (B .«fft_size»)) in
       let p = curve-number a (c .a-accepted) fa (c .a-curve) i h in
       let q = curve-number b (c .b-accepted) fb (c .b-curve) i h in
-      manual-rises (a .curve) (b .curve) bin (B .«fft_size») p q (not-lt-f binary32 (getD (b .curve) i nan) (getD (a .curve) i nan) q p (u .curve i h))
+      manual-rises (a .curve) (b .curve) bin (B .«fft_size») p q
+      (not-lt-f binary32 (getD (b .curve) i nan) (getD (a .curve) i nan) q p (u .curve i h))
 
   raised : (i : ℕ) → i < length (given a) → RaisedIn (getD (given a) i noVoice) (given b)
   raised i h =
@@ -79,46 +98,82 @@ module _ (a b : Call) (fa : F32Call a) (fb : F32Call b) (c : Comparable a b) (u 
         place = m .place;
         there = m .there;
         above =
-            matched-raised (getD (given a) i noVoice) (getD (given b) (m .place) noVoice) (given-real a (c .a-accepted) fa i h)
+            matched-raised (getD (given a) i noVoice) (getD (given b) (m .place) noVoice)
+            (given-real a (c .a-accepted) fa i h)
             (given-real b (c .b-accepted) fb (m .place) (m .there)) (m .matches);
       }
 
   module _ (side : Side) where
-    on-B : (bin : ℕ) → Rise binary32 7 (maskAt (a .curve) B (lent (b .table)) side (given a) bin) (maskAt (b .curve) B (lent (b .table)) side (given b) bin)
-    on-B bin =
-        mask-rises B (numbers.real-settings B (size-accepted b (c .b-accepted)) (settings-accepted b (c .b-accepted)) (fb .settings)) (b .table) side (given a) (given b)
-        (all-real a (c .a-accepted) fa) (all-real b (c .b-accepted) fb) raised (a .curve) (b .curve) bin (manual bin)
+    -- a bin's gain by A, by B, and by A's curve and voices on B's settings and table
+    abbrev by-A : ℕ → Float
+    by-A = maskAt (a .curve) A (lent (a .table)) side (given a)
 
-    from-A : (bin : ℕ) → maskAt (a .curve) A (lent (a .table)) side (given a) bin ≡ maskAt (a .curve) B (lent (b .table)) side (given a) bin
-    from-A bin =
-        let s = size-accepted a (c .a-accepted) in
-        let t = settings-accepted a (c .a-accepted) in
-        mask-same A B
-        (same-config A B s (size-accepted b (c .b-accepted)) t (settings-accepted b (c .b-accepted)) (fa .settings) (fb .settings) (c .settings))
-        (a .table) (b .table) (some-bins (A .«fft_size») (numbers.size-within A s t (fa .settings)))
-        (same-table a b (c .a-accepted) (c .b-accepted) fa fb (c .settings .size) (c .table)) side (a .curve) (given a) bin
+    abbrev by-B : ℕ → Float
+    by-B = maskAt (b .curve) B (lent (b .table)) side (given b)
+
+    abbrev on-B : ℕ → Float
+    on-B = maskAt (a .curve) B (lent (b .table)) side (given a)
+
+    rises-to-B : (bin : ℕ) → Rise binary32 7 (on-B bin) (by-B bin)
+    rises-to-B bin =
+        let s = size-accepted b (c .b-accepted) in
+        let t = settings-accepted b (c .b-accepted) in
+        let real = numbers.real-settings B s t (fb .settings-f32) in
+        mask-rises B real (b .table) side (given a) (given b) (all-real a (c .a-accepted) fa)
+        (all-real b (c .b-accepted) fb) raised (a .curve) (b .curve) bin (manual bin)
+
+    same-on-B : (bin : ℕ) → by-A bin ≡ on-B bin
+    same-on-B bin =
+        let p = c .a-accepted in
+        let q = c .b-accepted in
+        let s = size-accepted a p in
+        let t = settings-accepted a p in
+        let settings =
+        same-config A B s (size-accepted b q) t (settings-accepted b q) (fa .settings-f32)
+        (fb .settings-f32) (c .settings) in
+        let bins = some-bins (A .«fft_size») (numbers.size-within A s t (fa .settings-f32)) in
+        let table = same-table a b p q fa fb (c .settings .size) (c .table) in
+        mask-same A B settings (a .table) (b .table) bins table side (a .curve) (given a) bin
 
     pub masks-rise : Risen (maskOn side a) (maskOn side b)
     masks-rise =
-        subst (λ (n : ℕ). Risen (maskOn side a) (tabFrom (maskAt (b .curve) B (lent (b .table)) side (given b)) 0 (n / 2 + 1))) (c .settings .size)
-        (rise-tab (maskAt (a .curve) A (lent (a .table)) side (given a)) (maskAt (b .curve) B (lent (b .table)) side (given b))
-        (λ bin. subst (λ (x : Float). Rise binary32 7 x (maskAt (b .curve) B (lent (b .table)) side (given b) bin)) (sym (from-A bin)) (on-B bin)) 0 (A .«fft_size» / 2 + 1))
+        let rises : (bin : ℕ) → Rise binary32 7 (by-A bin) (by-B bin) =
+        λ bin. subst (λ (x : Float). Rise binary32 7 x (by-B bin)) (sym (same-on-B bin))
+        (rises-to-B bin) in
+        subst (λ (n : ℕ). Risen (maskOn side a) (tabFrom by-B 0 (n / 2 + 1))) (c .settings .size)
+        (rise-tab by-A by-B rises 0 (A .«fft_size» / 2 + 1))
 
 not-above : {xs ys : List Float} → Risen xs ys → NotAbove xs ys
 not-above none = none
 not-above (more r w) = more (r .up) (not-above w)
 
+equal : {xs ys : List Float} → Risen xs ys → Risen ys xs → EqualMasks xs ys
+equal none none = none
+equal (more {x} {y} r w) (more r' w') =
+    let p = real-number binary32 x (r .from .is-real) in
+    let q = real-number binary32 y (r .to .is-real) in
+    more (le-antisymm-f binary32 x y p q (r .up) (r' .up)) (equal w w')
+
 pub chord-law : ChordLaw
-chord-law a b fa fb c u = (not-above (masks-rise a b fa fb c u left), not-above (masks-rise a b fa fb c u right))
-
--- ---- equal masks, by the law twice
-equal-masks : {xs ys : List Float} → Risen xs ys → Risen ys xs → EqualMasks xs ys
-equal-masks none none = none
-equal-masks (more {x} {y} r w) (more r' w') =
-    more (le-antisymm-f binary32 x y (real-number binary32 x (r .from .is-real)) (real-number binary32 y (r .to .is-real)) (r .up) (r' .up)) (equal-masks w w')
-
-pub chord-law-equal : ChordLawEqual
-chord-law-equal a b fa fb c u v = (both left, both right)
+chord-law a b fa fb c u =
+    ((up _, up _), λ matched curves. (same matched curves _, same matched curves _))
   where
-    both : (side : Side) → EqualMasks (maskOn side a) (maskOn side b)
-    both side = equal-masks (masks-rise a b fa fb c u side) (masks-rise b a fb fa (turned a b fa fb c) v side)
+    up : (side : Side) → NotAbove (maskOn side a) (maskOn side b)
+    up side = not-above (masks-rise a b fa fb c u side)
+
+    same :
+        MatchedIn (given b) (given a) → EqualCurves (a .curve) (b .curve)
+        → (side : Side) → EqualMasks (maskOn side a) (maskOn side b)
+    same matched curves side =
+        let back : Beneath (whole b) (whole a) = record { matched = matched; curve = curves .1 } in
+        equal (masks-rise a b fa fb c u side)
+        (masks-rise b a fb fa (turned a b fa fb c) back side)
+
+-- ---- its two parts, each with the premises that it needs
+module _ (a b : Call) (fa : F32Call a) (fb : F32Call b)
+    (c : Comparable (whole a) (whole b)) (u : Beneath (whole a) (whole b)) where
+  pub masks-not-above : MasksNotAbove (whole a) (whole b)
+  masks-not-above = chord-law a b fa fb c u .0
+
+  pub masks-equal : Beneath (whole b) (whole a) → MasksEqual (whole a) (whole b)
+  masks-equal v = chord-law a b fa fb c u .1 (v .matched) (u .curve, v .curve)

@@ -2,6 +2,8 @@ pub mod Acceptance
 pub mod Alike
 pub mod Turned
 pub mod Law
+pub mod LentCalls
+pub mod Bins
+pub mod TwoCalls
 pub mod Instances
 pub mod Scene
-pub mod TwoCalls

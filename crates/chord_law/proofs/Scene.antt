@@ -1,5 +1,6 @@
--- Two whole calls that meet every premise, on any curve without NaN: a chord, and the same chord with one note more, at 48,000 Hz and size 64 with a table of zeros. So the law is not empty: no bin
--- of the chord's masks is above that of the larger chord. Assumes nothing.
+-- Two whole calls that meet every premise, on any curve without NaN: a chord, and the same chord
+-- with one note more, at 48,000 Hz and size 64 with a table of zeros. So the law is not empty: no
+-- bin of the chord's masks is above that of the larger chord. Assumes nothing.
 use mathlib.Core.Path.{_≡_, refl, sym, subst}
 use mathlib.Core.Bool.{true}
 use mathlib.Core.List.{List}
@@ -19,19 +20,21 @@ use Rattle.limits.specs.Lengths.{MANUAL-MASK-POINTS}
 use Rattle.scene.specs.declared.MaskVoice.{MaskVoice}
 use Rattle.scene.specs.declared.MaskConfig.{MaskConfig}
 use Rattle.scene.specs.declared.MotionShape.the-variants.{Saw}
-use Rattle.scene.specs.Accepted.{noVoice, motionAccepted, sizeAccepted, settingsAccepted, voiceAccepted}
+use Rattle.scene.specs.Accepted.{noVoice, sizeAccepted, settingsAccepted}
+use Rattle.scene.specs.Accepted.{motionAccepted, voiceAccepted}
 use Rattle.float32.specs.Remainder.{half}
 use Rattle.refusals.specs.Masks.{settingsReply, voicesReply, tableReply, stereoReply}
 use Rattle.mask_calls.specs.F32.{F32Voice, F32Settings}
-use Rattle.chord_law.specs.Calls.{Call, F32Call, Accepted}
+use Rattle.chord_law.specs.Calls.{Call, F32Call, Accepted, whole}
 use Rattle.chord_law.specs.Settings.{SameSettings}
 use Rattle.chord_law.specs.Curves.{NoNan, NowhereAbove}
 use Rattle.chord_law.specs.Masks.{MasksNotAbove}
 use Rattle.chord_law.specs.Premises.{Comparable}
-use Rattle.chord_law.proofs.Law.{chord-law}
+use Rattle.chord_law.proofs.Law.{masks-not-above}
 use Rattle.chord_law.proofs.Instances.{voice, chord, with-one-more, one-more}
 
--- 48,000 Hz, size 64, a depth of 96 dB, widths of 100 cents, 8 partials that fall by 6 dB an octave, and a saw of 12 dB, an octave long
+-- 48,000 Hz, size 64, a depth of 96 dB, widths of 100 cents, 8 partials that fall by 6 dB an
+-- octave, and a saw of 12 dB, an octave long
 abbrev config : MaskConfig
 config =
     record {
@@ -42,7 +45,13 @@ config =
       «width_cents» = ofBits binary32 0x42c8_0000;
       partials = 8;
       «harmonic_rolloff_db_per_octave» = ofBits binary32 0x40c0_0000;
-      motion = record { shape = Saw; «depth_db» = ofBits binary32 0x4140_0000; phase = remainder.zero; «size_octaves» = remainder.one };
+      motion =
+          record {
+            shape = Saw;
+            «depth_db» = ofBits binary32 0x4140_0000;
+            phase = remainder.zero;
+            «size_octaves» = remainder.one;
+          };
     }
 
 abbrev table : List Float
@@ -50,23 +59,52 @@ table = tabulate 33 (λ k. remainder.zero)
 
 settings-f32 : F32Settings config
 unfolding ofBits ofFields odd trailingZeros fits
-settings-f32 = record { rate = tt; note-depth = tt; width = tt; rolloff = tt; motion-depth = tt; phase = tt; motion-size = tt }
+settings-f32 =
+    record {
+      rate = tt;
+      note-depth = tt;
+      width = tt;
+      rolloff = tt;
+      motion-depth = tt;
+      phase = tt;
+      motion-size = tt;
+    }
 
 settings-same : SameSettings config config
 unfolding ofBits ofFields odd trailingZeros eq
 settings-same =
-    record { rate = tt; size = refl; note-depth = tt; note-layer = refl; width = tt; partials = refl; rolloff = tt; motion = record { shape = refl; depth = tt; phase = tt; size = tt } }
+    record {
+      rate = tt;
+      size = refl;
+      note-depth = tt;
+      note-layer = refl;
+      width = tt;
+      partials = refl;
+      rolloff = tt;
+      motion = record { shape = refl; depth = tt; phase = tt; size = tt };
+    }
 
 zero-f32 : T (fits binary32 remainder.zero) × T (eq remainder.zero remainder.zero)
 unfolding ofBits fits eq
 zero-f32 = (tt, tt)
 
 entry-is : (i : ℕ) → i < length table → getD table i nan ≡ remainder.zero
-entry-is i h = getD-tabulate (λ k. remainder.zero) 33 i nan (omega (arith, length-tab (λ k. remainder.zero) 0 33))
+entry-is i h =
+    getD-tabulate (λ k. remainder.zero) 33 i nan
+    (omega (arith, length-tab (λ k. remainder.zero) 0 33))
 
 note-f32 : (note : ℕ) → F32Voice (voice note half)
 unfolding ofBits ofFields odd trailingZeros fits
-note-f32 note = record { level = tt; tuning = tt; pressure = tt; timbre = tt; volume = tt; expression = tt; pan = tt }
+note-f32 note =
+    record {
+      level = tt;
+      tuning = tt;
+      pressure = tt;
+      timbre = tt;
+      volume = tt;
+      expression = tt;
+      pan = tt;
+    }
 
 chord-f32 : All F32Voice chord
 chord-f32 = (note-f32 60, (note-f32 64, (note-f32 67, tt)))
@@ -74,28 +112,43 @@ chord-f32 = (note-f32 60, (note-f32 64, (note-f32 67, tt)))
 larger-f32 : All F32Voice with-one-more
 larger-f32 = (note-f32 60, (note-f32 64, (note-f32 70, (note-f32 67, tt))))
 
-module _ (curve : List Float) (long : length curve ≡ MANUAL-MASK-POINTS) (numbers : NoNan curve) (f32 : (i : ℕ) → i < length curve → T (fits binary32 (getD curve i nan))) where
+module _ (curve : List Float) (long : length curve ≡ MANUAL-MASK-POINTS) (numbers : NoNan curve)
+    (f32 : (i : ℕ) → i < length curve → T (fits binary32 (getD curve i nan))) where
   abbrev call : List MaskVoice → Call
-  call voices = record { left-length = 33; right-length = 33; curve = curve; voices = voices; count = length voices; config = config; table = table }
+  call voices =
+      record {
+        left-length = 33;
+        right-length = 33;
+        curve = curve;
+        voices = voices;
+        count = length voices;
+        config = config;
+        table = table;
+      }
 
-  chord-accepted : Accepted (call chord)
-  unfolding stereoReply settingsReply voicesReply tableReply sizeAccepted settingsAccepted motionAccepted voiceAccepted firstBadFrom tabFrom within finite le lt eq ofBits ofFields odd trailingZeros
+  chord-accepted : Accepted (whole (call chord))
+  unfolding stereoReply settingsReply voicesReply tableReply sizeAccepted settingsAccepted
+      motionAccepted voiceAccepted firstBadFrom tabFrom within finite le lt eq ofBits ofFields odd
+      trailingZeros
   chord-accepted = rw long refl
 
-  larger-accepted : Accepted (call with-one-more)
-  unfolding stereoReply settingsReply voicesReply tableReply sizeAccepted settingsAccepted motionAccepted voiceAccepted firstBadFrom tabFrom within finite le lt eq ofBits ofFields odd trailingZeros
+  larger-accepted : Accepted (whole (call with-one-more))
+  unfolding stereoReply settingsReply voicesReply tableReply sizeAccepted settingsAccepted
+      motionAccepted voiceAccepted firstBadFrom tabFrom within finite le lt eq ofBits ofFields odd
+      trailingZeros
   larger-accepted = rw long refl
 
   call-f32 : (voices : List MaskVoice) → All F32Voice voices → F32Call (call voices)
   call-f32 voices f =
       record {
-        curve = f32;
-        voices = λ i h. all-at F32Voice voices i noVoice f h;
-        settings = settings-f32;
-        table = λ i h. subst (λ (x : Float). T (fits binary32 x)) (sym (entry-is i h)) (zero-f32 .0);
+        curve-f32 = f32;
+        voices-f32 = λ i h. all-at F32Voice voices i noVoice f h;
+        settings-f32 = settings-f32;
+        table-f32 =
+            λ i h. subst (λ (x : Float). T (fits binary32 x)) (sym (entry-is i h)) (zero-f32 .0);
       }
 
-  comparable : Comparable (call chord) (call with-one-more)
+  comparable : Comparable (whole (call chord)) (whole (call with-one-more))
   comparable =
       record {
         a-accepted = chord-accepted;
@@ -112,5 +165,9 @@ module _ (curve : List Float) (long : length curve ≡ MANUAL-MASK-POINTS) (numb
       let n = fits-number binary32 x (f32 i (rw long h)) (numbers i h) in
       le→not-lt-f binary32 x x n n (le-refl-f binary32 x n)
 
-  pub the-larger-chord-is-above : MasksNotAbove (call chord) (call with-one-more)
-  the-larger-chord-is-above = chord-law (call chord) (call with-one-more) (call-f32 chord chord-f32) (call-f32 with-one-more larger-f32) comparable (record { matched = one-more; curve = not-above-itself })
+  pub the-larger-chord-is-above :
+      MasksNotAbove (whole (call chord)) (whole (call with-one-more))
+  the-larger-chord-is-above =
+      masks-not-above (call chord) (call with-one-more) (call-f32 chord chord-f32)
+      (call-f32 with-one-more larger-f32) comparable
+      (record { matched = one-more; curve = not-above-itself })

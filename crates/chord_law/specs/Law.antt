@@ -1,19 +1,28 @@
--- The chord law of document 01's demand 3, one statement on two whole stereo calls, from what they are given to all size/2 + 1 bins of both masks. Assumes nothing.
-use mathlib.Core.List.{List}
-use lib.Ieee.{Float}
-use Rattle.chord_law.specs.Calls.{Call, F32Call}
+-- The chord law: document 01's demand 3, "a single theorem on two whole stereo calls, from what
+-- they are given to all size/2 + 1 bins of both masks", and its corollary for the call on a lent
+-- slice of voice records. Assumes nothing.
+use Rattle.chord_law.specs.Calls.{WholeCall, Call, F32Call, whole}
+use Rattle.chord_law.specs.Calls.{LentCall, F32LentCall, wholeLent}
+use Rattle.chord_law.specs.Voices.{MatchedIn}
+use Rattle.chord_law.specs.Curves.{EqualCurves}
 use Rattle.chord_law.specs.Premises.{Comparable, Beneath}
-use Rattle.chord_law.specs.Masks.{NotAbove, EqualMasks, MasksNotAbove, MasksEqual}
+use Rattle.chord_law.specs.Masks.{MasksNotAbove, MasksEqual}
 
--- where A is beneath B, no bin of A's masks is above B's
+-- Where each voice of A is matched by one of B and A's curve is nowhere above B's, no bin of A's
+-- masks is above B's; and where B is matched in A too and the curves are equal, the masks are
+-- equal.
+abbrev pub LawHolds : WholeCall → WholeCall → Type 0
+LawHolds a b =
+    Comparable a b
+    → Beneath a b
+    → MasksNotAbove a b
+    × (MatchedIn (b .voices) (a .voices) → EqualCurves (a .curve) (b .curve) → MasksEqual a b)
+
+-- of every two calls
 abbrev pub ChordLaw : Type 0
-ChordLaw = (a b : Call) → F32Call a → F32Call b → Comparable a b → Beneath a b → MasksNotAbove a b
+ChordLaw = (a b : Call) → F32Call a → F32Call b → LawHolds (whole a) (whole b)
 
--- and where B is beneath A too, which makes the curves equal, the masks are equal
-abbrev pub ChordLawEqual : Type 0
-ChordLawEqual = (a b : Call) → F32Call a → F32Call b → Comparable a b → Beneath a b → Beneath b a → MasksEqual a b
-
--- ---- the same of the four masks that two calls leave in lent slices
-pub record LawHolds (a b : Call) (a-left a-right b-left b-right : List Float) : Type 0 where
-  pub not-above : Comparable a b → Beneath a b → NotAbove a-left b-left × NotAbove a-right b-right
-  pub equal : Comparable a b → Beneath a b → Beneath b a → EqualMasks a-left b-left × EqualMasks a-right b-right
+-- of every two calls on lent slices of voice records
+abbrev pub LentChordLaw : Type 0
+LentChordLaw =
+    (a b : LentCall) → F32LentCall a → F32LentCall b → LawHolds (wholeLent a) (wholeLent b)

@@ -5,3 +5,4 @@ pub mod Curves
 pub mod Masks
 pub mod Premises
 pub mod Law
+pub mod Bins

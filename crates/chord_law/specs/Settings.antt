@@ -1,5 +1,6 @@
--- The same settings and the same table entries in both calls: whole numbers, the switch and the shape are the same, and all else is equal as f32, so that the sign of a zero does not
--- count. Assumes nothing.
+-- The same settings and the same table entries in both calls: whole numbers, the switch and the
+-- shape are the same, and all else is equal as f32, so that the sign of a zero does not count.
+-- Assumes nothing.
 use mathlib.Core.Path.{_≡_}
 use mathlib.Core.List.{List}
 use Prim.Native.Nat.{ℕ, _<_}

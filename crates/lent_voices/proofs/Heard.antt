@@ -1,5 +1,6 @@
--- Of the array that `gather` gives, the mask builders make what they make of the list itself: a list of more than 128 voices is refused, and of another they read
--- the first `length` entries of the array. Assumes nothing.
+-- Of the array that `gather` gives, the mask builders make what they make of the list itself: a
+-- list of more than 128 voices is refused, and of another they read the first `length` entries of
+-- the array. Assumes nothing.
 use mathlib.Core.Path.{_≡_, refl, sym, ap, _∙_}
 use mathlib.Core.Bool.{Bool, true, false, cond, not}
 use mathlib.Core.List.{List, []}
@@ -16,16 +17,21 @@ use Rattle.scene.specs.declared.MaskVoice.{MaskVoice}
 use Rattle.scene.specs.declared.MaskConfig.{MaskConfig}
 use Rattle.scene.specs.Accepted.{voiceAccepted}
 use Rattle.limits.specs.Lengths.{MOST-VOICES}
-use Rattle.refusals.specs.Masks.{first, settingsReply, voicesReply, tableReply, voicesMaskReply, tabledMaskReply, stereoReply}
+use Rattle.refusals.specs.Masks.{first, settingsReply, voicesReply, tableReply}
+use Rattle.refusals.specs.Masks.{voicesMaskReply, tabledMaskReply, stereoReply}
 use Rattle.refusals.proofs.MaskAccepted.{Done, both-done, voices-done}
 use Rattle.lent_voices.specs.Gathered.{gathered}
 use Rattle.lent_voices.proofs.Gathered.{take-gathered}
 
-heard-same : (voices : List MaskVoice) → length voices ≤ 128 → take (length voices) (gathered voices) ≡ take (length voices) voices
+heard-same :
+    (voices : List MaskVoice) → length voices ≤ 128
+    → take (length voices) (gathered voices) ≡ take (length voices) voices
 heard-same voices few = take-gathered voices few ∙ sym (take-length voices)
 
 -- a test that comes after refusal 3
-after-three : (over : Bool) (rest : ℕ → Reply) {a b : ℕ} → (T (not over) → a ≡ b) → cond over (refused VOICE-COUNT 0) (rest a) ≡ cond over (refused VOICE-COUNT 0) (rest b)
+after-three :
+    (over : Bool) (rest : ℕ → Reply) {a b : ℕ} → (T (not over) → a ≡ b)
+    → cond over (refused VOICE-COUNT 0) (rest a) ≡ cond over (refused VOICE-COUNT 0) (rest b)
 after-three true rest e = refl
 after-three false rest e = ap rest (e tt)
 
@@ -34,43 +40,74 @@ module _ (voices : List MaskVoice) where
   count = length voices
 
   -- ---- the replies
-  voices-same : (lengths : Bool) → voicesReply (gathered voices) count lengths ≡ voicesReply voices count lengths
+  voices-same :
+      (lengths : Bool)
+      → voicesReply (gathered voices) count lengths ≡ voicesReply voices count lengths
   unfolding voicesReply
   voices-same lengths =
-      after-three (ltb MOST-VOICES count) (λ voice. cond (not lengths) (refused LENGTH 0) (cond (ltb voice count) (refused VOICE voice) (done [])))
-      (λ t. ap (λ (heard : List MaskVoice). firstBad (λ index voice. voiceAccepted voice) heard) (heard-same voices (nltb→le MOST-VOICES count t)))
+      after-three (ltb MOST-VOICES count)
+      (λ v. cond (not lengths) (refused LENGTH 0) (cond (ltb v count) (refused VOICE v) (done [])))
+      (λ t. ap (λ (heard : List MaskVoice). firstBad (λ index voice. voiceAccepted voice) heard)
+      (heard-same voices (nltb→le MOST-VOICES count t)))
 
-  pub mono-same : (n : ℕ) (curve : List Float) (config : MaskConfig) → voicesMaskReply n curve (gathered voices) count config ≡ voicesMaskReply n curve voices count config
+  pub mono-same :
+      (n : ℕ) (curve : List Float) (config : MaskConfig)
+      → voicesMaskReply n curve (gathered voices) count config
+      ≡ voicesMaskReply n curve voices count config
   unfolding voicesMaskReply
   mono-same n curve config = ap (λ (r : Reply). first (settingsReply config) r) (voices-same _)
 
-  pub tabled-same : (n : ℕ) (curve : List Float) (config : MaskConfig) (table : List Float) → tabledMaskReply n curve (gathered voices) count config table ≡ tabledMaskReply n curve voices count config table
+  pub tabled-same :
+      (n : ℕ) (curve : List Float) (config : MaskConfig) (table : List Float)
+      → tabledMaskReply n curve (gathered voices) count config table
+      ≡ tabledMaskReply n curve voices count config table
   unfolding tabledMaskReply
-  tabled-same n curve config table = ap (λ (r : Reply). first (settingsReply config) (first r (tableReply table))) (voices-same _)
+  tabled-same n curve config table =
+      ap (λ (r : Reply). first (settingsReply config) (first r (tableReply table))) (voices-same _)
 
-  pub stereo-same : (m n : ℕ) (curve : List Float) (config : MaskConfig) (table : List Float) → stereoReply m n curve (gathered voices) count config table ≡ stereoReply m n curve voices count config table
+  pub stereo-same :
+      (m n : ℕ) (curve : List Float) (config : MaskConfig) (table : List Float)
+      → stereoReply m n curve (gathered voices) count config table
+      ≡ stereoReply m n curve voices count config table
   unfolding stereoReply
-  stereo-same m n curve config table = ap (λ (r : Reply). first (settingsReply config) (first r (tableReply table))) (voices-same _)
+  stereo-same m n curve config table =
+      ap (λ (r : Reply). first (settingsReply config) (first r (tableReply table))) (voices-same _)
 
   -- ---- a call that is done was given at most 128 voices
-  few : (config : MaskConfig) (lengths : Bool) (rest : Reply) → Done (first (settingsReply config) (first (voicesReply (gathered voices) count lengths) rest)) → count ≤ 128
+  few :
+      (config : MaskConfig) (lengths : Bool) (rest : Reply)
+      → Done (first (settingsReply config)
+      (first (voicesReply (gathered voices) count lengths) rest))
+      → count ≤ 128
   few config lengths rest d =
-      let heard = both-done (settingsReply config) (first (voicesReply (gathered voices) count lengths) rest) d .1 in
-      voices-done (gathered voices) count lengths (both-done (voicesReply (gathered voices) count lengths) rest heard .0) .0
+      let heard =
+      both-done (settingsReply config) (first (voicesReply (gathered voices) count lengths) rest)
+      d .1 in
+      voices-done (gathered voices) count lengths
+      (both-done (voicesReply (gathered voices) count lengths) rest heard .0) .0
 
-  pub mono-few : (n : ℕ) (curve : List Float) (config : MaskConfig) → Done (voicesMaskReply n curve (gathered voices) count config) → count ≤ 128
+  pub mono-few :
+      (n : ℕ) (curve : List Float) (config : MaskConfig)
+      → Done (voicesMaskReply n curve (gathered voices) count config) → count ≤ 128
   unfolding voicesMaskReply
-  mono-few n curve config d = voices-done (gathered voices) count _ (both-done (settingsReply config) _ d .1) .0
+  mono-few n curve config d =
+      voices-done (gathered voices) count _ (both-done (settingsReply config) _ d .1) .0
 
-  pub tabled-few : (n : ℕ) (curve : List Float) (config : MaskConfig) (table : List Float) → Done (tabledMaskReply n curve (gathered voices) count config table) → count ≤ 128
+  pub tabled-few :
+      (n : ℕ) (curve : List Float) (config : MaskConfig) (table : List Float)
+      → Done (tabledMaskReply n curve (gathered voices) count config table) → count ≤ 128
   unfolding tabledMaskReply
   tabled-few n curve config table d = few config _ (tableReply table) d
 
-  pub stereo-few : (m n : ℕ) (curve : List Float) (config : MaskConfig) (table : List Float) → Done (stereoReply m n curve (gathered voices) count config table) → count ≤ 128
+  pub stereo-few :
+      (m n : ℕ) (curve : List Float) (config : MaskConfig) (table : List Float)
+      → Done (stereoReply m n curve (gathered voices) count config table) → count ≤ 128
   unfolding stereoReply
   stereo-few m n curve config table d = few config _ (tableReply table) d
 
   -- ---- what a slice holds: mask of the voices, where the call is done
-  pub written-same : (mask : List MaskVoice → List Float) (old : List Float) (a : Reply) → (Done a → count ≤ 128) → written a (mask (take count (gathered voices))) old ≡ written a (mask voices) old
+  pub written-same :
+      (mask : List MaskVoice → List Float) (old : List Float) (a : Reply) → (Done a → count ≤ 128)
+      → written a (mask (take count (gathered voices))) old ≡ written a (mask voices) old
   written-same mask old (done values) few = ap mask (take-gathered voices (few tt))
   written-same mask old (refused number place) few = refl

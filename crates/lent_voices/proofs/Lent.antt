@@ -1,4 +1,5 @@
--- What a walk of a call on a lent slice of voices needs of `gather` and of the array that it gives. Assumes nothing.
+-- What a walk of a call on a lent slice of voices needs of `gather` and of the array that it gives.
+-- Assumes nothing.
 use mathlib.Core.Path.{_≡_}
 use mathlib.Core.List.{List, [], _∷_}
 use lib.Dec.{T as Holds}
@@ -38,27 +39,43 @@ AR = Array R 128
 
 module _ {M : Type 1} (𝓤 : URA M) (H : Heap 𝓤) (A : Atoms 𝓤) (W : Given 𝓤 H A) where
   -- an array of voices owns nothing
-  pub a-makes : (xs : List MaskVoice) (vs : List Val) → Is AR xs vs → ent 𝓤 (emp 𝓤) (sem 𝓤 H A (AR .own xs vs))
+  pub a-makes :
+      (xs : List MaskVoice) (vs : List Val) → Is AR xs vs
+      → ent 𝓤 (emp 𝓤) (sem 𝓤 H A (AR .own xs vs))
   a-makes = array-makes 𝓤 H A W R (LL.makes T.the-type T′.the-plain 𝓤 H A) 128
 
-  pub a-typed : (xs : List MaskVoice) (u : Val) → Is AR xs (u ∷ []) → Holds (hasTy (tyArray T′.mir 128) u) × WT u
-  a-typed xs u g = array-lawful 𝓤 H A W R (LL.lawful T.the-type T′.the-laws 𝓤 H A W) 128 .typed xs (u ∷ []) g .0
+  pub a-typed :
+      (xs : List MaskVoice) (u : Val) → Is AR xs (u ∷ [])
+      → Holds (hasTy (tyArray T′.mir 128) u) × WT u
+  a-typed xs u g =
+      array-lawful 𝓤 H A W R (LL.lawful T.the-type T′.the-laws 𝓤 H A W) 128 .typed xs (u ∷ []) g .0
 
-module _ {M : Type 1} (𝓤 : URA M) (H : Heap 𝓤) (A : Atoms 𝓤) (mem : Memory → SProp 𝓤) (run : Routine → Fun 𝓤) where
+module _ {M : Type 1} (𝓤 : URA M) (H : Heap 𝓤) (A : Atoms 𝓤) (mem : Memory → SProp 𝓤)
+    (run : Routine → Fun 𝓤) where
   abbrev pub Gather : Contract 𝓤
   Gather = tripleOf 𝓤 H A gather.signature (gather.spec 𝓤 H A mem run)
 
 -- the call of `gather` on the slice x
-module _ {M : Type 1} (𝓤 : URA M) (H : Heap 𝓤) (A : Atoms 𝓤) (W : Given 𝓤 H A) (mem : Memory → SProp 𝓤) (run : Routine → Fun 𝓤) where
+module _ {M : Type 1} (𝓤 : URA M) (H : Heap 𝓤) (A : Atoms 𝓤) (W : Given 𝓤 H A)
+    (mem : Memory → SProp 𝓤) (run : Routine → Fun 𝓤) where
   abbrev pub gather-to : Lft → Share → RefT (List MaskVoice) → Gather 𝓤 H A mem run .Ghost
-  gather-to κ q x = (((κ, tt), (q, tt), tt, (x, tt), (sliceVal (x .ptr) (length (x .now)) ∷ [], tt)), tt)
+  gather-to κ q x =
+      (((κ, tt), (q, tt), tt, (x, tt), (sliceVal (x .ptr) (length (x .now)) ∷ [], tt)), tt)
 
   pub gather-asked : (ℓ : Lifetime) (κ : Lft) (q : Share) (x : RefT (List MaskVoice))
-      → ent 𝓤 (⋆ 𝓤 H A (‵ (flft κ q) ∷ ‵ (ShrSlice ℓ κ R .own x (sliceVal (x .ptr) (length (x .now)) ∷ [])) ∷ [])) (Gather 𝓤 H A mem run .pre (gather-to κ q x))
+      → ent 𝓤
+      (⋆ 𝓤 H A (‵ (flft κ q)
+      ∷ ‵ (ShrSlice ℓ κ R .own x (sliceVal (x .ptr) (length (x .now)) ∷ [])) ∷ []))
+      (Gather 𝓤 H A mem run .pre (gather-to κ q x))
   gather-asked ℓ κ q x =
-      qed W (‵ (flft κ q) ∷ ‵ (ShrSlice ℓ κ R .own x (sliceVal (x .ptr) (length (x .now)) ∷ [])) ∷ []) ∵
-      nothing ! $ move ! (1 ∷ 0 ∷ []) $ join ! $ nothing ! $ move ! (2 ∷ 0 ∷ []) $ fjoin ! $ move ! (1 ∷ 0 ∷ []) $ join ! $ frame ! $ done !
+      qed W
+      (‵ (flft κ q) ∷ ‵ (ShrSlice ℓ κ R .own x (sliceVal (x .ptr) (length (x .now)) ∷ [])) ∷ []) ∵
+      nothing ! $ move ! (1 ∷ 0 ∷ []) $ join ! $ nothing ! $ move ! (2 ∷ 0 ∷ []) $ fjoin ! $
+      move ! (1 ∷ 0 ∷ []) $ join ! $ frame ! $ done !
 
   pub gather-said : (κ : Lft) (q : Share) (x : RefT (List MaskVoice)) (r : List MaskVoice)
-      → ent 𝓤 (ensured 𝓤 H A gather.ended (gather.clauses 𝓤 H A mem run) (κ, tt) (x, tt) tt r) (fact 𝓤 (r ≡ gathered (x .now)))
-  gather-said κ q x r = exE 𝓤 _ (λ ws. snd∗ 𝓤 (sem 𝓤 H A (lasts gather.ended (κ, tt) (x, tt) ws)) (fact 𝓤 (r ≡ gathered (x .now))))
+      → ent 𝓤 (ensured 𝓤 H A gather.ended (gather.clauses 𝓤 H A mem run) (κ, tt) (x, tt) tt r)
+      (fact 𝓤 (r ≡ gathered (x .now)))
+  gather-said κ q x r =
+      exE 𝓤 _ (λ ws. snd∗ 𝓤 (sem 𝓤 H A (lasts gather.ended (κ, tt) (x, tt) ws))
+      (fact 𝓤 (r ≡ gathered (x .now))))

@@ -1,17 +1,15 @@
-// The mask builders on a lent slice of voice records, as the Rust takes them.
+// The stereo call on a lent slice of voice records, as the Rust takes them.
 ghost use mathlib.Core.Path.{_≡_};
-ghost use Prim.Native.Nat.{_<_, _*_};
-ghost use lib.ListN.{length, drop, getD};
+ghost use Prim.Native.Nat.{_<_};
+ghost use lib.ListN.{length, getD};
 ghost use Rattle.answer.specs.Reply.{ofOutcome};
 ghost use Rattle.answer.specs.Written.{written};
 ghost use Rattle.scene.specs.Accepted.{noVoice};
-ghost use Rattle.lobes.specs.Distance.{lent, none};
 ghost use Rattle.lobes.specs.Pan as side;
-ghost use Rattle.mask_builder.specs.Mask.{maskOf};
-ghost use Rattle.refusals.specs.Masks.{voicesMaskReply, tabledMaskReply, stereoReply};
 ghost use Rattle.lent_voices.specs.Gathered.{held, gathered};
+ghost use Rattle.lent_voices.specs.Stereo.{lentReply, lentMask};
 use answer::Outcome;
-use scene::MOST_VOICES;
+use limits::lengths::MOST_VOICES;
 use scene::MaskConfig;
 use scene::MaskVoice;
 
@@ -23,7 +21,7 @@ fn voice_at(voices: &[MaskVoice], index: usize) -> MaskVoice
     voices[index]
 }
 
-// How many of so many voices the array holds.
+// How many of `count` voices the core's array holds.
 fn held(count: usize) -> usize
     ensures { λ r. ⌜ r ≡ held count ⌝ }
 {
@@ -33,8 +31,8 @@ fn held(count: usize) -> usize
     MOST_VOICES
 }
 
-// The voices of a slice in the core's array, its first 128 where there are more.
-pub fn gather(voices: &[MaskVoice]) -> [MaskVoice; 128]
+// Copies the voices of a slice into the core's array, the first 128 where there are more.
+pub fn gather(voices: &[MaskVoice]) -> [MaskVoice; MOST_VOICES]
     ensures { λ r. ⌜ r ≡ gathered (now (voices .entry)) ⌝ }
 {
     let count = held(voices.len());
@@ -47,49 +45,8 @@ pub fn gather(voices: &[MaskVoice]) -> [MaskVoice; 128]
     array
 }
 
-// Without a table: every bin by its own frequency.
-pub fn build_mask_with_voices(
-    output: &mut [f32],
-    manual_mask_db: &[f32],
-    voices: &[MaskVoice],
-    config: MaskConfig,
-) -> Outcome
-    ensures { λ r. ⌜ ofOutcome r ≡ voicesMaskReply (length (now (output .entry)))
-        (now («manual_mask_db» .entry)) (now (voices .entry))
-        (length (now (voices .entry))) config ⌝ }
-    ensures { λ r. ⌜ now (output .exit) ≡ written (ofOutcome r)
-        (maskOf (now («manual_mask_db» .entry)) config none side.mono (now (voices .entry)))
-        (now (output .entry)) ⌝ }
-{
-    mask_calls::build_mask_with_voices(output, manual_mask_db, gather(voices), voices.len(), config)
-}
-
-// With the table of the bins' logarithms.
-pub fn build_mask_with_voices_precomputed(
-    output: &mut [f32],
-    manual_mask_db: &[f32],
-    voices: &[MaskVoice],
-    config: MaskConfig,
-    table: &[f32],
-) -> Outcome
-    ensures { λ r. ⌜ ofOutcome r ≡ tabledMaskReply (length (now (output .entry)))
-        (now («manual_mask_db» .entry)) (now (voices .entry)) (length (now (voices .entry))) config
-        (now (table .entry)) ⌝ }
-    ensures { λ r. ⌜ now (output .exit) ≡ written (ofOutcome r) (maskOf
-        (now («manual_mask_db» .entry)) config (lent (now (table .entry))) side.mono
-        (now (voices .entry))) (now (output .entry)) ⌝ }
-{
-    mask_calls::build_mask_with_voices_precomputed(
-        output,
-        manual_mask_db,
-        gather(voices),
-        voices.len(),
-        config,
-        table,
-    )
-}
-
-// Both masks of a stereo pair.
+// Builds both masks of a stereo pair by the lent table, prepared or not. The slice's length is the
+// count, so that the core refuses more than 128 voices.
 pub fn build_stereo_masks_with_voices_precomputed(
     left: &mut [f32],
     right: &mut [f32],
@@ -98,15 +55,15 @@ pub fn build_stereo_masks_with_voices_precomputed(
     config: MaskConfig,
     table: &[f32],
 ) -> Outcome
-    ensures { λ r. ⌜ ofOutcome r ≡ stereoReply (length (now (left .entry)))
-        (length (now (right .entry))) (now («manual_mask_db» .entry)) (now (voices .entry))
-        (length (now (voices .entry))) config (now (table .entry)) ⌝ }
-    ensures { λ r. ⌜ now (left .exit) ≡ written (ofOutcome r) (maskOf
-        (now («manual_mask_db» .entry)) config (lent (now (table .entry))) side.left
-        (now (voices .entry))) (now (left .entry)) ⌝ }
-    ensures { λ r. ⌜ now (right .exit) ≡ written (ofOutcome r) (maskOf
-        (now («manual_mask_db» .entry)) config (lent (now (table .entry))) side.right
-        (now (voices .entry))) (now (right .entry)) ⌝ }
+    ensures { λ r. ⌜ ofOutcome r ≡ lentReply (length (now (left .entry)))
+        (length (now (right .entry))) (now («manual_mask_db» .entry)) (now (voices .entry)) config
+        (now (table .entry)) ⌝ }
+    ensures { λ r. ⌜ now (left .exit) ≡ written (ofOutcome r)
+        (lentMask side.left (now («manual_mask_db» .entry)) (now (voices .entry)) config
+        (now (table .entry))) (now (left .entry)) ⌝ }
+    ensures { λ r. ⌜ now (right .exit) ≡ written (ofOutcome r)
+        (lentMask side.right (now («manual_mask_db» .entry)) (now (voices .entry)) config
+        (now (table .entry))) (now (right .entry)) ⌝ }
 {
     mask_calls::build_stereo_masks_with_voices_precomputed(
         left,
@@ -116,39 +73,5 @@ pub fn build_stereo_masks_with_voices_precomputed(
         voices.len(),
         config,
         table,
-    )
-}
-
-// The same by the frequency table of a prepared spectrum, which begins after the four windows of
-// its block.
-pub fn build_stereo_masks_with_prepared_spectrum(
-    left: &mut [f32],
-    right: &mut [f32],
-    manual_mask_db: &[f32],
-    voices: &[MaskVoice],
-    config: MaskConfig,
-    block: &[f32],
-) -> Outcome
-    ensures { λ r. ⌜ ofOutcome r ≡ stereoReply (length (now (left .entry)))
-        (length (now (right .entry))) (now («manual_mask_db» .entry)) (now (voices .entry))
-        (length (now (voices .entry))) config
-        (drop (4 * config .«fft_size») (now (block .entry))) ⌝ }
-    ensures { λ r. ⌜ now (left .exit) ≡ written (ofOutcome r) (maskOf
-        (now («manual_mask_db» .entry)) config
-        (lent (drop (4 * config .«fft_size») (now (block .entry)))) side.left (now (voices .entry)))
-        (now (left .entry)) ⌝ }
-    ensures { λ r. ⌜ now (right .exit) ≡ written (ofOutcome r) (maskOf
-        (now («manual_mask_db» .entry)) config
-        (lent (drop (4 * config .«fft_size») (now (block .entry)))) side.right
-        (now (voices .entry))) (now (right .entry)) ⌝ }
-{
-    mask_calls::build_stereo_masks_with_prepared_spectrum(
-        left,
-        right,
-        manual_mask_db,
-        gather(voices),
-        voices.len(),
-        config,
-        block,
     )
 }

@@ -1,11 +1,11 @@
--- Every case of the list holds. Powers and table entries are computed; a logarithm of a power of two is its exponent by a law, since the search for F is no
--- computation to run. Assumes nothing.
+-- Every case of the list holds. Powers and table entries are computed; a logarithm of a power of
+-- two is its exponent by a law, since the search for F is no computation to run. Assumes nothing.
 use mathlib.Core.Path.{refl}
 use mathlib.Core.Bool.{false}
 use lib.Dec.{lit≤}
 use lib.IntN.{pos}
 use lib.Count.{trailingZeros}
-use lib.Ieee.{fin, odd, isNan, round, size, span, climb, units}
+use lib.Ieee.{fin, ofBits, ofFields, odd, isNan, round, size, span, climb, units}
 use Rattle.lists.specs.Interpolation.{interp}
 use Rattle.float32.specs.Value.{moved}
 use Rattle.power.specs.Table.{powerTable}
@@ -21,7 +21,7 @@ use Rattle.smoothing.proofs.ThreeOnes.{softened-three-ones}
 use Rattle.proved_cases.specs.Cases.{Holds, cases}
 
 pub all-hold : Holds cases
-unfolding E2 powerOf powerAt interp moved powerTable odd trailingZeros isNan rounded round size span climb units halfAngleCosines sineTable
+unfolding E2 powerOf powerAt interp moved powerTable ofBits ofFields odd trailingZeros isNan rounded round size span climb units halfAngleCosines sineTable
 all-hold = (
   refl,
   (

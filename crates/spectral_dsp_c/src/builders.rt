@@ -15,12 +15,13 @@ use crossing::answers::give_outcome;
 use crossing::settings::Settings;
 use crossing::settings::config_of;
 use crossing::settings::shape_refused;
+use limits::lengths::MOST_VOICES;
 use scene::MaskVoice;
 
 fn mono(
     output: &mut [f32],
     manual_mask_db: &[f32],
-    voices: [MaskVoice; 128],
+    voices: [MaskVoice; MOST_VOICES],
     count: usize,
     settings: Settings,
     place: &mut usize,
@@ -76,7 +77,7 @@ pub extern "C" fn dovetable_build_mask_with_voices(
 fn tabled(
     output: &mut [f32],
     manual_mask_db: &[f32],
-    voices: [MaskVoice; 128],
+    voices: [MaskVoice; MOST_VOICES],
     count: usize,
     settings: Settings,
     table: &[f32],
@@ -139,7 +140,7 @@ fn stereo(
     left: &mut [f32],
     right: &mut [f32],
     manual_mask_db: &[f32],
-    voices: [MaskVoice; 128],
+    voices: [MaskVoice; MOST_VOICES],
     count: usize,
     settings: Settings,
     table: &[f32],
@@ -217,7 +218,7 @@ fn prepared(
     left: &mut [f32],
     right: &mut [f32],
     manual_mask_db: &[f32],
-    voices: [MaskVoice; 128],
+    voices: [MaskVoice; MOST_VOICES],
     count: usize,
     settings: Settings,
     block: &[f32],

@@ -1,4 +1,5 @@
--- `two_stereo_calls` meets its contract: the masks are those of the two calls, and the chord law holds of them. Assumes nothing.
+-- `two_stereo_calls` meets its contract: the masks are those of the two calls, and the chord law
+-- holds of them. Assumes nothing.
 use lib.ListN.{length}
 use Rattle.chord_law.specs.Calls.{F32Call, callOf}
 use Rattle.mask_calls.proofs.Parameters.{voices-f32, settings-f32}
@@ -38,21 +39,25 @@ returns c =
     let start = a-curve .before .before .before in
     let g = start .good in
     let p = start .args in
-    let a = callOf (length (p .a-left .now)) (length (p .a-right .now)) (p .a-curve .now) (p .a-voices) (p .a-count) (p .a-config) (p .a-table .now) in
-    let b = callOf (length (p .b-left .now)) (length (p .b-right .now)) (p .b-curve .now) (p .b-voices) (p .b-count) (p .b-config) (p .b-table .now) in
+    let a =
+    callOf (length (p .a-left .now)) (length (p .a-right .now)) (p .a-curve .now) (p .a-voices)
+    (p .a-count) (p .a-config) (p .a-table .now) in
+    let b =
+    callOf (length (p .b-left .now)) (length (p .b-right .now)) (p .b-curve .now) (p .b-voices)
+    (p .b-count) (p .b-config) (p .b-table .now) in
     let a-numbers : F32Call a =
     record {
-      curve = λ i l. a-curve .shared-slice-known .given i;
-      voices = voices-f32 128 (p .a-voices) _ (g .1 .1 .1 .0);
-      settings = settings-f32 (p .a-config) _ (g .1 .1 .1 .1 .1 .0);
-      table = λ i l. a-table .shared-slice-known2 .given i;
+      curve-f32 = λ i l. a-curve .shared-slice-known .given i;
+      voices-f32 = voices-f32 128 (p .a-voices) _ (g .1 .1 .1 .0);
+      settings-f32 = settings-f32 (p .a-config) _ (g .1 .1 .1 .1 .1 .0);
+      table-f32 = λ i l. a-table .shared-slice-known2 .given i;
     } in
     let b-numbers : F32Call b =
     record {
-      curve = λ i l. b-curve .shared-slice-known3 .given i;
-      voices = voices-f32 128 (p .b-voices) _ (g .1 .1 .1 .1 .1 .1 .1 .1 .1 .1 .0);
-      settings = settings-f32 (p .b-config) _ (g .1 .1 .1 .1 .1 .1 .1 .1 .1 .1 .1 .1 .0);
-      table = λ i l. b-table .shared-slice-known4 .given i;
+      curve-f32 = λ i l. b-curve .shared-slice-known3 .given i;
+      voices-f32 = voices-f32 128 (p .b-voices) _ (g .1 .1 .1 .1 .1 .1 .1 .1 .1 .1 .0);
+      settings-f32 = settings-f32 (p .b-config) _ (g .1 .1 .1 .1 .1 .1 .1 .1 .1 .1 .1 .1 .0);
+      table-f32 = λ i l. b-table .shared-slice-known4 .given i;
     } in
     let x = one .build-stereo-masks-with-voices-precomputed .ensures in
     let y = two .build-stereo-masks-with-voices-precomputed2 .ensures in (
@@ -60,8 +65,20 @@ returns c =
       (
         y .0,
         law-holds a b a-numbers b-numbers
-            (record { left-before = p .a-left .now; right-before = p .a-right .now; answer = x .0; left-after = x .1 .0; right-after = x .1 .1 })
-            (record { left-before = p .b-left .now; right-before = p .b-right .now; answer = y .0; left-after = y .1 .0; right-after = y .1 .1 }),
+            (record {
+              left-before = p .a-left .now;
+              right-before = p .a-right .now;
+              answer = x .0;
+              left-after = x .1 .0;
+              right-after = x .1 .1;
+            })
+            (record {
+              left-before = p .b-left .now;
+              right-before = p .b-right .now;
+              answer = y .0;
+              left-after = y .1 .0;
+              right-after = y .1 .1;
+            }),
       ),
     )
 

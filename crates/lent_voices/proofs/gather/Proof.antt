@@ -1,6 +1,8 @@
--- `lent_voices::gather` meets its contract: a walk of its MIR, by hand, with a loop and three calls.
--- The slice is Copy: what it owns is had twice, and one copy goes into each call of `voice_at`. The array lies in memory as its 128 records, and a turn writes one of them
--- in its place. A voice and an array of voices own nothing, so what they own is made anew of their relation. Assumes nothing.
+-- `lent_voices::gather` meets its contract: a walk of its MIR, by hand, with a loop and three
+-- calls. The slice is Copy: what it owns is had twice, and one copy goes into each call of
+-- `voice_at`. The array lies in memory as its 128 records, and a turn writes one of them in its
+-- place. A voice and an array of voices own nothing, so what they own is made anew of their
+-- relation. Assumes nothing.
 use mathlib.Core.Path.{_≡_, refl, sym, _∙_, ap, subst}
 use Prim.Native.Nat.{ℕ, zero, suc, _+_, _<_, _≤_, _^_}
 use native.Mathlib.Omega.{arith}
@@ -201,7 +203,8 @@ module _ {M : Type 1} (𝓤 : URA M) (H : Heap 𝓤) (A : Atoms 𝓤) (W : Given
         abbrev En : Env 𝓤 H
         En = (τA, l₀) ∷ (τS, l₁) ∷ (word, l₂) ∷ (τA, l₃) ∷ (word, l₄) ∷ (word, l₅) ∷ (τA, l₆) ∷ (tyBool, l₇) ∷ (T′.mir, l₈) ∷ (word, l₉) ∷ (tyPtr, l₁₀) ∷ (tyPtr, l₁₁) ∷ []
 
-        -- [the token; what the slice owns; the array's records; _4; _2; _1; room for the others; that each local dies]
+        -- [the token; what the slice owns; the array's records; _4; _2; _1; room for the others;
+        -- that each local dies]
         abbrev At : ℕ → List (Item 𝓤)
         At i = ‵ (flft κ q) ∷ ‵ Own ∷ ‵ (row R fullShare (gatheredTo i ys) l₃ 0) ∷ ‵ (fat fullShare word l₄ 0 (vint w64 i)) ∷ ‵ (fat fullShare word l₂ 0 (vint w64 m)) ∷ ‵ (fat fullShare τS l₁ 0 sv)
             ∷ ‵ (froom τA l₀ 0) ∷ ‵ (froom word l₅ 0) ∷ ‵ (froom τA l₆ 0) ∷ ‵ (froom tyBool l₇ 0) ∷ ‵ (froom T′.mir l₈ 0) ∷ ‵ (froom word l₉ 0) ∷ ‵ (froom tyPtr l₁₀ 0) ∷ ‵ (froom tyPtr l₁₁ 0)
