@@ -1,4 +1,5 @@
--- What bins hold: opennesses are numbers, and what is not above the least of a block is not above any of its bins. Assumes nothing.
+-- What bins hold: opennesses are numbers, and what is not above the least of a block is not above
+-- any of its bins. Assumes nothing.
 use mathlib.Core.Path.{_≡_, sym, subst}
 use mathlib.Core.Bool.{true}
 use mathlib.Core.List.{List}

@@ -1,4 +1,5 @@
--- The most that one of several lobes opens at a bin: the lobes joined to a row in their order, one of them once more before all others, give it. Assumes nothing.
+-- The most that one of several lobes opens at a bin: the lobes joined to a row in their order, one
+-- of them once more before all others, give it. Assumes nothing.
 use mathlib.Core.Path.{_≡_, sym, ap, _∙_, subst}
 use mathlib.Core.List.{List}
 use Prim.Native.Nat.{ℕ, _+_, _-_, _≤_, _<_}
@@ -21,9 +22,9 @@ use Rattle.lobes.specs.Distance.{lent}
 use Rattle.lobe_bounds.proofs.Bounded.{Measured, opening-in-unit}
 use Rattle.lobe_joins.specs.Joined.{lobeJoined, noLobe, lobesJoined}
 use Rattle.lobe_joins.proofs.Maxima.{le-join, joinWhere, FitWhere, BelowWhere, where-join, nothing-open}
+use Rattle.lobe_joins.proofs.Highest.{InUnit, highest-reaches, once-before}
+use Rattle.lobe_joins.proofs.RowJoined.{reaches, opens, AllInUnit, row-step, row-run}
 use Rattle.block_rows.specs.Most.{mostOpen, SoundLobes, Opennesses}
-use Rattle.block_rows.proofs.Highest.{InUnit, highest-reaches, once-before}
-use Rattle.block_rows.proofs.RowJoined.{reaches, opens, AllInUnit, row-step, row-run}
 use Rattle.block_rows.proofs.Held.{open-numbers}
 use Rattle.block_rows.proofs.RowRaised.{in-row, row-same, place-same, row-open}
 
@@ -67,7 +68,8 @@ module _ (grid : Grid) (table : List Float) (lobes : List Lobe) (count : ℕ) (s
           subst (λ (x : Lobe). BelowWhere (reaches grid table bin) (opens grid table bin) x (fold (joinWhere (reaches grid table bin) (opens grid table bin)) zero (take count lobes))) (getD-take count lobes top noLobe h)
           (all-at _ (take count lobes) top noLobe all (subst (λ n. top < n) (sym (length-take-le count lobes few)) h))
 
--- ---- a row of bins, from start on and below end, while the lobes are joined to it; the one at `top` is there already
+-- ---- a row of bins, from start on and below end, while the lobes are joined to it; the one at
+-- `top` is there already
 module _ (grid : Grid) (table : List Float) (lobes : List Lobe) (count : ℕ) (sound : SoundLobes grid lobes count) (few : count ≤ length lobes) (start end top : ℕ) (inside : top < count) where
   abbrev first : Lobe
   first = getD lobes top noLobe

@@ -1,12 +1,13 @@
--- A lobe joined to a row of bins: where it reaches bins of the row its openings are joined to them, and the others are as they were. Assumes nothing.
+-- A lobe joined to a row of bins: where it reaches bins of the row its openings are joined to them,
+-- and the others are as they were. Assumes nothing.
 use mathlib.Core.Path.{_≡_, refl, sym, ap, _∙_, subst}
-use mathlib.Core.Bool.{Bool, true, false, cond, _&&_}
+use mathlib.Core.Bool.{Bool, true, false, cond}
+use mathlib.Core.Logic.{inl, inr}
 use mathlib.Core.List.{List}
 use Prim.Native.Nat.{ℕ, _+_, _-_, _≤_, _<_, min, max}
 use native.Mathlib.Decide.{decLt}
 use native.Mathlib.Omega.{arith}
-use borrow.Author.Tests.{le-leb, lt-leb}
-use lib.Dec.{T, leb, lit≤}
+use lib.Dec.{T, lit≤}
 use lib.ListN.{length, getD}
 use lib.Seq.{ext-getD}
 use lib.Ieee.{Float, nan, binary32, le}
@@ -22,11 +23,12 @@ use Rattle.lobes.specs.Distance.{lent}
 use Rattle.lobes.specs.Lobe.{opening}
 use Rattle.lobe_bounds.proofs.Bounded.{Measured, opening-in-unit}
 use Rattle.lobe_joins.specs.Joined.{joined, lobeJoined}
-use Rattle.lobe_joins.proofs.Maxima.{le-join}
+use Rattle.lobe_joins.proofs.Maxima.{le-join, where-join}
+use Rattle.lobe_joins.proofs.Highest.{keeps-higher}
+use Rattle.lobe_joins.proofs.RowJoined.{reaches, opens, row-step}
+use Rattle.lobe_joins.proofs.Reached.{lobe-there, lobe-away}
 use Rattle.block_rows.specs.Most.{Bounded, Opennesses}
 use Rattle.block_rows.proofs.Held.{open-numbers}
-use Rattle.block_rows.proofs.Highest.{keeps-higher, keeps}
-use Rattle.block_rows.proofs.RowJoined.{reaches, opens, row-step}
 
 -- ---- places of a row and of the chunk that is joined to it
 from-there : (a s k : ℕ) → s ≤ a → a - s ≤ k → a ≤ s + k
@@ -41,30 +43,10 @@ bin-of a s k h p = omega arith
 in-chunk : (a b s k : ℕ) → s ≤ a → a ≤ s + k → s + k < b → k - (a - s) < b - a
 in-chunk a b s k h p q = omega arith
 
-joined-open : (b : Bool) {s t : Float} → Upto binary32 3 s → Upto binary32 3 t → Upto binary32 3 (cond b (maximum s t) s)
-joined-open true u v = keeps u v
-joined-open false u v = u
-
 module _ (grid : Grid) (table : List Float) (lobe : Lobe) (start end : ℕ) where
   -- at a place of the row
   abbrev pub in-row : ℕ → Float → Float
   in-row k held = lobeJoined grid (lent table) one (start + k) held lobe
-
-  there : (k : ℕ) (held : Float) → lobe .«first_bin» ≤ start + k → start + k ≤ lobe .«last_bin» → in-row k held ≡ joined one held (opening grid (lent table) lobe (start + k))
-  unfolding lobeJoined
-  there k held p q = simp (le-leb (lobe .«first_bin») (start + k) p, le-leb (start + k) (lobe .«last_bin») q)
-
-  below : (k : ℕ) (held : Float) → start + k < lobe .«first_bin» → in-row k held ≡ held
-  unfolding lobeJoined
-  below k held p = simp (lt-leb (lobe .«first_bin») (start + k) p)
-
-  above : (k : ℕ) (held : Float) → lobe .«last_bin» < start + k → in-row k held ≡ held
-  unfolding lobeJoined
-  above k held p = rw (lt-leb (start + k) (lobe .«last_bin») p) (neither (leb (lobe .«first_bin») (start + k)))
-    where
-      neither : (b : Bool) → cond (b && false) (joined one held (opening grid (lent table) lobe (start + k))) held ≡ held
-      neither true = refl
-      neither false = refl
 
   -- the part of the row that the lobe reaches
   abbrev from : ℕ
@@ -77,14 +59,14 @@ module _ (grid : Grid) (table : List Float) (lobe : Lobe) (start end : ℕ) wher
   not-reached k held p = go (decLt k (end - start))
     where
       go : Dec (k < end - start) → between 0 (end - start) in-row k held ≡ held
-      go (yes q) = between-in in-row 0 (end - start) k held (omega arith) q ∙ below k held (omega arith)
+      go (yes q) = between-in in-row 0 (end - start) k held (omega arith) q ∙ lobe-away grid (lent table) one (start + k) held lobe (inl (omega arith))
       go (no q) = between-high in-row 0 (end - start) k held (omega arith)
 
   passed : (k : ℕ) (held : Float) → start ≤ end → to ≤ start + k → between 0 (end - start) in-row k held ≡ held
   passed k held e p = go (decLt k (end - start))
     where
       go : Dec (k < end - start) → between 0 (end - start) in-row k held ≡ held
-      go (yes q) = between-in in-row 0 (end - start) k held (omega arith) q ∙ above k held (omega arith)
+      go (yes q) = between-in in-row 0 (end - start) k held (omega arith) q ∙ lobe-away grid (lent table) one (start + k) held lobe (inr (omega arith))
       go (no q) = between-high in-row 0 (end - start) k held (omega arith)
 
   -- none of its bins is in the row
@@ -116,7 +98,7 @@ module _ (grid : Grid) (table : List Float) (lobe : Lobe) (start end : ℕ) wher
           let c : start + k < to = below-there to start k q in
           between-in from-chunk (from - start) (to - start) k x (omega arith) q
           ∙ ap (joined one x) (read (k - (from - start)) (in-chunk from to start k a b c) ∙ ap (opening grid (lent table) lobe) (bin-of from start k a b))
-          ∙ sym (between-in in-row 0 (end - start) k x (omega arith) (omega arith) ∙ there k x (omega arith) (omega arith))
+          ∙ sym (between-in in-row 0 (end - start) k x (omega arith) (omega arith) ∙ lobe-there grid (lent table) one (start + k) x lobe (omega arith) (omega arith))
       at k x (no p) (no q) = between-high from-chunk (from - start) (to - start) k x (omega arith) ∙ sym (passed k x e (omega arith))
 
   -- a lobe that changes nothing at any place of the row
@@ -156,7 +138,7 @@ module _ (grid : Grid) (table : List Float) (lobe : Lobe) (start end : ℕ) wher
       step : Upto binary32 3 (getD xs k nan) → Upto binary32 3 (in-row k (getD xs k nan))
       step v =
           let o = opening-in-unit grid lobe m table (start + k) in
-          rw (row-step grid table (start + k) (getD xs k nan) lobe o) (joined-open (reaches grid table (start + k) lobe) v (upto-weaken binary32 (lit≤ tt) o))
+          rw (row-step grid table (start + k) (getD xs k nan) lobe o) (where-join (reaches grid table (start + k)) (opens grid table (start + k)) .keeps (getD xs k nan) lobe (λ t. upto-weaken binary32 (lit≤ tt) o) v)
 
       at : k < length xs → Dec (k < end - start) → Upto binary32 3 (between 0 (end - start) in-row k (getD xs k nan))
       at l (yes q) = rw (between-in in-row 0 (end - start) k (getD xs k nan) (omega arith) q) (step (u k l))

@@ -1,4 +1,5 @@
--- The most that the lobes of a tone open over a block of bins, worked out in a row. The compact way goes by these rows; what it writes is what the plain way writes, so nothing here says what a mask is. Assumes nothing.
+-- The most that any lobe of a tone opens at each bin of a block. These are steps of the compact
+-- way, which writes what the plain way writes: nothing here says what a mask is. Assumes nothing.
 use mathlib.Core.Path.{_≡_}
 use mathlib.Core.List.{List}
 use Prim.Native.Nat.{ℕ, _+_, _≤_, _<_}

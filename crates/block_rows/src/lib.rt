@@ -1,19 +1,16 @@
-// The most that the lobes of a tone open over a block of bins, worked out in a row: each lobe only
-// where it can count. The chunk has the openings of one lobe until they are joined, and is then the
-// room in which the least of the row is found.
+// The most that any lobe of a tone opens at each bin of a block. The lobes are joined in a row of
+// 64; one that cannot raise any bin of the row is skipped. The chunk holds the openings of one lobe
+// until they are joined, and is then scratch space for the search of the row's least number.
 ghost use mathlib.Core.Path.{_≡_};
-ghost use mathlib.Core.Bool.{true};
-ghost use Prim.Native.Nat.{_+_, _-_, _^_, _≤_, _<_};
+ghost use Prim.Native.Nat.{_+_, _-_};
 ghost use lib.ListN.{length, take};
-ghost use lib.Ieee.{binary32};
 ghost use Rattle.lists.specs.Maps.{mapRange};
-ghost use Rattle.float_laws.specs.Rise.{Upto};
 ghost use Rattle.float32.specs.Remainder.{one};
-ghost use Rattle.gaussian.specs.Table.{gaussianTable};
 ghost use Rattle.blocks.specs.Least.{Least};
 ghost use Rattle.lobes.specs.Distance.{lent};
 ghost use Rattle.lobe_joins.specs.Joined.{lobeJoined};
-ghost use Rattle.block_rows.specs.Most.{SoundLobe, SoundLobes, Bounded, Opennesses, BoundedLobes, HasMost};
+ghost use Rattle.block_rows.specs.Most.{HasMost};
+ghost use Rattle.block_rows.specs.Premises.{LobeReady, LobesReady, Block, BlockBounded, RowFrom, RowSoFar};
 use blocks::least_from;
 use counts::greater;
 use counts::lesser;
@@ -25,10 +22,11 @@ use lobes::Lobe;
 
 pub mod rises;
 
-// The gain of a row, which has openings alone.
+// The row holds openings without a gain: the sides' gains are applied when the row is joined to
+// them.
 const UNITY: f32 = 1.0;
 
-// A lobe joined to a row, which has the bins from `start` on and below `end`.
+// Joins a lobe to the row of the bins from `start` up to but not including `end`.
 fn raise_in_row(
     row: &mut [f32],
     chunk: &mut [f32],
@@ -40,14 +38,9 @@ fn raise_in_row(
     start: usize,
     end: usize,
 )
-    requires { ⌜ (now gaussians ≡ gaussianTable)
-        × (SoundLobe grid lobe)
-        × (start ≤ end)
-        × (end ≤ start + length (now row))
-        × (end ≤ start + length (now chunk))
-        × (end ≤ start + length (now indexes))
-        × (end ≤ length (now table))
-        × (grid .«last_bin» ≤ 2 ^ 24) ⌝ }
+    requires { ⌜ (LobeReady (now gaussians) (now chunk) (now indexes) grid lobe)
+        × (Block grid (now table) start end)
+        × (length (now row) ≡ 64) ⌝ }
     ensures { λ _. ⌜ now (row .exit) ≡ mapRange
         (λ k held. lobeJoined grid (lent (now (table .entry))) one (start + k) held lobe) 0
         (end - start) (now (row .entry)) ⌝ }
@@ -69,8 +62,8 @@ fn raise_in_row(
     }
 }
 
-// A lobe joined to a row, unless it is there already or its bound is not above the least of the
-// row. Answers the least of the row, or less.
+// Joins a lobe to the row, unless it is there already or its bound is not above the row's least
+// number. Answers a number that is not above any of the row.
 fn raise_above(
     row: &mut [f32],
     chunk: &mut [f32],
@@ -85,22 +78,9 @@ fn raise_above(
     start: usize,
     end: usize,
 ) -> f32
-    requires { ⌜ (now gaussians ≡ gaussianTable)
-        × (SoundLobe grid lobe)
-        × (start ≤ end)
-        × (length (now row) ≡ 64)
-        × (length (now chunk) ≡ 64)
-        × (length (now indexes) ≡ 64)
-        × (end ≤ start + 64)
-        × (end ≤ length (now table))
-        × (grid .«last_bin» ≤ 2 ^ 24)
-        × (Opennesses (now row))
-        × (Least least 0 64 (now row))
-        × (Upto binary32 0 bound)
-        × (Bounded grid (now table) lobe bound start end)
-        × (there ≡ true →
-        now row ≡ mapRange (λ k held. lobeJoined grid (lent (now table)) one (start + k) held lobe)
-        0 (end - start) (now row)) ⌝ }
+    requires { ⌜ (LobeReady (now gaussians) (now chunk) (now indexes) grid lobe)
+        × (Block grid (now table) start end)
+        × (RowSoFar grid (now table) (now row) lobe there bound least start end) ⌝ }
     ensures { λ r. ⌜ (now (row .exit) ≡ mapRange
         (λ k held. lobeJoined grid (lent (now (table .entry))) one (start + k) held lobe) 0
         (end - start) (now (row .entry)))
@@ -126,8 +106,9 @@ fn raise_above(
     least_from(chunk, row, 0)
 }
 
-// The most that one of the lobes opens at each bin from `start` on and below `end`. The lobe at
-// `top` comes first.
+// The most that any of the lobes opens at each bin from `start` up to but not including `end`. The
+// lobe with the greatest bound, at `top`, comes first: the higher the row, the more lobes are
+// skipped.
 pub fn raise_partials(
     row: &mut [f32],
     chunk: &mut [f32],
@@ -142,19 +123,9 @@ pub fn raise_partials(
     start: usize,
     end: usize,
 )
-    requires { ⌜ (now gaussians ≡ gaussianTable)
-        × (SoundLobes grid lobes count)
-        × (count ≤ 24)
-        × (top < count)
-        × (count ≤ length (now bounds))
-        × (start ≤ end)
-        × (length (now row) ≡ 64)
-        × (length (now chunk) ≡ 64)
-        × (length (now indexes) ≡ 64)
-        × (end ≤ start + 64)
-        × (end ≤ length (now table))
-        × (grid .«last_bin» ≤ 2 ^ 24)
-        × (BoundedLobes grid (now table) lobes count (now bounds) start end) ⌝ }
+    requires { ⌜ (LobesReady (now gaussians) (now chunk) (now indexes) grid lobes count)
+        × (BlockBounded grid (now table) (now bounds) lobes count start end)
+        × (RowFrom (now row) top count) ⌝ }
     ensures { λ _. ⌜ HasMost grid (now (table .entry)) (take count lobes) start end
         (now (row .exit)) ⌝ }
 {

@@ -1,4 +1,5 @@
--- A block of bins under several lobes: the most that one of them opens, joined once, is what they hold joined one after the other; and a block where no bound under the gain is above what a bin
+-- A block of bins under several lobes: the most that one of them opens, joined once, is what they
+-- hold joined one after the other; and a block where no bound under the gain is above what a bin
 -- holds stays as it is. Assumes nothing.
 use mathlib.Core.Path.{_≡_, sym, ap, _∙_, subst}
 use mathlib.Core.List.{List}
@@ -19,13 +20,12 @@ use Rattle.lobes.specs.declared.Grid.{Grid}
 use Rattle.lobes.specs.declared.Lobe.{Lobe}
 use Rattle.lobes.specs.Distance.{lent}
 use Rattle.lobe_bounds.specs.Bound.{GreatestAt}
-use Rattle.lobes.proofs.NoteLevels.{zero-is}
 use Rattle.lobe_joins.specs.Joined.{joined, noLobe, lobesJoined}
-use Rattle.lobe_joins.proofs.Maxima.{le-join, BelowWhere, nothing-open}
+use Rattle.lobe_joins.proofs.Maxima.{zero-unit, nothing-open, zero-least, le-join, BelowWhere}
+use Rattle.lobe_joins.proofs.Highest.{keeps-higher, highest-in-unit, highest-least}
+use Rattle.lobe_joins.proofs.RowJoined.{reaches, opens, row-run}
 use Rattle.block_rows.specs.Most.{mostOpen, SoundLobes, Opennesses, BoundedLobes, HasMost, NotAbove}
-use Rattle.block_rows.proofs.Highest.{keeps-higher, highest-in-unit, highest-least}
-use Rattle.block_rows.proofs.RowJoined.{reaches, opens, row-run}
-use Rattle.block_walk.proofs.CompactIsPlain.{zero-unit, compact-is-plain}
+use Rattle.block_walk.proofs.CompactIsPlain.{compact-is-plain}
 use Rattle.block_rows.proofs.MostOpen.{lobe-in-unit, all-in-unit}
 
 -- a function that changes none of a range's entries
@@ -79,7 +79,7 @@ module _ (grid : Grid) (table : List Float) (lobes : List Lobe) (count : ℕ) (s
         let all = all-in-unit grid table lobes count sound few bin in
         let b = wide (held top (greatest .0) .0) in
         rw (row-run grid table bin zero (take count lobes) all)
-        (highest-least (reaches grid table bin) (opens grid table bin) zero (take count lobes) bound nothing-open all b (rw zero-is (b .low))
+        (highest-least (reaches grid table bin) (opens grid table bin) zero (take count lobes) bound nothing-open all b (zero-least b)
         (all-places (λ x. BelowWhere (reaches grid table bin) (opens grid table bin) x bound) noLobe (take count lobes)
         (λ i k t. let q = subst (λ n. i < n) (length-take-le count lobes few) k in subst (λ (x : Lobe). T (le (opens grid table bin x) bound)) (sym (getD-take count lobes i noLobe q)) (lobe-below bin l h i q))))
 

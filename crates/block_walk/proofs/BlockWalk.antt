@@ -1,21 +1,18 @@
--- A walk by blocks: over each block the bounds hold, the bins before it and in it are joined, and no lobe reaches a bin outside the walk. Assumes nothing.
+-- A walk by blocks: over each block the bounds hold, the bins before it and in it are joined, and
+-- no lobe reaches a bin outside the walk. Assumes nothing.
 use mathlib.Core.Path.{_≡_, refl, sym, ap, _∙_, subst}
-use mathlib.Core.Bool.{Bool, true, false, cond, _&&_}
 use mathlib.Core.Logic.{_⊎_, inl, inr}
-use mathlib.Core.List.{List, [], _∷_}
+use mathlib.Core.List.{List}
 use Prim.Native.Nat.{ℕ, _+_, _*_, _≤_, _<_, min, max}
 use native.Mathlib.Decide.{decLt}
 use native.Mathlib.Omega.{arith}
-use borrow.Author.Tests.{lt-leb}
-use lib.Dec.{T, leb, lit≤}
+use lib.Dec.{T, lit≤}
 use lib.ListN.{length, getD, take}
 use lib.Seq.{getD-take, length-take-le}
 use lib.Ieee.{Float, nan, binary32}
 use Rattle.lists.specs.Maps.{mapAt, mapRange, between, between-in, between-low, between-high, getD-mapRange, length-mapRange}
 use Rattle.lists.specs.Turned.{Turned, turned-none}
 use Rattle.lists.specs.Runs.{map-same, turned-part}
-use Rattle.lists.specs.Folds.{fold}
-use Rattle.lists.specs.Totals.{All}
 use Rattle.lists.specs.Entries.{all-places}
 use Rattle.float_laws.specs.Units.{real}
 use Rattle.float_laws.specs.Rise.{Upto, upto-mul}
@@ -29,10 +26,11 @@ use Rattle.lobes.specs.Lobe.{opening}
 use Rattle.lobe_bounds.specs.Bound.{boundOf}
 use Rattle.lobe_bounds.proofs.Nearest.{InBlock}
 use Rattle.lobe_bounds.proofs.Bounded.{bound-in-unit, opening-bounded}
-use Rattle.lobe_joins.specs.Joined.{joined, lobeJoined, noLobe, lobesJoined}
+use Rattle.lobe_joins.specs.Joined.{noLobe, lobesJoined}
+use Rattle.lobe_joins.proofs.Maxima.{keeps}
+use Rattle.lobe_joins.proofs.Reached.{Away, lobes-away}
 use Rattle.block_rows.specs.Most.{mostOpen, SoundLobes, Opennesses, BoundedLobes}
 use Rattle.block_walk.specs.Compact.{RealTable, Within, InColumns}
-use Rattle.block_rows.proofs.Highest.{keeps}
 use Rattle.block_walk.proofs.CompactIsPlain.{compact-is-plain}
 use Rattle.block_rows.proofs.MostOpen.{all-in-unit}
 use Rattle.block_walk.proofs.BlockRaised.{most-in-unit}
@@ -103,27 +101,9 @@ module _ (grid : Grid) (table : List Float) (lobes : List Lobe) (count : ℕ) (s
 
 -- ---- bins that no lobe reaches
 module _ (grid : Grid) (logs : Logs) (gain : Float) (lobes : List Lobe) (count : ℕ) (few : count ≤ length lobes) {first last : ℕ} (within : Within lobes count first last) where
-  abbrev Away : ℕ → Lobe → Type 0
-  Away bin lobe = bin < lobe .«first_bin» ⊎ lobe .«last_bin» < bin
-
-  lobe-away : (bin : ℕ) (held : Float) (lobe : Lobe) → Away bin lobe → lobeJoined grid logs gain bin held lobe ≡ held
-  unfolding lobeJoined
-  lobe-away bin held lobe (inl p) = simp (lt-leb (lobe .«first_bin») bin p)
-  lobe-away bin held lobe (inr p) = rw (lt-leb bin (lobe .«last_bin») p) (neither (leb (lobe .«first_bin») bin))
-    where
-      neither : (b : Bool) → cond (b && false) (joined gain held (opening grid logs lobe bin)) held ≡ held
-      neither true = refl
-      neither false = refl
-
-  run-away : (bin : ℕ) (held : Float) (xs : List Lobe) → All (Away bin) xs → fold (λ held lobe. lobeJoined grid logs gain bin held lobe) held xs ≡ held
-  unfolding fold
-  run-away bin held [] all = refl
-  run-away bin held (x ∷ xs) all = ap (λ (h : Float). fold (λ held lobe. lobeJoined grid logs gain bin held lobe) h xs) (lobe-away bin held x (all .0)) ∙ run-away bin held xs (all .1)
-
   outside : (bin : ℕ) (held : Float) → bin < first ⊎ last < bin → lobesJoined grid logs gain (take count lobes) bin held ≡ held
-  unfolding lobesJoined
   outside bin held o =
-      run-away bin held (take count lobes)
+      lobes-away grid logs gain bin held (take count lobes)
       (all-places (Away bin) noLobe (take count lobes) (λ i l. let h = subst (λ n. i < n) (length-take-le count lobes few) l in subst (Away bin) (sym (getD-take count lobes i noLobe h)) (away i h o)))
     where
       away : (i : ℕ) → i < count → bin < first ⊎ last < bin → Away bin (getD lobes i noLobe)

@@ -1,4 +1,5 @@
--- The compact way of raising a tone: its lobes together, block by block. What it writes is what the plain way writes, so nothing here says what a mask is; these are the steps between. Assumes nothing.
+-- The compact way of raising a tone: its lobes together, block by block. It writes what the plain
+-- way writes, so nothing here says what a mask is; these are the steps between. Assumes nothing.
 use mathlib.Core.Path.{_≡_}
 use mathlib.Core.List.{List}
 use Prim.Native.Nat.{ℕ, _+_, _*_, _≤_, _<_}

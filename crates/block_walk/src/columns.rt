@@ -1,26 +1,27 @@
-// What the walk by blocks takes from the lobes of a tone before it begins: the bins that they
-// reach, their columns, and whether it can pay at all.
+// What the walk by blocks needs before it begins: the bins that the lobes of a tone reach, the
+// columns for the bounds, and whether the walk can be faster at all.
 ghost use mathlib.Core.Path.{_≡_};
 ghost use Prim.Native.Nat.{ℕ, _+_, _*_, _≤_, _<_};
-ghost use lib.ListN.{length, getD};
+ghost use lib.ListN.{getD};
 ghost use Rattle.lists.specs.Maps.{mapRange};
 ghost use Rattle.blocks.specs.Ends.{blockOf};
 ghost use Rattle.lobe_joins.specs.Joined.{noLobe};
+ghost use Rattle.block_walk.specs.Premises.{ColumnRoom};
 use blocks::BLOCK;
 use counts::greater;
 use counts::lesser;
 use lobes::Grid;
 use lobes::Lobe;
 
-// The bins that lobes reach, from the first to the last, and how many the plain way works out for
-// them.
+// The first and the last bin that any of the lobes reaches, and how many bins the plain way
+// computes.
 pub struct Span {
     pub first_bin: usize,
     pub last_bin: usize,
     pub plain_cost: usize,
 }
 
-// How many bins there are from a first to a last one.
+// The number of bins from a first to a last one, both included.
 pub fn bins_between(first_bin: usize, last_bin: usize) -> usize
     requires { ⌜ «last_bin» ≤ 8192 ⌝ }
     ensures { λ r. ⌜ r ≤ 8193 ⌝ }
@@ -59,7 +60,8 @@ pub fn span_of(lobes: [Lobe; 24], count: usize, last_bin: usize) -> Span
     }
 }
 
-// The columns that the bounds are worked out from.
+// The lobes' numbers in columns, so that the bounds of all lobes over a block are computed in one
+// short loop.
 pub fn columns_of(
     centers: &mut [f32],
     strengths: &mut [f32],
@@ -68,9 +70,7 @@ pub fn columns_of(
     count: usize,
 )
     requires { ⌜ (count ≤ 24)
-        × (count ≤ length (now centers))
-        × (count ≤ length (now strengths))
-        × (count ≤ length (now peaks)) ⌝ }
+        × (ColumnRoom (now centers) (now strengths) (now peaks) count) ⌝ }
     ensures { λ _. ⌜ (now (centers .exit)
         ≡ mapRange (λ p held. getD lobes p noLobe .«center_log2») 0 count (now (centers .entry)))
         × (now (strengths .exit)
@@ -88,7 +88,7 @@ pub fn columns_of(
     }
 }
 
-// The block that a bin is in.
+// The block that a bin is in. Block 0 begins at bin 1, since no lobe reaches bin 0.
 pub fn block_of(bin: usize) -> usize
     ensures { λ r. ⌜ r ≡ blockOf bin ⌝ }
 {
@@ -98,9 +98,10 @@ pub fn block_of(bin: usize) -> usize
     (bin - 1) / BLOCK
 }
 
-// Whether the walk can pay on a grid: the lobes of so many partials overlap where twice the sum of
-// their lengths is above three times what they span. In units of the fundamental partial n reaches
-// from n times the lower ratio to n times the upper one.
+// Whether the walk can be faster than the plain way on a grid: it is where the lobes overlap
+// enough, that is where twice the sum of their lengths is above three times what they span. In
+// units of the fundamental, partial n reaches from n times the lower ratio to n times the upper
+// one.
 pub fn block_walk_pays(grid: Grid) -> bool {
     if grid.partials < 3 {
         return false;

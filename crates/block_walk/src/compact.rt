@@ -1,28 +1,27 @@
-// The partials of a tone raised together, block by block of 64 bins: each partial only where it can
-// count, and the gains applied once.
+// The partials of a tone raised together, in blocks of 64 bins. In log frequency every lobe of a
+// tone has the same width, so at a bin only the lobes near it can have the highest opening: one
+// walk over the bins covers all partials, and the others are skipped.
 //
-// Method. Over a block whose logarithms lie from `low` to `high` no lobe opens more than its bound
-// (`opening-bounded`): its bell at the nearer end. The lobe with the greatest bound is worked out
-// first, in a row; then each other one whose bound is above the least number of the row. A lobe
-// that is left out is nowhere above the row, so that joining it would change nothing; and since
-// what a maximum takes is above 0, equal values are equal bits, and the order in which lobes are
-// joined does not count (`once-before`). A gain that is not negative keeps the order, so the row,
-// which has the most that any lobe opens, is joined once to each side (`gain-last`). A block where
-// the greatest bound, under either gain, is not above the least bin that the side holds is left as
-// it is. So the compact way gives each bin what the plain way gives it, for every accepted table
-// (`compact-is-plain`).
+// Method. Over a block whose logarithms lie from `low` to `high` no lobe opens more than its bound,
+// the bell at the nearer end (`opening-bounded`). The lobe with the greatest bound is joined to a
+// row first, then each other lobe whose bound is above the least number of the row. A lobe that is
+// skipped is nowhere above the row, so joining it would change nothing. The order in which lobes
+// are joined does not matter either: where a maximum takes the second number, it is above 0, so
+// equal values have equal bits (`once-before`). A gain that is not negative keeps the order of
+// numbers, so the row, which has the most that any lobe opens, is joined once to each side
+// (`gain-last`). A block is skipped where the greatest bound, times each side's gain, is not above
+// the least that the side holds there. So each bin gets what the plain way gives it, to the bit,
+// for every accepted table (`compact-is-plain`).
 ghost use mathlib.Core.Path.{_≡_};
 ghost use mathlib.Core.Bool.{cond};
-ghost use Prim.Native.Nat.{_+_, _*_, _^_, _≤_, _<_};
-ghost use lib.ListN.{length, take};
-ghost use lib.Ieee.{binary32};
+ghost use Prim.Native.Nat.{_+_, _*_, _≤_};
+ghost use lib.ListN.{take};
 ghost use Rattle.lists.specs.Maps.{mapAt, mapRange};
-ghost use Rattle.float_laws.specs.Rise.{Upto};
-ghost use Rattle.gaussian.specs.Table.{gaussianTable};
 ghost use Rattle.lobes.specs.Distance.{lent};
 ghost use Rattle.lobe_joins.specs.Joined.{lobesJoined};
-ghost use Rattle.block_rows.specs.Most.{SoundLobes, Opennesses, BoundedLobes};
-ghost use Rattle.block_walk.specs.Compact.{Within, InColumns, Ready};
+ghost use Rattle.block_rows.specs.Premises.{LobesReady, SidesGained, BlockBounded};
+ghost use Rattle.block_walk.specs.Compact.{Ready};
+ghost use Rattle.block_walk.specs.Premises.{Spanned, SpannedColumns};
 use crate::columns::Span;
 use crate::columns::bins_between;
 use crate::columns::block_of;
@@ -40,7 +39,7 @@ use lobe_rows::Gains;
 use lobes::Grid;
 use lobes::Lobe;
 
-// A block of bins, from `start` on and below `end`, under the lobes' bounds there.
+// Raises the bins from `start` up to but not including `end`, given the lobes' bounds over them.
 fn raise_block(
     first: &mut [f32],
     second: &mut [f32],
@@ -56,22 +55,9 @@ fn raise_block(
     start: usize,
     end: usize,
 )
-    requires { ⌜ (now gaussians ≡ gaussianTable)
-        × (SoundLobes grid lobes count)
-        × (0 < count)
-        × (count ≤ 24)
-        × (count ≤ length (now bounds))
-        × (start ≤ end)
-        × (length (now chunk) ≡ 64)
-        × (length (now indexes) ≡ 64)
-        × (end ≤ start + 64)
-        × (end ≤ length (now table))
-        × (grid .«last_bin» ≤ 2 ^ 24)
-        × (Opennesses (now first))
-        × (Opennesses (now second))
-        × (Upto binary32 3 (gains .first))
-        × (Upto binary32 3 (gains .second))
-        × (BoundedLobes grid (now table) lobes count (now bounds) start end) ⌝ }
+    requires { ⌜ (LobesReady (now gaussians) (now chunk) (now indexes) grid lobes count)
+        × (SidesGained (now first) (now second) gains)
+        × (BlockBounded grid (now table) (now bounds) lobes count start end) ⌝ }
     ensures { λ _. ⌜ (now (first .exit) ≡ mapRange
         (lobesJoined grid (lent (now (table .entry))) (gains .first) (take count lobes)) start end
         (now (first .entry)))
@@ -102,7 +88,7 @@ fn raise_block(
     join(second, &row, gains.second, start, end);
 }
 
-// Block by block, the bins that the lobes reach.
+// Raises every block that has a bin of the span.
 fn raise_blocks(
     first: &mut [f32],
     second: &mut [f32],
@@ -121,23 +107,10 @@ fn raise_blocks(
     gains: Gains,
     span: Span,
 )
-    requires { ⌜ (now gaussians ≡ gaussianTable)
-        × (SoundLobes grid lobes count)
-        × (0 < count)
-        × (count ≤ 24)
-        × (length (now chunk) ≡ 64)
-        × (length (now indexes) ≡ 64)
-        × (Ready grid (now table) (now lows) (now highs))
-        × (count ≤ length (now centers))
-        × (count ≤ length (now strengths))
-        × (count ≤ length (now peaks))
-        × (InColumns lobes count (now centers) (now strengths) (now peaks))
-        × (Opennesses (now first))
-        × (Opennesses (now second))
-        × (Upto binary32 3 (gains .first))
-        × (Upto binary32 3 (gains .second))
-        × (span .«last_bin» ≤ grid .«last_bin»)
-        × (Within lobes count (span .«first_bin») (span .«last_bin»)) ⌝ }
+    requires { ⌜ (LobesReady (now gaussians) (now chunk) (now indexes) grid lobes count)
+        × (SidesGained (now first) (now second) gains)
+        × (SpannedColumns grid (now table) (now lows) (now highs) (now centers) (now strengths)
+        (now peaks) lobes count span) ⌝ }
     ensures { λ _. ⌜ (now (first .exit) ≡ mapAt
         (lobesJoined grid (lent (now (table .entry))) (gains .first) (take count lobes))
         (now (first .entry)))
@@ -180,8 +153,7 @@ fn raise_blocks(
     }
 }
 
-// What the walk costs, in bins of the plain way, by measurement; with many voices it passes over
-// most blocks.
+// What the walk costs, in bins of the plain way: measured. With many voices it skips most blocks.
 fn compact_cost(span: Span, crowded: bool) -> usize
     requires { ⌜ span .«last_bin» ≤ 8192 ⌝ }
     ensures { λ r. ⌜ r ≤ 6 * 8193 + 512 ⌝ }
@@ -193,7 +165,7 @@ fn compact_cost(span: Span, crowded: bool) -> usize
     6 * bins + 512
 }
 
-// The walk, with columns of its own.
+// Raises the lobes over their span.
 fn walk(
     first: &mut [f32],
     second: &mut [f32],
@@ -209,19 +181,9 @@ fn walk(
     gains: Gains,
     span: Span,
 )
-    requires { ⌜ (now gaussians ≡ gaussianTable)
-        × (SoundLobes grid lobes count)
-        × (0 < count)
-        × (count ≤ 24)
-        × (length (now chunk) ≡ 64)
-        × (length (now indexes) ≡ 64)
-        × (Ready grid (now table) (now lows) (now highs))
-        × (Opennesses (now first))
-        × (Opennesses (now second))
-        × (Upto binary32 3 (gains .first))
-        × (Upto binary32 3 (gains .second))
-        × (span .«last_bin» ≤ grid .«last_bin»)
-        × (Within lobes count (span .«first_bin») (span .«last_bin»)) ⌝ }
+    requires { ⌜ (LobesReady (now gaussians) (now chunk) (now indexes) grid lobes count)
+        × (SidesGained (now first) (now second) gains)
+        × (Spanned grid (now table) (now lows) (now highs) lobes count span) ⌝ }
     ensures { λ _. ⌜ (now (first .exit) ≡ mapAt
         (lobesJoined grid (lent (now (table .entry))) (gains .first) (take count lobes))
         (now (first .entry)))
@@ -253,8 +215,8 @@ fn walk(
     );
 }
 
-// Raises the partials of a tone together, where there are two and that costs less than raising
-// each, and answers whether it did.
+// Raises the partials of a tone together, if there are at least two and that costs less than
+// raising one after the other. Answers whether it did.
 pub fn rasterize_compact_harmonic_envelope(
     first: &mut [f32],
     second: &mut [f32],
@@ -270,16 +232,9 @@ pub fn rasterize_compact_harmonic_envelope(
     gains: Gains,
     crowded: bool,
 ) -> bool
-    requires { ⌜ (now gaussians ≡ gaussianTable)
-        × (SoundLobes grid lobes count)
-        × (count ≤ 24)
-        × (length (now chunk) ≡ 64)
-        × (length (now indexes) ≡ 64)
-        × (Ready grid (now table) (now lows) (now highs))
-        × (Opennesses (now first))
-        × (Opennesses (now second))
-        × (Upto binary32 3 (gains .first))
-        × (Upto binary32 3 (gains .second)) ⌝ }
+    requires { ⌜ (LobesReady (now gaussians) (now chunk) (now indexes) grid lobes count)
+        × (SidesGained (now first) (now second) gains)
+        × (Ready grid (now table) (now lows) (now highs)) ⌝ }
     ensures { λ r. ⌜ (now (first .exit) ≡ cond r (mapAt
         (lobesJoined grid (lent (now (table .entry))) (gains .first) (take count lobes))
         (now (first .entry))) (now (first .entry)))

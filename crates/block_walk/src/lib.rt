@@ -1,5 +1,5 @@
-// The compact way: the partials of a tone raised together, over blocks of 64 bins, each only where
-// it can count.
+// The compact way: the partials of a tone raised together, in blocks of 64 bins, each partial only
+// where it can be the highest.
 
 pub mod columns;
 pub mod compact;

@@ -1,1 +1,4 @@
 pub mod Maxima
+pub mod Highest
+pub mod RowJoined
+pub mod Reached

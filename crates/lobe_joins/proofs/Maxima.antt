@@ -1,5 +1,7 @@
--- Joining by maximum, as a law of its own: a step takes what a bin holds and one thing more, and gives the least number that is above both. `Below x z` says that what x opens is at most z.
--- A run of such steps over a list is such a step again, and so its result does not depend on the order. Assumes nothing.
+-- Joining by maximum, as a law of its own: a step takes what a bin holds and one thing more, and
+-- gives the least number that is above both. `Below x z` says that what x opens is at most z. A run
+-- of such steps over a list is such a step again, and so its result does not depend on the order.
+-- Assumes nothing.
 use mathlib.Core.Bool.{Bool, true, false, cond}
 use mathlib.Core.List.{List, [], _∷_}
 use lib.Dec.{T, lit≤}
@@ -8,24 +10,46 @@ use Rattle.lists.specs.Folds.{fold}
 use Rattle.lists.specs.Totals.{All}
 use Rattle.float_laws.specs.Units.{mag, number, real-number}
 use Rattle.float_laws.specs.Order.{le-trans-f, le-refl-f, larger-left, larger-right, larger-least}
-use Rattle.float_laws.specs.Rise.{Upto, upto-maximum}
+use Rattle.float_laws.specs.Rise.{Upto, upto-weaken, upto-maximum}
 use Rattle.float32.specs.Order.{maximum}
 use Rattle.float32.specs.Remainder.{zero}
 use Rattle.float32.proofs.OrderAgrees.{maximum-agrees, maximum-larger}
+use Rattle.lobes.proofs.NoteLevels.{zero-is}
 
 -- an openness: not negative, and at most 8
 abbrev pub Openness : Float → Type 0
 Openness o = Upto binary32 3 o
 
-pub nothing-open : Openness zero
+-- nothing is open: 0 is in 0..1, and an openness
+pub zero-unit : Upto binary32 0 zero
 unfolding ofBits fits le mag
-nothing-open = record { is-real = tt; low = tt; high = lit≤ tt }
+zero-unit = record { is-real = tt; low = tt; high = lit≤ tt }
 
-is-number : {o : Float} → Openness o → T (number binary32 o)
+pub nothing-open : Openness zero
+nothing-open = upto-weaken binary32 (lit≤ tt) zero-unit
+
+pub is-number : {o : Float} → Openness o → T (number binary32 o)
 is-number {o} u = real-number binary32 o (u .is-real)
+
+pub zero-least : {z : Float} → Openness z → T (le zero z)
+zero-least w = rw zero-is (w .low)
 
 pub le-join : {x y z : Float} → Openness x → Openness y → Openness z → T (le x y) → T (le y z) → T (le x z)
 le-join {x} {y} {z} u v w h k = le-trans-f binary32 x y z (is-number u) (is-number v) (is-number w) h k
+
+-- ---- one maximum: an openness, above both, and at most whatever is above both
+module _ {s t : Float} (u : Openness s) (v : Openness t) where
+  pub keeps : Openness (maximum s t)
+  keeps = rw maximum-agrees (upto-maximum binary32 3 s t (lit≤ tt) u v)
+
+  pub first-under : T (le s (maximum s t))
+  first-under = rw (maximum-larger binary32 s t (is-number u)) (larger-left binary32 s t (is-number u) (is-number v))
+
+  pub second-under : T (le t (maximum s t))
+  second-under = rw (maximum-larger binary32 s t (is-number u)) (larger-right binary32 s t (is-number u) (is-number v))
+
+  pub maximum-least : {z : Float} → Openness z → T (le s z) → T (le t z) → T (le (maximum s t) z)
+  maximum-least {z} w h k = rw (maximum-larger binary32 s t (is-number u)) (larger-least binary32 s t (is-number u) (is-number v) z (is-number w) h k)
 
 -- `Fit x`: what x opens is an openness
 pub record Join {A : Type 0} (Fit : A → Type 0) (Below : A → Float → Type 0) (step : Float → A → Float) : Type 0 where
@@ -46,44 +70,31 @@ module _ {A : Type 0} (there : A → Bool) (opens : A → Float) where
   abbrev pub joinWhere : Float → A → Float
   joinWhere s x = cond (there x) (maximum s (opens x)) s
 
-  maximum-keeps : (s t : Float) → Openness s → Openness t → Openness (maximum s t)
-  maximum-keeps s t u v = rw maximum-agrees (upto-maximum binary32 3 s t (lit≤ tt) u v)
-
-  module _ (s t : Float) (u : Openness s) (v : Openness t) where
-    left : T (le s (maximum s t))
-    left = rw (maximum-larger binary32 s t (is-number u)) (larger-left binary32 s t (is-number u) (is-number v))
-
-    right : T (le t (maximum s t))
-    right = rw (maximum-larger binary32 s t (is-number u)) (larger-right binary32 s t (is-number u) (is-number v))
-
-    under : (z : Float) → Openness z → T (le s z) → T (le t z) → T (le (maximum s t) z)
-    under z w h k = rw (maximum-larger binary32 s t (is-number u)) (larger-least binary32 s t (is-number u) (is-number v) z (is-number w) h k)
-
   pub where-join : Join FitWhere BelowWhere joinWhere
   where-join =
       record {
-        keeps = λ s x f u. keeps (there x) s (opens x) f u;
-        grows = λ s x f u. grows (there x) s (opens x) f u;
-        reaches = λ s x f u. reaches (there x) s (opens x) f u;
-        least = λ s x z f u w h b. least (there x) s (opens x) z f u w h b;
+        keeps = λ s x f u. kept (there x) f u;
+        grows = λ s x f u. grown (there x) f u;
+        reaches = λ s x f u. reached (there x) f u;
+        least = λ s x z f u w h b. lower (there x) f u w h b;
         higher = λ x z z' f w w' h b t. le-join (f t) w w' (b t) h;
       }
     where
-      keeps : (c : Bool) (s t : Float) → (T c → Openness t) → Openness s → Openness (cond c (maximum s t) s)
-      keeps true s t f u = maximum-keeps s t u (f tt)
-      keeps false s t f u = u
+      kept : (c : Bool) {s t : Float} → (T c → Openness t) → Openness s → Openness (cond c (maximum s t) s)
+      kept true f u = keeps u (f tt)
+      kept false f u = u
 
-      grows : (c : Bool) (s t : Float) → (T c → Openness t) → Openness s → T (le s (cond c (maximum s t) s))
-      grows true s t f u = left s t u (f tt)
-      grows false s t f u = le-refl-f binary32 s (is-number u)
+      grown : (c : Bool) {s t : Float} → (T c → Openness t) → Openness s → T (le s (cond c (maximum s t) s))
+      grown true f u = first-under u (f tt)
+      grown false {s} f u = le-refl-f binary32 s (is-number u)
 
-      reaches : (c : Bool) (s t : Float) → (T c → Openness t) → Openness s → T c → T (le t (cond c (maximum s t) s))
-      reaches true s t f u h = right s t u (f tt)
-      reaches false s t f u h = absurd h
+      reached : (c : Bool) {s t : Float} → (T c → Openness t) → Openness s → T c → T (le t (cond c (maximum s t) s))
+      reached true f u h = second-under u (f tt)
+      reached false f u h = absurd h
 
-      least : (c : Bool) (s t z : Float) → (T c → Openness t) → Openness s → Openness z → T (le s z) → (T c → T (le t z)) → T (le (cond c (maximum s t) s) z)
-      least true s t z f u w h b = under s t u (f tt) z w h (b tt)
-      least false s t z f u w h b = h
+      lower : (c : Bool) {s t z : Float} → (T c → Openness t) → Openness s → Openness z → T (le s z) → (T c → T (le t z)) → T (le (cond c (maximum s t) s) z)
+      lower true f u w h b = maximum-least u (f tt) w h (b tt)
+      lower false f u w h b = h
 
 -- ---- a run over a list
 module _ {A : Type 0} {Fit : A → Type 0} {Below : A → Float → Type 0} {step : Float → A → Float} (j : Join Fit Below step) where

@@ -1,4 +1,5 @@
--- Lobes joined to what a bin holds: "Lobes join by maximum." Everything here is a function of the bin. Assumes nothing.
+-- Lobes joined to what a bin holds: "Lobes join by maximum." Everything here is a function of the
+-- bin. Assumes nothing.
 use mathlib.Core.Bool.{cond, _&&_}
 use mathlib.Core.List.{List}
 use Prim.Native.Nat.{ℕ}
@@ -20,7 +21,7 @@ unfoldable pub lobeJoined : Grid → Logs → Float → ℕ → Float → Lobe �
 lobeJoined grid logs gain bin held lobe =
     cond (leb (lobe .«first_bin») bin && leb bin (lobe .«last_bin»)) (joined gain held (opening grid logs lobe bin)) held
 
--- what stands past the end of a list of lobes
+-- what is read past the end of a list of lobes
 abbrev pub noLobe : Lobe
 noLobe = record { center = nan; «center_log2» = nan; strength = nan; «first_bin» = 0; «last_bin» = 0; «peak_squared» = nan }
 

@@ -7,15 +7,15 @@ ghost use Rattle.lists.specs.Maps.{mapRange};
 ghost use Rattle.lobe_joins.specs.Joined.{joined};
 use counts::lesser;
 
-// What a bin holds, and what a lobe opens there under a voice's expression.
+// What a bin holds after a lobe is joined to it; `gain` is the voice's gain on this side.
 fn joined(held: f32, opening: f32, gain: f32) -> f32
     ensures { λ r. ⌜ r ≡ joined gain held opening ⌝ }
 {
     float32::order::max(held, opening * gain)
 }
 
-// The openings of a chunk's bins joined to what the bins hold, as far as there are bins: so the
-// same call serves a side that is not there.
+// Joins a chunk of openings to the bins from `start` up to but not including `end`. Bins past the
+// end of `out` are skipped, so the unused second side of a mono mask needs no case of its own.
 pub fn join(out: &mut [f32], openings: &[f32], gain: f32, start: usize, end: usize)
     requires { ⌜ end ≤ start + length (now openings) ⌝ }
     ensures { λ _. ⌜ now (out .exit) ≡ mapRange

@@ -1,4 +1,5 @@
--- Lobes joined one after the other to a row of bins: what is left to join from one on. Assumes nothing.
+-- Lobes joined one after the other to a row of bins: what is left to join from one on. Assumes
+-- nothing.
 use mathlib.Core.Path.{_≡_, refl, sym, ap, _∙_}
 use mathlib.Core.List.{List}
 use Prim.Native.Nat.{ℕ, _+_, _≤_, _<_}

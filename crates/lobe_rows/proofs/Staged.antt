@@ -1,4 +1,5 @@
--- The stages of a row of bins, one after the other, give each bin its bell, and then the lobe's opening. Assumes nothing.
+-- The stages of a row of bins, one after the other, give each bin its bell, and then the lobe's
+-- opening. Assumes nothing.
 use mathlib.Core.Path.{_≡_, sym, ap, _∙_, subst}
 use mathlib.Core.List.{List}
 use Prim.Native.Nat.{ℕ, _+_, _≤_, _<_}
@@ -27,7 +28,8 @@ use Rattle.lobe_rows.specs.Stages.{relativeTo, placeOf, openedBy, openin
 pub in-table : (peak distance : Float) → Place (placeOf peak distance)
 in-table peak distance = place-of (relativeTo peak distance) (from-zero _ (sub-fits binary32 (square distance) peak))
 
--- ---- the bells of the first `count` entries: their places, the entries and parts of the steps there, and the lines
+-- ---- the bells of the first `count` entries: their places, the entries and parts of the steps
+-- there, and the lines
 module _ (place : ℕ → Float) (count : ℕ) (before : List Float) (room : count ≤ length before) where
   abbrev placed : List Float
   placed = mapRange (λ k x. place k) 0 count before

@@ -1,20 +1,21 @@
--- A lobe walked chunk by chunk: a chunk that holds the openings of its bins joins them, and a walk from the lobe's first bin to its last joins the lobe. Assumes nothing.
-use mathlib.Core.Path.{_≡_, ap, _∙_}
-use mathlib.Core.Logic.{_⊎_}
+-- A lobe walked chunk by chunk: a chunk that holds the openings of its bins joins them, and a walk
+-- from the lobe's first bin to its last joins the lobe. Assumes nothing.
+use mathlib.Core.Path.{_≡_, sym, ap, _∙_}
+use mathlib.Core.Logic.{_⊎_, inl, inr}
 use mathlib.Core.List.{List}
 use Prim.Native.Nat.{ℕ, _+_, _-_, _≤_, _<_}
 use native.Mathlib.Decide.{decLt}
 use native.Mathlib.Omega.{arith}
-use borrow.Author.Tests.{le-leb, lt-leb, lt-ltb, le-ltb}
 use lib.ListN.{length, getD}
 use lib.Ieee.{Float, nan}
-use Rattle.lists.specs.Maps.{mapAt, mapRange, between, between-in, getD-mapRange}
+use Rattle.lists.specs.Maps.{mapAt, mapRange, between, between-in, between-low, between-high, getD-mapRange}
 use Rattle.lists.specs.Turned.{Turned, turned-to}
 use Rattle.lobes.specs.declared.Grid.{Grid}
 use Rattle.lobes.specs.declared.Lobe.{Lobe}
 use Rattle.lobes.specs.Distance.{Logs}
 use Rattle.lobes.specs.Lobe.{opening}
 use Rattle.lobe_joins.specs.Joined.{joined, lobeJoined}
+use Rattle.lobe_joins.proofs.Reached.{lobe-there, lobe-away}
 use Rattle.lists.specs.Runs.{map-same, turned-part}
 use Rattle.lists.specs.Stages.{stage-same}
 
@@ -44,7 +45,6 @@ module _ (grid : Grid) (logs : Logs) (lobe : Lobe) (gain : Float) where
   -- the whole walk
   pub lobe-walked : {xs₀ xs : List Float} {i : ℕ} → Turned reached (lobe .«first_bin») xs₀ xs i → (i ≤ lobe .«last_bin» + 1) ⊎ (i ≡ lobe .«first_bin») → lobe .«last_bin» + 1 ≤ i
       → xs ≡ mapAt (λ bin held. lobeJoined grid logs gain bin held lobe) xs₀
-  unfolding lobeJoined
   lobe-walked {xs₀} {xs} {i} t w h =
       turned-to hi t w h ∙ map-same (between lo hi reached) (λ bin held. lobeJoined grid logs gain bin held lobe) xs₀ (λ k x p. at k x (decLt k lo) (decLt k hi))
     where
@@ -55,6 +55,6 @@ module _ (grid : Grid) (logs : Logs) (lobe : Lobe) (gain : Float) where
       hi = lobe .«last_bin» + 1
 
       at : (k : ℕ) (x : Float) → Dec (k < lo) → Dec (k < hi) → between lo hi reached k x ≡ lobeJoined grid logs gain k x lobe
-      at k x (yes p) w = simp (lt-leb lo k p)
-      at k x (no p) (yes q) = simp (le-leb lo k (omega arith), lt-ltb k hi q, le-leb k (lobe .«last_bin») (omega arith))
-      at k x (no p) (no q) = simp (le-leb lo k (omega arith), le-ltb k hi (omega arith), lt-leb k (lobe .«last_bin») (omega arith))
+      at k x (yes p) w = between-low reached lo hi k x p ∙ sym (lobe-away grid logs gain k x lobe (inl p))
+      at k x (no p) (yes q) = between-in reached lo hi k x (omega arith) q ∙ sym (lobe-there grid logs gain k x lobe (omega arith) (omega arith))
+      at k x (no p) (no q) = between-high reached lo hi k x (omega arith) ∙ sym (lobe-away grid logs gain k x lobe (inr (omega arith)))

@@ -1,4 +1,4 @@
--- A lobe's opening at a bin, by the steps in which a row of bins is worked out. Assumes nothing.
+-- A lobe's opening at a bin, by the steps in which a row of bins is computed. Assumes nothing.
 use mathlib.Core.Path.{_≡_, refl}
 use mathlib.Core.List.{List}
 use Prim.Native.Nat.{ℕ}
@@ -15,7 +15,8 @@ use Rattle.lobes.specs.declared.Lobe.{Lobe}
 use Rattle.lobes.specs.Distance.{lent, none, MINUS-HALF, inWidths, distance, bell}
 use Rattle.lobes.specs.Lobe.{relativeSquare, opening}
 
--- the square of a distance in widths, less that of the peak bin
+-- the square of a distance in widths, less that of the peak bin, so that the bell is 1 there and a
+-- note does not get weaker by its place between two bins
 abbrev pub relativeTo : Float → Float → Float
 relativeTo peak distance = maximum (sub binary32 (square distance) peak) zero
 

@@ -1,8 +1,9 @@
-// What a lobe opens at a few bins in a row, by the bins' own frequencies, where no table was lent.
+// What a lobe opens at consecutive bins, computed from the bins' frequencies, for the calls without
+// a table.
 //
-// Method. As by a table, one short loop after the other over the same few numbers: the bins'
-// frequencies over the lobe's centre, their octaves, the exponents of the bells there, the bells,
-// and what the lobe opens under them.
+// Method. As with a table, several short loops over the same chunk: the ratios of the bins'
+// frequencies to the lobe's centre, their octaves, the exponents of the bells, the bells, and the
+// openings.
 ghost use mathlib.Core.Path.{_≡_};
 ghost use Prim.Native.Nat.{_+_, _^_, _≤_};
 ghost use lib.ListN.{length};

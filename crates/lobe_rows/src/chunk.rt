@@ -1,23 +1,20 @@
-// What a lobe opens at a few bins in a row, as many as there is room for in a chunk that the caller
-// lends.
+// What a lobe opens at consecutive bins, as many as the lent chunk has room for.
 //
-// Method. One short loop after the other over the same few numbers: the places of the bins in the
-// Gaussian table, the steps that these lie in, the bells there, and what the lobe opens under them.
-// A loop without a table lookup is done for several bins at once, and both sides of a stereo mask
-// are joined from one row.
+// Method. Several short loops over the same chunk: the bins' positions in the Gaussian table, the
+// table entry and the fraction of each, the bells by linear interpolation, and the openings. The
+// loops without a table lookup run on several bins at once, and the openings are computed once for
+// both sides of a stereo mask.
 ghost use mathlib.Core.Path.{_≡_};
-ghost use mathlib.Core.Bool.{true};
-ghost use Prim.Native.Nat.{ℕ, _+_, _^_, _≤_, _<_};
+ghost use Prim.Native.Nat.{ℕ, _+_, _≤_, _<_};
 ghost use lib.ListN.{length, getD};
 ghost use lib.Ieee.{nan, binary32, sub};
 ghost use Rattle.lists.specs.Maps.{mapRange};
-ghost use Rattle.power.specs.Table.{powerTable};
-ghost use Rattle.power.specs.Log.{L2};
 ghost use Rattle.gaussian.specs.Table.{gaussianTable};
 ghost use Rattle.gaussian.specs.Bell.{Place, indexOf, partOf, line, between};
 ghost use Rattle.lobes.specs.Distance.{lent, logsOf, inWidths};
 ghost use Rattle.lobes.specs.Lobe.{opening};
 ghost use Rattle.lobe_rows.specs.Stages.{relativeTo, placeOf, openedBy};
+ghost use Rattle.lobe_rows.specs.Premises.{Tables, Room, ByTable, BinsKnown};
 use crate::by_frequency::openings_by_frequency;
 use gaussian::GaussianTable;
 use gaussian::step_of;
@@ -26,26 +23,30 @@ use lobes::Lobe;
 use lobes::distances::distance_by_table;
 use power::table::PowerTable;
 
-// The square of a distance in widths, less that of the peak bin.
+// The square of a distance in widths, relative to that of the peak bin. The centre of a lobe almost
+// always falls between two bins. Measured from the bin closest to it, where the bell is then 1, an
+// otherwise identical note does not get weaker by its place between the bins.
 pub(crate) fn relative_square(peak_squared: f32, distance: f32) -> f32
     ensures { λ r. ⌜ r ≡ relativeTo «peak_squared» distance ⌝ }
 {
     float32::order::max(float32::powers::powi2(distance) - peak_squared, 0.0)
 }
 
+// The position of a distance in the Gaussian table.
 fn place_of(peak_squared: f32, distance: f32) -> f32
     ensures { λ r. ⌜ r ≡ placeOf «peak_squared» distance ⌝ }
 {
     gaussian::position(relative_square(peak_squared, distance))
 }
 
+// What a lobe of a strength opens where its bell has a height.
 fn opened_by(strength: f32, bell: f32) -> f32
     ensures { λ r. ⌜ r ≡ openedBy strength bell ⌝ }
 {
     float32::order::clamp(strength * bell, 0.0, 1.0)
 }
 
-// The places of the bins from `start` on in the Gaussian table.
+// The positions in the Gaussian table of the bins from `start` on.
 fn places(
     chunk: &mut [f32],
     table: &[f32],
@@ -70,11 +71,10 @@ fn places(
     }
 }
 
-// Each place as the entry on its left and the part of the step past it, which takes the place's
-// room.
+// Splits each position into the index of the table entry below it and the fraction past that entry,
+// which replaces the position in the chunk.
 fn steps(chunk: &mut [f32], indexes: &mut [u32], count: usize)
-    requires { ⌜ (count ≤ length (now chunk))
-        × (count ≤ length (now indexes))
+    requires { ⌜ (Room (now chunk) (now indexes) count)
         × ((k : ℕ) → k < count → Place (getD (now chunk) k nan)) ⌝ }
     ensures { λ _. ⌜ (now (chunk .exit)
         ≡ mapRange (λ k place. partOf place) 0 count (now (chunk .entry)))
@@ -90,11 +90,10 @@ fn steps(chunk: &mut [f32], indexes: &mut [u32], count: usize)
     }
 }
 
-// The bell of each step.
+// The bells: linear interpolation between two entries of the table.
 fn lines(chunk: &mut [f32], indexes: &[u32], gaussians: &GaussianTable, count: usize)
     requires { ⌜ (now gaussians ≡ gaussianTable)
-        × (count ≤ length (now chunk))
-        × (count ≤ length (now indexes))
+        × (Room (now chunk) (now indexes) count)
         × ((k : ℕ) → k < count → getD (now indexes) k 0 ≤ 1024) ⌝ }
     ensures { λ _. ⌜ now (chunk .exit) ≡ mapRange
         (λ k part. line (getD (now (indexes .entry)) k 0) part) 0 count (now (chunk .entry)) ⌝ }
@@ -106,7 +105,7 @@ fn lines(chunk: &mut [f32], indexes: &[u32], gaussians: &GaussianTable, count: u
     }
 }
 
-// The bells of the bins from `start` on, under a lobe of full strength.
+// The bells at the bins from `start` on: what a lobe of strength 1 opens there.
 pub fn bells(
     chunk: &mut [f32],
     indexes: &mut [u32],
@@ -119,8 +118,7 @@ pub fn bells(
     peak_squared: f32,
 )
     requires { ⌜ (now gaussians ≡ gaussianTable)
-        × (count ≤ length (now chunk))
-        × (count ≤ length (now indexes))
+        × (Room (now chunk) (now indexes) count)
         × (start + count ≤ length (now table)) ⌝ }
     ensures { λ _. ⌜ now (chunk .exit) ≡ mapRange (λ k held. between (placeOf «peak_squared»
         (inWidths width (sub binary32 (getD (now (table .entry)) (start + k) nan) «center_log2»))))
@@ -131,7 +129,7 @@ pub fn bells(
     lines(chunk, indexes, gaussians, count);
 }
 
-// What a lobe of a strength opens under each bell.
+// What a lobe of a strength opens, in place of each bell.
 pub(crate) fn openings_of_bells(chunk: &mut [f32], count: usize, strength: f32)
     requires { ⌜ count ≤ length (now chunk) ⌝ }
     ensures { λ _. ⌜ now (chunk .exit)
@@ -156,10 +154,8 @@ pub fn openings_by_table(
     count: usize,
 )
     requires { ⌜ (now gaussians ≡ gaussianTable)
-        × (lobe .«center_log2» ≡ L2 (lobe .center))
-        × (count ≤ length (now chunk))
-        × (count ≤ length (now indexes))
-        × (start + count ≤ length (now table)) ⌝ }
+        × (Room (now chunk) (now indexes) count)
+        × (ByTable (now table) lobe start count) ⌝ }
     ensures { λ _. ⌜ now (chunk .exit) ≡ mapRange
         (λ k held. opening grid (lent (now (table .entry))) lobe (start + k)) 0 count
         (now (chunk .entry)) ⌝ }
@@ -178,7 +174,7 @@ pub fn openings_by_table(
     openings_of_bells(chunk, count, lobe.strength);
 }
 
-// By the table where one was lent.
+// What the lobe opens at the bins from `start` on, by the table if one is lent.
 pub fn openings(
     chunk: &mut [f32],
     indexes: &mut [u32],
@@ -191,13 +187,9 @@ pub fn openings(
     start: usize,
     count: usize,
 )
-    requires { ⌜ (now powers ≡ powerTable)
-        × (now gaussians ≡ gaussianTable)
-        × (lobe .«center_log2» ≡ L2 (lobe .center))
-        × (count ≤ length (now chunk))
-        × (count ≤ length (now indexes))
-        × (start + count ≤ 2 ^ 24 + 1)
-        × (tabled ≡ true → start + count ≤ length (now table)) ⌝ }
+    requires { ⌜ (Tables (now powers) (now gaussians))
+        × (Room (now chunk) (now indexes) count)
+        × (BinsKnown tabled (now table) lobe start count) ⌝ }
     ensures { λ _. ⌜ now (chunk .exit) ≡ mapRange
         (λ k held. opening grid (logsOf tabled (now (table .entry))) lobe (start + k)) 0 count
         (now (chunk .entry)) ⌝ }

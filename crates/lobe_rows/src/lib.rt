@@ -1,5 +1,5 @@
-// Lobes over rows of at most 64 bins: what a lobe opens at each bin of a row, and the plain way of
-// raising lobes, one after the other.
+// Lobes over at most 64 consecutive bins at a time: what a lobe opens at each of them, and the
+// plain way of raising lobes, one after the other.
 
 mod by_frequency;
 pub mod chunk;

@@ -1,16 +1,11 @@
-// The plain way: lobes one after the other. What a lobe opens is worked out once, and joined to
-// each side by that side's gain. Of a mono mask the second side has bin 0 alone, which no lobe
-// reaches.
+// The plain way: lobes one after the other. What a lobe opens is computed once, and joined to each
+// side with that side's gain. The second side of a mono mask has bin 0 only, which no lobe reaches.
 ghost use mathlib.Core.Path.{_≡_};
-ghost use mathlib.Core.Bool.{true};
-ghost use Prim.Native.Nat.{ℕ, _^_, _≤_, _<_};
-ghost use lib.ListN.{length, getD, take};
+ghost use lib.ListN.{take};
 ghost use Rattle.lists.specs.Maps.{mapAt};
-ghost use Rattle.power.specs.Table.{powerTable};
-ghost use Rattle.power.specs.Log.{L2};
-ghost use Rattle.gaussian.specs.Table.{gaussianTable};
 ghost use Rattle.lobes.specs.Distance.{logsOf};
-ghost use Rattle.lobe_joins.specs.Joined.{noLobe, lobeJoined, lobesJoined};
+ghost use Rattle.lobe_joins.specs.Joined.{lobeJoined, lobesJoined};
+ghost use Rattle.lobe_rows.specs.Premises.{Tables, Scratch, LobeKnown, LobesKnown};
 use crate::Gains;
 use crate::chunk::openings;
 use counts::lesser;
@@ -20,7 +15,7 @@ use lobes::Grid;
 use lobes::Lobe;
 use power::table::PowerTable;
 
-// A lobe's bins, as many at a time as the chunk has room for.
+// Joins a lobe to both sides, as many bins at a time as the chunk has room for.
 fn raise_lobe(
     first: &mut [f32],
     second: &mut [f32],
@@ -34,13 +29,9 @@ fn raise_lobe(
     lobe: Lobe,
     gains: Gains,
 )
-    requires { ⌜ (now powers ≡ powerTable)
-        × (now gaussians ≡ gaussianTable)
-        × (0 < length (now chunk))
-        × (length (now chunk) ≤ length (now indexes))
-        × (lobe .«center_log2» ≡ L2 (lobe .center))
-        × (lobe .«last_bin» ≤ 2 ^ 24)
-        × (tabled ≡ true → lobe .«last_bin» < length (now table)) ⌝ }
+    requires { ⌜ (Tables (now powers) (now gaussians))
+        × (Scratch (now chunk) (now indexes))
+        × (LobeKnown tabled (now table) lobe) ⌝ }
     ensures { λ _. ⌜ (now (first .exit) ≡ mapAt (λ bin held. lobeJoined grid
         (logsOf tabled (now (table .entry))) (gains .first) bin held lobe) (now (first .entry)))
         × (now (second .exit) ≡ mapAt (λ bin held. lobeJoined grid
@@ -70,7 +61,7 @@ fn raise_lobe(
     }
 }
 
-// The first `count` lobes.
+// Joins the first `count` lobes to both sides.
 pub fn raise_lobes(
     first: &mut [f32],
     second: &mut [f32],
@@ -85,16 +76,9 @@ pub fn raise_lobes(
     count: usize,
     gains: Gains,
 )
-    requires { ⌜ (now powers ≡ powerTable)
-        × (now gaussians ≡ gaussianTable)
-        × (0 < length (now chunk))
-        × (length (now chunk) ≤ length (now indexes))
-        × (count ≤ 24)
-        × (grid .«last_bin» ≤ 2 ^ 24)
-        × (tabled ≡ true → grid .«last_bin» < length (now table))
-        × ((p : ℕ) → p < count →
-        (getD lobes p noLobe .«center_log2» ≡ L2 (getD lobes p noLobe .center)) ×
-        (getD lobes p noLobe .«last_bin» ≤ grid .«last_bin»)) ⌝ }
+    requires { ⌜ (Tables (now powers) (now gaussians))
+        × (Scratch (now chunk) (now indexes))
+        × (LobesKnown grid tabled (now table) lobes count) ⌝ }
     ensures { λ _. ⌜ (now (first .exit) ≡ mapAt
         (lobesJoined grid (logsOf tabled (now (table .entry))) (gains .first) (take count lobes))
         (now (first .entry)))

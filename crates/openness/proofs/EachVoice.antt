@@ -1,4 +1,5 @@
--- The voices joined one after the other: a voice that is skipped leaves the bins as they are, and what is left to join from a voice on. Assumes nothing.
+-- The voices joined one after the other: a voice that is skipped leaves the bins as they are, and
+-- what is left to join from a voice on. Assumes nothing.
 use mathlib.Core.Path.{_≡_, sym, ap, _∙_}
 use mathlib.Core.Bool.{true, false}
 use mathlib.Core.List.{List}

@@ -1,4 +1,5 @@
--- The voices joined onto an openness of 0 in every bin are the openness of every bin. Assumes nothing.
+-- The voices joined onto an openness of 0 in every bin are the openness of every bin. Assumes
+-- nothing.
 use mathlib.Core.Path.{_≡_, ap, _∙_}
 use mathlib.Core.List.{List}
 use Prim.Native.Nat.{ℕ}

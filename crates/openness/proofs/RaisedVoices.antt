@@ -1,5 +1,6 @@
--- The openness of a bin under a list of voices: it is an openness, every lobe is at most it, and it is at most every openness that no lobe is above. So it does not depend on the order of
--- the voices, nor falls where each voice has one raised above it. Assumes nothing.
+-- The openness of a bin under a list of voices: it is an openness, every lobe is at most it, and it
+-- is at most every openness that no lobe is above. So it does not depend on the order of the
+-- voices, nor falls where each voice has one raised above it. Assumes nothing.
 use mathlib.Core.Path.{_≡_, refl, sym, subst, subst₂}
 use mathlib.Core.Bool.{Bool, true, false, not, cond, _&&_}
 use mathlib.Core.List.{List}
@@ -24,10 +25,9 @@ use Rattle.lobes.specs.Pan.{Side, channelGain}
 use Rattle.lobes.specs.Tone.{toneOf}
 use Rattle.lobes.specs.Distance.{lent}
 use Rattle.lobes.specs.Lobe.{lobeOf, opening}
-use Rattle.lobes.proofs.NoteLevels.{zero-is}
 use Rattle.lobes.proofs.Raised.{Raised, same-bins, opened-rises}
 use Rattle.lobe_joins.specs.Joined.{lobeJoined}
-use Rattle.lobe_joins.proofs.Maxima.{Openness, nothing-open, Join, le-join, FitWhere, BelowWhere, where-join, AllBelow, fold-join}
+use Rattle.lobe_joins.proofs.Maxima.{Openness, nothing-open, zero-least, Join, le-join, FitWhere, BelowWhere, where-join, AllBelow, fold-join}
 use Rattle.tone_lobes.specs.ToneLobes.{partialsOf}
 use Rattle.openness.specs.Openness.{SKIPPED-LEVEL, toneJoined, voiceJoined, openness}
 
@@ -140,10 +140,7 @@ module _ (grid : Grid) (fair : Fair grid) (table : List Float) (side : Side) (bi
 
   pub openness-least : (voices : List MaskVoice) (z : Float) → All RealVoice voices → Openness z → AllBelow voice-join voices z → T (le (held voices) z)
   unfolding openness
-  openness-least voices z u w b = fold-join voice-join .least zero voices z u nothing-open w (zero-least z w) b
-    where
-      zero-least : (z : Float) → Openness z → T (le zero z)
-      zero-least z w = rw zero-is (w .low)
+  openness-least voices z u w b = fold-join voice-join .least zero voices z u nothing-open w (zero-least w) b
 
   -- ---- a voice and one raised above it
   module _ (a b : MaskVoice) (u : RealVoice a) (v : RealVoice b) (h : Raised a b) where

@@ -1,4 +1,6 @@
--- Accepted voices are ready for the walk by blocks: their gains are finite and not negative, their lobes sound, and a side that held opennesses holds opennesses once a voice is joined. Assumes nothing.
+-- Accepted voices are ready for the walk by blocks: their gains are finite and not negative, their
+-- lobes sound, and a side that held opennesses holds opennesses once a voice is joined. Assumes
+-- nothing.
 use mathlib.Core.Path.{_≡_, refl, sym, subst}
 use mathlib.Core.List.{List, [], _∷_}
 use Prim.Native.Nat as nat
@@ -24,6 +26,7 @@ use Rattle.lobes.specs.Tone.{toneOf}
 use Rattle.lobes.specs.Distance.{lent}
 use Rattle.lobes.proofs.Channels.{channel-gain-rises}
 use Rattle.lobe_joins.proofs.Maxima.{nothing-open}
+use Rattle.lobe_rows.specs.declared.Gains.{Gains}
 use Rattle.block_rows.specs.Most.{Opennesses}
 use Rattle.openness.specs.Openness.{voiceJoined}
 use Rattle.openness.specs.Scene.{RealGrid, SoundTone, ToneReady}
@@ -34,13 +37,12 @@ voice-gain : (side : Side) (voice : MaskVoice) → RealVoice voice → Upto bina
 voice-gain side voice u =
     channel-gain-rises side voice voice u u refl (le-refl-f binary32 (voice .«expression_gain») (real-number binary32 (voice .«expression_gain») (u .expression-real))) .from
 
-pub tone-ready : (grid : Grid) (table : List Float) (voice : MaskVoice) (left right : Side) {tone : Tone} {gain₁ gain₂ : Float} → RealGrid grid → RealVoice voice → tone ≡ toneOf grid voice → gain₁ ≡ channelGain left voice
-    → gain₂ ≡ channelGain right voice → ToneReady grid tone gain₁ gain₂ table
+pub tone-ready : (grid : Grid) (table : List Float) (voice : MaskVoice) (left right : Side) {tone : Tone} {gains : Gains} → RealGrid grid → RealVoice voice → tone ≡ toneOf grid voice → gains .first ≡ channelGain left voice
+    → gains .second ≡ channelGain right voice → ToneReady grid tone gains table
 tone-ready grid table voice left right g u t a b =
     record {
       sound = subst (SoundTone grid table) (sym t) (λ lobes n e w. sound-lobes grid (lent table) voice (g .width-real) (g .width-above) (g .rolloff-real) (g .few) u lobes n e w);
-      first-gain = subst (Upto binary32 3) (sym a) (voice-gain left voice u);
-      second-gain = subst (Upto binary32 3) (sym b) (voice-gain right voice u);
+      gains = record { first-gain = subst (Upto binary32 3) (sym a) (voice-gain left voice u); second-gain = subst (Upto binary32 3) (sym b) (voice-gain right voice u) };
     }
 
 fair : (grid : Grid) → RealGrid grid → Fair grid

@@ -1,7 +1,8 @@
--- The lobes of a tone's partials: joining them one after the other is joining the tone, and those of an accepted voice are sound. Assumes nothing.
+-- The lobes of a tone's partials: joining them one after the other is joining the tone, and those
+-- of an accepted voice are sound. Assumes nothing.
 use mathlib.Core.Path.{_≡_, refl, sym, ap, _∙_, subst}
 use mathlib.Core.List.{List, [], _∷_, map}
-use Prim.Native.Nat.{ℕ, _+_, _-_, _≤_}
+use Prim.Native.Nat.{ℕ, _+_, _≤_}
 use native.Mathlib.Omega.{arith}
 use lib.Dec.{T}
 use lib.ListN.{length, take}

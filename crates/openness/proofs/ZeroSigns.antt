@@ -1,4 +1,6 @@
--- With equal settings and table entries the openness of a bin is the same, whatever the signs of zeros among them: each lobe is the same and opens the same on the bins that it is on. Assumes nothing.
+-- With equal settings and table entries the openness of a bin is the same, whatever the signs of
+-- zeros among them: each lobe is the same and opens the same on the bins that it is on. Assumes
+-- nothing.
 use mathlib.Core.Path.{_≡_, refl, ap, _∙_}
 use mathlib.Core.Bool.{Bool, true, false, cond, _&&_}
 use mathlib.Core.List.{List, [], _∷_}

@@ -1,4 +1,5 @@
--- How far the voices open a bin: "Lobes join by maximum, onto an openness of 0 in every bin." Everything here is a function of the bin. Assumes nothing.
+-- How far the voices open a bin: "Lobes join by maximum, onto an openness of 0 in every bin."
+-- Everything here is a function of the bin. Assumes nothing.
 use mathlib.Core.Bool.{cond}
 use mathlib.Core.List.{List}
 use Prim.Native.Nat.{ℕ}

@@ -1,4 +1,5 @@
--- What the walk by blocks asks of a scene, of a tone of it, and of the sides that are raised. No mask is said here: both ways of raising a tone write the same. Assumes nothing.
+-- What the walk by blocks asks of a scene, of a tone of it, and of the sides that are raised.
+-- Nothing here says what a mask is: both ways of raising a tone write the same. Assumes nothing.
 use mathlib.Core.Path.{_≡_}
 use mathlib.Core.List.{List}
 use Prim.Native.Nat.{ℕ, _≤_}
@@ -8,14 +9,15 @@ use lib.Ieee.{Float, binary32, lt}
 use Rattle.lists.specs.Totals.{All}
 use Rattle.float_laws.specs.Units.{real}
 use Rattle.float_laws.specs.Round.{plus-zero}
-use Rattle.float_laws.specs.Rise.{Upto}
 use Rattle.scene.specs.declared.MaskVoice.{MaskVoice}
 use Rattle.scene.proofs.Voices.{RealVoice}
 use Rattle.lobes.specs.declared.Grid.{Grid}
 use Rattle.lobes.specs.declared.Tone.{Tone}
 use Rattle.lobes.specs.declared.Lobe.{Lobe}
 use Rattle.lobes.specs.Distance.{lent}
-use Rattle.block_rows.specs.Most.{SoundLobes, Opennesses}
+use Rattle.lobe_rows.specs.declared.Gains.{Gains}
+use Rattle.block_rows.specs.Most.{SoundLobes}
+use Rattle.block_rows.specs.Premises.{SidesOpen, GainsWithin}
 use Rattle.block_walk.specs.Compact.{RealTable, Ready}
 use Rattle.tone_lobes.specs.ToneLobes.{partialsOf, lobesOf}
 
@@ -38,13 +40,12 @@ pub record SoundScene (grid : Grid) (voices : List MaskVoice) (table : List Floa
   pub voices-real : All RealVoice voices
   pub table-real : RealTable table
 
--- what stands ready where a tone, a voice or voices may be raised by the walk: the ends of the table's blocks, rows of 64, and sides that hold opennesses
+-- what stands ready where a tone, a voice or voices may be raised by the walk: the ends of the
+-- table's blocks, and sides that hold opennesses
 pub record SidesReady (grid : Grid) (table lows highs first second : List Float) : Type 0 where
   pub ready : Ready grid table lows highs
-  pub first-open : Opennesses first
-  pub second-open : Opennesses second
+  pub sides : SidesOpen first second
 
-pub record ToneReady (grid : Grid) (tone : Tone) (gain₁ gain₂ : Float) (table : List Float) : Type 0 where
+pub record ToneReady (grid : Grid) (tone : Tone) (by : Gains) (table : List Float) : Type 0 where
   pub sound : SoundTone grid table tone
-  pub first-gain : Upto binary32 3 gain₁
-  pub second-gain : Upto binary32 3 gain₂
+  pub gains : GainsWithin by

@@ -1,4 +1,5 @@
--- The sides that are raised together: left and right of a stereo mask; of a mono mask the one, and a second that is not looked at. Assumes nothing.
+-- The sides that are raised together: left and right of a stereo mask; of a mono mask the only one,
+-- and a second that is not used. Assumes nothing.
 use mathlib.Core.Bool.{Bool, true, false}
 use Rattle.lobes.specs.Pan.{Side, mono, left, right}
 

@@ -1,15 +1,13 @@
 // How far the voices open each bin.
 ghost use mathlib.Core.Path.{_≡_};
 ghost use mathlib.Core.Bool.{true};
-ghost use Prim.Native.Nat.{_≤_};
 ghost use lib.ListN.{length, take};
 ghost use Rattle.lists.specs.Maps.{tabulate};
 ghost use Rattle.lobes.specs.Pan as side;
 ghost use Rattle.lobes.specs.Distance.{lent, logsOf};
 ghost use Rattle.blocks.specs.Ends.{Ends};
-ghost use Rattle.block_walk.specs.Compact.{RealTable};
 ghost use Rattle.openness.specs.Openness.{openness};
-ghost use Rattle.openness.specs.Raising.{Open};
+ghost use Rattle.openness.specs.Raising.{EndsWhere, Open};
 use block_walk::columns::block_walk_pays;
 use blocks::block_ends;
 use gaussian::GaussianTable;
@@ -24,35 +22,31 @@ use voices::raise_voices;
 pub mod raise;
 pub mod voices;
 
-// How the voices of a scene are raised: the same from the first voice to the last.
+// How the voices of a scene are raised: the same for all of them.
 pub struct Way {
-    // by a lent table
+    // bins by a lent table of logarithms
     pub tabled: bool,
-    // the walk by blocks may be taken
+    // the walk by blocks is allowed
     pub compact: bool,
-    // so many voices that most blocks are full before the last
+    // more than CROWD voices
     pub crowded: bool,
-    // a mask for each side
+    // a left and a right mask
     pub stereo: bool,
     pub grid: Grid,
 }
 
-// So many bins are worked out at a time: enough for a loop over them to pay, and few enough to stay
-// close at hand.
+// Bins computed at a time: enough for a vectorized loop, and few enough to stay in the cache.
 const CHUNK: usize = 64;
 
-// The blocks of the largest mask.
+// The blocks of the largest mask: 8,192 bins besides bin 0, 64 to a block.
 const BLOCKS: usize = 128;
 
-// From so many voices on most blocks are full before the last of them is raised.
+// With more voices than this, the later ones find most blocks raised above what they can open.
 const CROWD: usize = 16;
 
-// The ends of the table's blocks, where the walk by blocks may be taken.
+// The least and the greatest logarithm of each block of the table, for the walk by blocks.
 fn ends_where(compact: bool, lows: &mut [f32], highs: &mut [f32], row: &mut [f32], table: &[f32])
-    requires { ⌜ (length (now row) ≡ 64)
-        × (length (now lows) ≡ 128)
-        × (length (now highs) ≡ 128)
-        × (compact ≡ true → (length (now table) ≤ 8193) × (RealTable (now table))) ⌝ }
+    requires { ⌜ EndsWhere compact (now lows) (now highs) (now row) (now table) ⌝ }
     ensures { λ _. ⌜ (compact ≡ true →
         Ends (now (table .entry)) (now (lows .exit)) (now (highs .exit))) ⌝ }
 {
@@ -61,7 +55,7 @@ fn ends_where(compact: bool, lows: &mut [f32], highs: &mut [f32], row: &mut [f32
     }
 }
 
-// Whether the walk by blocks may be taken: only with a table.
+// Whether the walk by blocks is allowed: only with a table, and only where it can be faster.
 fn walks(tabled: bool, grid: Grid) -> bool
     ensures { λ r. ⌜ (r ≡ true → tabled ≡ true) ⌝ }
 {
@@ -71,7 +65,7 @@ fn walks(tabled: bool, grid: Grid) -> bool
     false
 }
 
-// One mask for both sides.
+// The openness of a mono mask.
 pub fn open_one(
     out: &mut [f32],
     powers: &PowerTable,
@@ -88,7 +82,7 @@ pub fn open_one(
     ensures { λ _. ⌜ now (out .exit) ≡ tabulate (length (now (out .entry)))
         (openness grid (logsOf tabled (now (table .entry))) side.mono (take count voices)) ⌝ }
 {
-    // There is no second side: no lobe reaches bin 0.
+    // Stands for the second side: it has bin 0 only, which no lobe reaches.
     let mut nothing = [0.0f32; 1];
     let mut chunk = [0.0f32; CHUNK];
     let mut indexes = [0u32; CHUNK];
@@ -123,7 +117,7 @@ pub fn open_one(
     );
 }
 
-// A mask for each side, from a lent table.
+// The openness of a left and a right mask, by a lent table.
 pub fn open_two(
     left: &mut [f32],
     right: &mut [f32],

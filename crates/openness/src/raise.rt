@@ -1,5 +1,5 @@
-// A tone raised on both sides of a mask, by one of two ways that write the same: its lobes
-// together, block by block, or one after the other.
+// A tone raised on both sides, in one of two ways that write the same numbers: its lobes together,
+// block by block, or one after the other.
 ghost use mathlib.Core.Path.{_≡_};
 ghost use mathlib.Core.Bool.{true, cond};
 ghost use lib.ListN.{take};
@@ -20,7 +20,7 @@ use power::table::PowerTable;
 use tone_lobes::lobes_of;
 use tone_lobes::partials_of;
 
-// The lobes together, where a caller says that this can pay; answers whether it was done.
+// Raises the lobes together, if that is allowed and costs less. Answers whether it did.
 fn raised_together(
     first: &mut [f32],
     second: &mut [f32],
@@ -36,7 +36,7 @@ fn raised_together(
     gains: Gains,
 ) -> bool
     requires { ⌜ RaiseTogether (now first) (now second) (now chunk) (now indexes) (now gaussians)
-        way (now table) (now lows) (now highs) lobes count (gains .first) (gains .second) ⌝ }
+        way (now table) (now lows) (now highs) lobes count gains ⌝ }
     ensures { λ r. ⌜ (r ≡ true → way .compact ≡ true)
         × (now (first .exit) ≡ cond r (mapAt
         (lobesJoined (way .grid) (lent (now (table .entry))) (gains .first) (take count lobes))
@@ -66,7 +66,7 @@ fn raised_together(
     false
 }
 
-// The partials of a tone, up to the first above nyquist.
+// Raises the partials of a tone, up to the first above Nyquist.
 pub fn raise_tone(
     first: &mut [f32],
     second: &mut [f32],
@@ -83,8 +83,7 @@ pub fn raise_tone(
     gains: Gains,
 )
     requires { ⌜ RaiseTone (now first) (now second) (now chunk) (now indexes) (now powers)
-        (now octaves) (now gaussians) way (now table) (now lows) (now highs) tone (gains .first)
-        (gains .second) ⌝ }
+        (now octaves) (now gaussians) way (now table) (now lows) (now highs) tone gains ⌝ }
     ensures { λ _. ⌜ (now (first .exit) ≡ mapAt
         (toneJoined (way .grid) (logsOf (way .tabled) (now (table .entry))) (gains .first) tone)
         (now (first .entry)))

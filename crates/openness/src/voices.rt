@@ -25,6 +25,7 @@ use sine::table::SineTable;
 // A voice at this level or below does nothing.
 pub const SKIPPED_LEVEL: f32 = 0.00001;
 
+// A voice's gain on each side that is raised.
 fn gains_of(sines: &SineTable, stereo: bool, voice: MaskVoice) -> Gains
     requires { ⌜ now sines ≡ sineTable ⌝ }
     ensures { λ r. ⌜ (r .first ≡ channelGain (firstSide stereo) voice)
@@ -43,6 +44,7 @@ fn gains_of(sines: &SineTable, stereo: bool, voice: MaskVoice) -> Gains
     }
 }
 
+// Raises one voice, or nothing where the voice is skipped.
 fn raise_voice(
     first: &mut [f32],
     second: &mut [f32],
@@ -90,6 +92,7 @@ fn raise_voice(
     );
 }
 
+// Raises the first `count` voices.
 pub fn raise_voices(
     first: &mut [f32],
     second: &mut [f32],

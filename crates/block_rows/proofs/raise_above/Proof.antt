@@ -26,26 +26,26 @@ not-above bound least xs e u v w h k l =
 returns : tie.Need-returns
 returns c =
     let s = c .before .before .before .before .before in
-    (s .pre .13 (c .if1 .taken), s .pre .10)
+    (s .pre .2 .already (c .if1 .taken), s .pre .2 .row-least)
 
 returns-2 : tie.Need-returns-2
 returns-2 c =
     let s = c .before .before .before .before .before .before in (
-      row-above (s .args .grid) (s .args .table .now) (s .args .lobe) (s .args .start) (s .args .end) (s .args .row .now) (s .pre .9) (s .pre .1 .measured) (s .args .bound) (s .pre .11) (s .pre .12)
-          (not-above (s .args .bound) (s .args .least) (s .args .row .now) (s .pre .3) (s .pre .11) (s .pre .9) (s .pre .10) (c .if2 .taken)),
-      s .pre .10,
+      row-above (s .args .grid) (s .args .table .now) (s .args .lobe) (s .args .start) (s .args .end) (s .args .row .now) (s .pre .2 .row-open) (s .pre .0 .sound .measured) (s .args .bound) (s .pre .2 .bound-in-unit) (s .pre .2 .bounded)
+          (not-above (s .args .bound) (s .args .least) (s .args .row .now) (s .pre .2 .row-64) (s .pre .2 .bound-in-unit) (s .pre .2 .row-open) (s .pre .2 .row-least) (c .if2 .taken)),
+      s .pre .2 .row-least,
     )
 
 raise-in-row-requires : tie.Need-raise-in-row-requires
 raise-in-row-requires c κs =
     let s = c .before .before .before .before .before .before .before .before .before in
-    (s .pre .0, s .pre .1, s .pre .2, omega (arith, s .pre .3, s .pre .6), omega (arith, s .pre .4, s .pre .6), omega (arith, s .pre .5, s .pre .6), s .pre .7, s .pre .8)
+    (s .pre .0, s .pre .1, s .pre .2 .row-64)
 
 least-from-requires : tie.Need-least-from-requires
 least-from-requires c κs =
     let r = c .before .before .before .before .before .before .before .before in
     let s = r .before .before .before .before .before .before .before .before .before .before in
-    (omega (arith, r .raise-in-row .kept .1 .0, s .pre .4), raised-numbers (s .args .grid) (s .args .table .now) (s .args .lobe) (s .args .start) (s .args .end) 0 64 (s .args .row .now) (r .raise-in-row .ensures) (s .pre .9) (s .pre .1 .measured))
+    (omega (arith, r .raise-in-row .kept .1 .0, s .pre .0 .scratch .chunk-64), raised-numbers (s .args .grid) (s .args .table .now) (s .args .lobe) (s .args .start) (s .args .end) 0 64 (s .args .row .now) (r .raise-in-row .ensures) (s .pre .2 .row-open) (s .pre .0 .sound .measured))
 
 same-length : tie.Need-same-length
 same-length c = search needs

@@ -1,5 +1,4 @@
 -- `raise_in_row` joins the openings of the bins that lobe and row have in common. Assumes nothing.
-use Prim.Native.Nat.{_-_}
 use native.Mathlib.Omega.{arith}
 use Rattle.block_rows.proofs.RowRaised.{row-kept, row-raised}
 use borrow.Author.Needs.{needs}
@@ -12,7 +11,7 @@ greater-requires c κs = search needs
 add-lesser : tie.Need-add-lesser
 add-lesser c =
     let s = c .before .before .before .before .before .before in
-    omega (arith, s .pre .1 .last, s .pre .7)
+    omega (arith, s .pre .0 .sound .last, s .pre .1 .last)
 
 lesser-requires : tie.Need-lesser-requires
 lesser-requires c κs = search needs
@@ -25,11 +24,12 @@ openings-by-table-requires c κs =
     let l = c .before .before .before in
     let g = l .before .before in
     let s = g .before .before .before .before .before in (
-      s .pre .0,
-      s .pre .1 .log-of-center,
-      omega (arith, l .lesser .ensures, g .greater .ensures, s .pre .4),
-      omega (arith, l .lesser .ensures, g .greater .ensures, s .pre .5),
-      omega (arith, l .lesser .ensures, s .pre .6),
+      s .pre .0 .gaussians,
+      record {
+        in-chunk = omega (arith, l .lesser .ensures, g .greater .ensures, s .pre .0 .scratch .chunk-64, s .pre .1 .most);
+        in-indexes = omega (arith, l .lesser .ensures, g .greater .ensures, s .pre .0 .scratch .indexes-64, s .pre .1 .most);
+      },
+      record { log-of-center = s .pre .0 .sound .log-of-center; inside = omega (arith, l .lesser .ensures, s .pre .1 .inside) },
     )
 
 sub-join : tie.Need-sub-join
@@ -51,7 +51,7 @@ join-requires c κs =
     let l = t .before in
     let g = l .before .before in
     let s = g .before .before .before .before .before in
-    omega (arith, o .openings-by-table .kept .0, l .lesser .ensures, g .greater .ensures, s .pre .4, t .if1 .taken)
+    omega (arith, o .openings-by-table .kept .0, l .lesser .ensures, g .greater .ensures, s .pre .0 .scratch .chunk-64, s .pre .1 .most, t .if1 .taken)
 
 same-length : tie.Need-same-length
 same-length c = search needs
@@ -72,9 +72,9 @@ returns c =
     let s = g .before .before .before .before .before in
     let opened = rw (l .lesser .ensures, g .greater .ensures) at (o .openings-by-table .ensures) in
     let joined = rw (l .lesser .ensures, g .greater .ensures) at (j .join .ensures) in
-    row-raised (s .args .grid) (s .args .table .now) (s .args .lobe) (s .args .start) (s .args .end) (s .args .chunk .now) _ (s .pre .2)
+    row-raised (s .args .grid) (s .args .table .now) (s .args .lobe) (s .args .start) (s .args .end) (s .args .chunk .now) _ (s .pre .1 .from)
     (omega (arith, l .lesser .ensures, g .greater .ensures, t .if1 .taken))
-    (omega (arith, s .pre .4))
+    (omega (arith, s .pre .0 .scratch .chunk-64, s .pre .1 .most))
     opened
     (s .args .row .now)
     joined
@@ -84,7 +84,7 @@ returns-2 c =
     let l = c .before in
     let g = l .before .before in
     let s = g .before .before .before .before .before in
-    row-kept (s .args .grid) (s .args .table .now) (s .args .lobe) (s .args .start) (s .args .end) (s .args .row .now) (s .pre .2) (omega (arith, l .lesser .ensures, g .greater .ensures, c .if1 .left))
+    row-kept (s .args .grid) (s .args .table .now) (s .args .lobe) (s .args .start) (s .args .end) (s .args .row .now) (s .pre .1 .from) (omega (arith, l .lesser .ensures, g .greater .ensures, c .if1 .left))
 
 pub raise-in-row-spec : {M : Type 1} → statement M
 raise-in-row-spec =

@@ -1,4 +1,5 @@
--- `raise_partials` joins the lobes to a row of zeros, the one at `top` first: what is left to join makes of the row what all of them make of it, and joining the first again would change nothing.
+-- `raise_partials` joins the lobes to a row of zeros, the one at `top` first: what is left to join
+-- makes of the row what all of them make of it, and joining the first again would change nothing.
 -- Assumes nothing.
 use mathlib.Core.Path.{_≡_, sym, _∙_, subst}
 use Prim.Native.Nat.{ℕ, _-_, _≤_, _<_}
@@ -32,25 +33,20 @@ fill-requires c κs = search needs
 mul-first : tie.Need-mul-first Inv-loop μ-loop
 mul-first c =
     let s = c .before .before .before .before .before .before .before .before .before in
-    omega (arith, s .pre .2, s .pre .3)
+    omega (arith, s .pre .0 .few, s .pre .2 .top-inside)
 
 array-copy-out-first : tie.Need-array-copy-out-first Inv-loop μ-loop
 array-copy-out-first c =
     let s = c .before .before .before .before .before .before .before .before .before in
-    omega (arith, s .pre .2, s .pre .3)
+    omega (arith, s .pre .0 .few, s .pre .2 .top-inside)
 
 raise-in-row-requires : tie.Need-raise-in-row-requires Inv-loop μ-loop
 raise-in-row-requires c κs =
     let s = c .before .before .before .before .before .before .before .before .before .before .before .before .before in
     let f = c .before .before .before .before .before .before in (
-      s .pre .0,
-      s .pre .1 (s .args .top) (s .pre .3),
-      s .pre .5,
-      omega (arith, f .fill .kept, s .pre .6, s .pre .9),
-      omega (arith, s .pre .7, s .pre .9),
-      omega (arith, s .pre .8, s .pre .9),
-      s .pre .10,
-      s .pre .11,
+      record { gaussians = s .pre .0 .gaussians; scratch = s .pre .0 .scratch; sound = s .pre .0 .sound (s .args .top) (s .pre .2 .top-inside) },
+      s .pre .1 .block,
+      omega (arith, f .fill .kept, s .pre .2 .row-64),
     )
 
 least-from-requires : tie.Need-least-from-requires Inv-loop μ-loop
@@ -59,9 +55,9 @@ least-from-requires c κs =
     let f = r .before .before .before .before .before .before .before in
     let s = f .before .before .before .before .before .before .before in
     let l : length (s .args .t8) ≡ 24 = s .good .1 .1 .1 .1 .1 .1 .1 .0 .1 .0 .1 in
-    let few : s .args .count ≤ length (s .args .t8) = omega (arith, l, s .pre .2) in
-    let j = joining-start (s .args .grid) (s .args .table .now) (s .args .t8) (s .args .count) (s .pre .1) few (s .args .start) (s .args .end) (s .args .top) (s .pre .3) _ _ (f .fill .ensures) (r .raise-in-row .ensures) in
-    (omega (arith, r .raise-in-row .kept .1 .0, s .pre .7), joining-numbers (s .args .grid) (s .args .table .now) (s .args .t8) (s .args .count) (s .pre .1) few (s .args .start) (s .args .end) (s .args .top) (s .pre .3) 0 64 0 j)
+    let few : s .args .count ≤ length (s .args .t8) = omega (arith, l, s .pre .0 .few) in
+    let j = joining-start (s .args .grid) (s .args .table .now) (s .args .t8) (s .args .count) (s .pre .0 .sound) few (s .args .start) (s .args .end) (s .args .top) (s .pre .2 .top-inside) _ _ (f .fill .ensures) (r .raise-in-row .ensures) in
+    (omega (arith, r .raise-in-row .kept .1 .0, s .pre .0 .scratch .chunk-64), joining-numbers (s .args .grid) (s .args .table .now) (s .args .t8) (s .args .count) (s .pre .0 .sound) few (s .args .start) (s .args .end) (s .args .top) (s .pre .2 .top-inside) 0 64 0 j)
 
 loop-holds : tie.Need-loop-holds Inv-loop μ-loop
 loop-holds c =
@@ -70,9 +66,9 @@ loop-holds c =
     let f = r .before .before .before .before .before .before .before in
     let s = f .before .before .before .before .before .before .before in (
       s .good .1 .1 .1 .1 .1 .1 .1 .0 .1 .0 .1,
-      omega (arith, r .raise-in-row .kept .0, f .fill .kept, s .pre .6),
-      omega (arith, n .least-from .kept, r .raise-in-row .kept .1 .0, s .pre .7),
-      omega (arith, r .raise-in-row .kept .1 .1, s .pre .8),
+      omega (arith, r .raise-in-row .kept .0, f .fill .kept, s .pre .2 .row-64),
+      omega (arith, n .least-from .kept, r .raise-in-row .kept .1 .0, s .pre .0 .scratch .chunk-64),
+      omega (arith, r .raise-in-row .kept .1 .1, s .pre .0 .scratch .indexes-64),
       omega arith,
       n .least-from .ensures .0,
       λ sound few inside. joining-start (s .args .grid) (s .args .table .now) (s .args .t8) (s .args .count) sound few (s .args .start) (s .args .end) (s .args .top) inside _ _ (f .fill .ensures) (r .raise-in-row .ensures),
@@ -91,7 +87,7 @@ shared-slice-read-raise-above : tie.Need-shared-slice-read-raise-above Inv-loop 
 shared-slice-read-raise-above c =
     let n = c .before .before .before .before .before in
     let s = n .before .before .before .before .before .before .before .before .before .before .before .before .before .before .before .before .before .before .before .before .before .before .before .before .before .before .before in
-    omega (arith, n .loop-test .taken, s .pre .4)
+    omega (arith, n .loop-test .taken, s .pre .1 .bounds-long)
 
 raise-above-requires : tie.Need-raise-above-requires Inv-loop μ-loop
 raise-above-requires c κs =
@@ -99,29 +95,29 @@ raise-above-requires c κs =
     let a = n .before in
     let s = a .before .before .before .before .before .before .before .before .before .before .before .before .before .before .before .before .before .before .before .before .before .before .before .before .before .before in
     let l = a .loop in
-    let few : s .args .count ≤ length (s .args .t8) = omega (arith, l .inv .0, s .pre .2) in
-    let j = l .inv .6 (s .pre .1) few (s .pre .3) in (
-      s .pre .0,
-      s .pre .1 (l .p) (n .loop-test .taken),
-      s .pre .5,
-      l .inv .1,
-      l .inv .2,
-      l .inv .3,
-      s .pre .9,
-      s .pre .10,
-      s .pre .11,
-      j .opennesses,
-      l .inv .5,
-      s .pre .12 (l .p) (n .loop-test .taken) .0,
-      s .pre .12 (l .p) (n .loop-test .taken) .1,
-      λ e. joining-there (s .args .grid) (s .args .table .now) (s .args .t8) (s .args .count) (s .pre .1) few (s .args .start) (s .args .end) (s .args .top) (s .pre .3) (l .p) (l .row) (eqb→eq (l .p) (s .args .top) (subst T (sym e) tt)) j,
+    let few : s .args .count ≤ length (s .args .t8) = omega (arith, l .inv .0, s .pre .0 .few) in
+    let j = l .inv .6 (s .pre .0 .sound) few (s .pre .2 .top-inside) in (
+      record {
+        gaussians = s .pre .0 .gaussians;
+        scratch = record { chunk-64 = l .inv .2; indexes-64 = l .inv .3 };
+        sound = s .pre .0 .sound (l .p) (n .loop-test .taken);
+      },
+      s .pre .1 .block,
+      record {
+        row-64 = l .inv .1;
+        row-open = j .opennesses;
+        row-least = l .inv .5;
+        bound-in-unit = s .pre .1 .bounds (l .p) (n .loop-test .taken) .0;
+        bounded = s .pre .1 .bounds (l .p) (n .loop-test .taken) .1;
+        already = λ e. joining-there (s .args .grid) (s .args .table .now) (s .args .t8) (s .args .count) (s .pre .0 .sound) few (s .args .start) (s .args .end) (s .args .top) (s .pre .2 .top-inside) (l .p) (l .row) (eqb→eq (l .p) (s .args .top) (subst T (sym e) tt)) j;
+      },
     )
 
 add-p : tie.Need-add-p Inv-loop μ-loop
 add-p c =
     let n = c .before .before .before .before .before .before .before .before .before .before .before .before in
     let s = n .before .before .before .before .before .before .before .before .before .before .before .before .before .before .before .before .before .before .before .before .before .before .before .before .before .before .before in
-    omega (arith, n .loop-test .taken, s .pre .2)
+    omega (arith, n .loop-test .taken, s .pre .0 .few)
 
 loop-less : tie.Need-loop-less Inv-loop μ-loop
 loop-less c = omega arith
@@ -145,27 +141,27 @@ loop-again c =
 same-length : tie.Need-same-length Inv-loop μ-loop
 same-length c =
     let s = c .before .before .before .before .before .before .before .before .before .before .before .before .before .before .before .before .before .before .before .before .before .before .before .before .before .before .before in
-    c .before .loop .inv .1 ∙ sym (s .pre .6)
+    c .before .loop .inv .1 ∙ sym (s .pre .2 .row-64)
 
 same-length-2 : tie.Need-same-length-2 Inv-loop μ-loop
 same-length-2 c =
     let s = c .before .before .before .before .before .before .before .before .before .before .before .before .before .before .before .before .before .before .before .before .before .before .before .before .before .before .before in
-    c .before .loop .inv .2 ∙ sym (s .pre .7)
+    c .before .loop .inv .2 ∙ sym (s .pre .0 .scratch .chunk-64)
 
 same-length-3 : tie.Need-same-length-3 Inv-loop μ-loop
 same-length-3 c =
     let s = c .before .before .before .before .before .before .before .before .before .before .before .before .before .before .before .before .before .before .before .before .before .before .before .before .before .before .before in
-    c .before .loop .inv .3 ∙ sym (s .pre .8)
+    c .before .loop .inv .3 ∙ sym (s .pre .0 .scratch .indexes-64)
 
 returns : tie.Need-returns Inv-loop μ-loop
 returns c =
     let a = c .before in
     let s = a .before .before .before .before .before .before .before .before .before .before .before .before .before .before .before .before .before .before .before .before .before .before .before .before .before .before in
     let l = a .loop in
-    let few : s .args .count ≤ length (s .args .t8) = omega (arith, l .inv .0, s .pre .2) in
+    let few : s .args .count ≤ length (s .args .t8) = omega (arith, l .inv .0, s .pre .0 .few) in
     let done : l .p ≡ s .args .count = omega (arith, l .inv .4, c .loop-test .left) in
-    let j = subst (λ (p : ℕ). Joining (s .args .grid) (s .args .table .now) (s .args .t8) (s .args .count) (s .pre .1) few (s .args .start) (s .args .end) (s .args .top) (s .pre .3) p (l .row)) done (l .inv .6 (s .pre .1) few (s .pre .3)) in
-    λ k h. joining-end (s .args .grid) (s .args .table .now) (s .args .t8) (s .args .count) (s .pre .1) few (s .args .start) (s .args .end) (s .args .top) (s .pre .3) (l .row) j k (omega (arith, h, l .inv .1, s .pre .9)) h
+    let j = subst (λ (p : ℕ). Joining (s .args .grid) (s .args .table .now) (s .args .t8) (s .args .count) (s .pre .0 .sound) few (s .args .start) (s .args .end) (s .args .top) (s .pre .2 .top-inside) p (l .row)) done (l .inv .6 (s .pre .0 .sound) few (s .pre .2 .top-inside)) in
+    λ k h. joining-end (s .args .grid) (s .args .table .now) (s .args .t8) (s .args .count) (s .pre .0 .sound) few (s .args .start) (s .args .end) (s .args .top) (s .pre .2 .top-inside) (l .row) j k (omega (arith, h, l .inv .1, s .pre .1 .block .most)) h
 
 pub raise-partials-spec : {M : Type 1} → statement M
 raise-partials-spec =

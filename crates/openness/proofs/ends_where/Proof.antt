@@ -13,8 +13,8 @@ block-ends-requires : tie.Need-block-ends-requires
 block-ends-requires c κs =
     let t = c .before .before .before in
     let s = t .before .before .before .before .before in
-    let k = s .pre .3 (t .if1 .taken) in
-    (s .pre .0, s .pre .1 ∙ sym (s .pre .2), omega (arith, s .pre .1, k .0), λ i p q l. real-number binary32 (getD (s .args .table .now) i nan) (k .1 i p l))
+    let e = t .if1 .taken in
+    (s .pre .row-64, s .pre .lows-128 ∙ sym (s .pre .highs-128), omega (arith, s .pre .lows-128, s .pre .long e), λ i p q l. real-number binary32 (getD (s .args .table .now) i nan) (s .pre .table-real e i p l))
 
 same-length : tie.Need-same-length
 same-length c = search needs

@@ -30,7 +30,13 @@ ends-where-requires : tie.Need-ends-where-requires
 ends-where-requires c κs =
     let w = c .before .before .before .before .before .before .before in
     let s = w .before .before .before .before in
-    (refl, refl, refl, λ e. let k = s .pre .scene (w .walks .ensures e) in (k .long, k .table-real))
+    record {
+      lows-128 = refl;
+      highs-128 = refl;
+      row-64 = refl;
+      long = λ e. s .pre .scene (w .walks .ensures e) .long;
+      table-real = λ e. s .pre .scene (w .walks .ensures e) .table-real;
+    }
 
 slice-aggregate-raise-voices : tie.Need-slice-aggregate-raise-voices
 slice-aggregate-raise-voices c = search needs
@@ -58,8 +64,10 @@ raise-voices-requires c κs =
     let highs : length (d .ends-where .last .1 .1 .0) ≡ 128 = d .ends-where .kept .1 .1 .0 in
     record {
       tables = s .pre .tables;
+      sines = s .pre .sines;
       octaves = o .partial-octaves .ensures;
       scratch = record { chunk-64 = d .ends-where .kept .1 .1 .1 .0; indexes-64 = refl };
+      few = s .pre .few;
       on-grid = s .pre .on-grid;
       heard = s .pre .heard;
       walk = λ e.
@@ -78,8 +86,7 @@ raise-voices-requires c κs =
                         ends = d .ends-where .ensures e;
                         table-real = k .table-real;
                       };
-                  first-open = zeros-open _ (f .fill .ensures);
-                  second-open = one-zero-open;
+                  sides = record { first-open = zeros-open _ (f .fill .ensures); second-open = one-zero-open };
                 };
             grid-real = k .grid-real;
             voices-real = k .voices-real;

@@ -32,7 +32,7 @@ slice-aggregate-ends-where-3 c = search needs
 ends-where-requires : tie.Need-ends-where-requires
 ends-where-requires c κs =
     let k = c .before .before .before .before .before .before .before .before .before .before .before .before .before .before .before .before .pre .scene refl in
-    (refl, refl, refl, λ e. (k .long, k .table-real))
+    record { lows-128 = refl; highs-128 = refl; row-64 = refl; long = λ e. k .long; table-real = λ e. k .table-real }
 
 slice-aggregate-raise-voices : tie.Need-slice-aggregate-raise-voices
 slice-aggregate-raise-voices c = search needs
@@ -58,8 +58,10 @@ raise-voices-requires c κs =
     let highs : length (d .ends-where .last .1 .1 .0) ≡ 128 = d .ends-where .kept .1 .1 .0 in
     record {
       tables = s .pre .tables;
+      sines = s .pre .sines;
       octaves = o .partial-octaves .ensures;
       scratch = record { chunk-64 = d .ends-where .kept .1 .1 .1 .0; indexes-64 = refl };
+      few = s .pre .few;
       on-grid = s .pre .on-grid;
       heard = s .pre .heard;
       walk = λ e.
@@ -76,8 +78,7 @@ raise-voices-requires c κs =
                         ends = d .ends-where .ensures e;
                         table-real = k .table-real;
                       };
-                  first-open = zeros-open _ (first .fill .ensures);
-                  second-open = zeros-open _ (second .fill2 .ensures);
+                  sides = record { first-open = zeros-open _ (first .fill .ensures); second-open = zeros-open _ (second .fill2 .ensures) };
                 };
             grid-real = k .grid-real;
             voices-real = k .voices-real;

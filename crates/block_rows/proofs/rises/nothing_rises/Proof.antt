@@ -14,13 +14,13 @@ use Rattle.block_rows.proofs.rises.nothing_rises.Tie as tie
 least-from-requires : tie.Need-least-from-requires
 least-from-requires c κs =
     let s = c .before .before .before .before .before in
-    (s .pre .0, open-numbers (s .args .start) (s .args .start + 64) (s .args .first .now) (s .pre .1))
+    (s .pre .1, open-numbers (s .args .start) (s .args .start + 64) (s .args .first .now) (s .pre .0 .sides .first-open))
 
 least-from-requires-2 : tie.Need-least-from-requires-2
 least-from-requires-2 c κs =
     let l = c .before .before .before .before .before in
     let s = l .before .before .before .before .before .before in
-    (omega (arith, l .least-from .kept, s .pre .0), open-numbers (s .args .start) (s .args .start + 64) (s .args .second .now) (s .pre .2))
+    (omega (arith, l .least-from .kept, s .pre .1), open-numbers (s .args .start) (s .args .start + 64) (s .args .second .now) (s .pre .0 .sides .second-open))
 
 same-length : tie.Need-same-length
 same-length c = search needs
@@ -34,8 +34,8 @@ returns c =
     let bound = s .args .bound in
     let gains = s .args .gains in
     λ e. (
-      under-least (mul binary32 bound (gains .first)) (l1 .least-from .result) (s .args .start) (s .args .first .now) (upto-mul binary32 0 3 bound (gains .first) (lit≤ tt) (s .pre .3) (s .pre .4)) (s .pre .1) (l1 .least-from .ensures .0) (t .if1 .taken),
-      under-least (mul binary32 bound (gains .second)) (l2 .least-from2 .result) (s .args .start) (s .args .second .now) (upto-mul binary32 0 3 bound (gains .second) (lit≤ tt) (s .pre .3) (s .pre .5)) (s .pre .2) (l2 .least-from2 .ensures .0) e,
+      under-least (mul binary32 bound (gains .first)) (l1 .least-from .result) (s .args .start) (s .args .first .now) (upto-mul binary32 0 3 bound (gains .first) (lit≤ tt) (s .pre .2) (s .pre .0 .gains .first-gain)) (s .pre .0 .sides .first-open) (l1 .least-from .ensures .0) (t .if1 .taken),
+      under-least (mul binary32 bound (gains .second)) (l2 .least-from2 .result) (s .args .start) (s .args .second .now) (upto-mul binary32 0 3 bound (gains .second) (lit≤ tt) (s .pre .2) (s .pre .0 .gains .second-gain)) (s .pre .0 .sides .second-open) (l2 .least-from2 .ensures .0) e,
     )
 
 same-length-2 : tie.Need-same-length-2

@@ -35,19 +35,19 @@ mul-centers : tie.Need-mul-centers Inv-loop μ-loop
 mul-centers c = omega (arith, c .before .loop-test .taken, c .before .before .before .pre .0)
 
 slice-write-centers : tie.Need-slice-write-centers Inv-loop μ-loop
-slice-write-centers c = omega (arith, c .before .loop-test .taken, c .before .before .before .pre .1, c .before .before .loop .inv .2 .len)
+slice-write-centers c = omega (arith, c .before .loop-test .taken, c .before .before .before .pre .1 .centers-long, c .before .before .loop .inv .2 .len)
 
 mul-strengths : tie.Need-mul-strengths Inv-loop μ-loop
 mul-strengths c = omega (arith, c .before .loop-test .taken, c .before .before .before .pre .0)
 
 slice-write-strengths : tie.Need-slice-write-strengths Inv-loop μ-loop
-slice-write-strengths c = omega (arith, c .before .loop-test .taken, c .before .before .before .pre .2, c .before .before .loop .inv .3 .len)
+slice-write-strengths c = omega (arith, c .before .loop-test .taken, c .before .before .before .pre .1 .strengths-long, c .before .before .loop .inv .3 .len)
 
 mul-peaks : tie.Need-mul-peaks Inv-loop μ-loop
 mul-peaks c = omega (arith, c .before .loop-test .taken, c .before .before .before .pre .0)
 
 slice-write-peaks : tie.Need-slice-write-peaks Inv-loop μ-loop
-slice-write-peaks c = omega (arith, c .before .loop-test .taken, c .before .before .before .pre .3, c .before .before .loop .inv .4 .len)
+slice-write-peaks c = omega (arith, c .before .loop-test .taken, c .before .before .before .pre .1 .peaks-long, c .before .before .loop .inv .4 .len)
 
 add-p : tie.Need-add-p Inv-loop μ-loop
 add-p c = omega (arith, c .before .loop-test .taken, c .before .before .before .pre .0)
@@ -62,9 +62,9 @@ loop-again c =
     let s = i .before .before in (
       l .inv .0,
       omega (arith, i .loop-test .taken),
-      turned-more nan (l .inv .2) (omega (arith, i .loop-test .taken, s .pre .1)) refl,
-      turned-more nan (l .inv .3) (omega (arith, i .loop-test .taken, s .pre .2)) refl,
-      turned-more nan (l .inv .4) (omega (arith, i .loop-test .taken, s .pre .3)) refl,
+      turned-more nan (l .inv .2) (omega (arith, i .loop-test .taken, s .pre .1 .centers-long)) refl,
+      turned-more nan (l .inv .3) (omega (arith, i .loop-test .taken, s .pre .1 .strengths-long)) refl,
+      turned-more nan (l .inv .4) (omega (arith, i .loop-test .taken, s .pre .1 .peaks-long)) refl,
     )
 
 same-length : tie.Need-same-length Inv-loop μ-loop

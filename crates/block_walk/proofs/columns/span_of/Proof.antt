@@ -1,4 +1,5 @@
--- `span_of`: the lobes below the place at hand lie within the span so far, and each has at most 8,193 bins. Assumes nothing.
+-- `span_of`: the lobes below the place at hand lie within the span so far, and each has at most
+-- 8,193 bins. Assumes nothing.
 use mathlib.Core.Path.{_≡_, subst}
 use mathlib.Core.List.{List}
 use Prim.Native.Nat.{ℕ, _+_, _-_, _*_, _≤_, _<_, min, max}

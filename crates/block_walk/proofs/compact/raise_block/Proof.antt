@@ -1,4 +1,5 @@
--- `raise_block` leaves a block where nothing rises, and else joins the most that one of the lobes opens to each side. Assumes nothing.
+-- `raise_block` leaves a block where nothing rises, and else joins the most that one of the lobes
+-- opens to each side. Assumes nothing.
 use mathlib.Core.Path.{refl}
 use Prim.Native.Nat.{_+_, _≤_}
 use native.Mathlib.Omega.{arith}
@@ -13,7 +14,7 @@ use Rattle.block_walk.proofs.compact.raise_block.Tie as tie
 greatest-at-requires : tie.Need-greatest-at-requires
 greatest-at-requires c κs =
     let s = c .before .before .before .before .before .before in
-    (s .pre .2, s .pre .4, λ p h. real-number binary32 (getD (s .args .bounds .now) p nan) (s .pre .15 p h .0 .is-real))
+    (s .pre .2 .some, s .pre .2 .bounds-long, λ p h. real-number binary32 (getD (s .args .bounds .now) p nan) (s .pre .2 .bounds p h .0 .is-real))
 
 mul-nothing-rises : tie.Need-mul-nothing-rises
 mul-nothing-rises c = search needs
@@ -22,13 +23,13 @@ shared-slice-read-nothing-rises : tie.Need-shared-slice-read-nothing-rises
 shared-slice-read-nothing-rises c =
     let g = c .before .before .before .before in
     let s = g .before .before .before .before .before .before .before in
-    omega (arith, g .greatest-at .ensures .0, s .pre .4)
+    omega (arith, g .greatest-at .ensures .0, s .pre .2 .bounds-long)
 
 nothing-rises-requires : tie.Need-nothing-rises-requires
 nothing-rises-requires c κs =
     let g = c .before .before .before .before in
     let s = g .before .before .before .before .before .before .before in
-    (s .pre .6, s .pre .11, s .pre .12, s .pre .15 (g .greatest-at .result) (g .greatest-at .ensures .0) .0, s .pre .13, s .pre .14)
+    (s .pre .1, s .pre .0 .scratch .chunk-64, s .pre .2 .bounds (g .greatest-at .result) (g .greatest-at .ensures .0) .0)
 
 same-length : tie.Need-same-length
 same-length c = search needs
@@ -44,12 +45,12 @@ returns c =
     let n = c .before .before .before in
     let g = n .before .before .before .before .before in
     let s = g .before .before .before .before .before .before .before in
-    let few : s .args .count ≤ length (s .args .lobes) = omega (arith, s .good .1 .1 .1 .1 .1 .1 .1 .1 .0 .1 .0 .1, s .pre .3) in
+    let few : s .args .count ≤ length (s .args .lobes) = omega (arith, s .good .1 .1 .1 .1 .1 .1 .1 .1 .0 .1 .0 .1, s .pre .0 .few) in
     let rises = n .nothing-rises .ensures (c .if1 .taken) in
-    let wide : s .args .end ≤ s .args .start + 64 = s .pre .8 in (
-      block-kept (s .args .grid) (s .args .table .now) (s .args .lobes) (s .args .count) (s .pre .1) few (s .args .bounds .now) (s .args .start) (s .args .end) (g .greatest-at .result) (s .pre .15) (g .greatest-at .ensures) (s .pre .13) (s .args .first .now) (s .pre .11)
+    let wide : s .args .end ≤ s .args .start + 64 = s .pre .2 .block .most in (
+      block-kept (s .args .grid) (s .args .table .now) (s .args .lobes) (s .args .count) (s .pre .0 .sound) few (s .args .bounds .now) (s .args .start) (s .args .end) (g .greatest-at .result) (s .pre .2 .bounds) (g .greatest-at .ensures) (s .pre .1 .gains .first-gain) (s .args .first .now) (s .pre .1 .sides .first-open)
           (λ bin p q l. rises .0 bin p (omega (arith, wide, q)) l),
-      block-kept (s .args .grid) (s .args .table .now) (s .args .lobes) (s .args .count) (s .pre .1) few (s .args .bounds .now) (s .args .start) (s .args .end) (g .greatest-at .result) (s .pre .15) (g .greatest-at .ensures) (s .pre .14) (s .args .second .now) (s .pre .12)
+      block-kept (s .args .grid) (s .args .table .now) (s .args .lobes) (s .args .count) (s .pre .0 .sound) few (s .args .bounds .now) (s .args .start) (s .args .end) (g .greatest-at .result) (s .pre .2 .bounds) (g .greatest-at .ensures) (s .pre .1 .gains .second-gain) (s .args .second .now) (s .pre .1 .sides .second-open)
           (λ bin p q l. rises .1 bin p (omega (arith, wide, q)) l),
     )
 
@@ -60,8 +61,16 @@ raise-partials-requires : tie.Need-raise-partials-requires
 raise-partials-requires c κs =
     let n = c .before .before .before .before .before .before in
     let g = n .before .before .before .before .before in
-    let s = g .before .before .before .before .before .before .before in
-    (s .pre .0, s .pre .1, s .pre .3, g .greatest-at .ensures .0, s .pre .4, s .pre .5, refl, omega (arith, n .nothing-rises .kept, s .pre .6), s .pre .7, s .pre .8, s .pre .9, s .pre .10, s .pre .15)
+    let s = g .before .before .before .before .before .before .before in (
+      record {
+        gaussians = s .pre .0 .gaussians;
+        scratch = record { chunk-64 = omega (arith, n .nothing-rises .kept, s .pre .0 .scratch .chunk-64); indexes-64 = s .pre .0 .scratch .indexes-64 };
+        few = s .pre .0 .few;
+        sound = s .pre .0 .sound;
+      },
+      s .pre .2,
+      record { row-64 = refl; top-inside = g .greatest-at .ensures .0 },
+    )
 
 slice-aggregate-join : tie.Need-slice-aggregate-join
 slice-aggregate-join c = search needs
@@ -71,7 +80,7 @@ join-requires c κs =
     let r = c .before .before .before .before .before .before .before in
     let n = r .before .before .before .before .before .before .before in
     let s = n .before .before .before .before .before .before .before .before .before .before .before .before in
-    omega (arith, r .raise-partials .kept .0, s .pre .8)
+    omega (arith, r .raise-partials .kept .0, s .pre .2 .block .most)
 
 slice-aggregate-join-2 : tie.Need-slice-aggregate-join-2
 slice-aggregate-join-2 c = search needs
@@ -81,7 +90,7 @@ join-requires-2 c κs =
     let r = c .before .before .before .before .before .before .before .before .before .before .before .before in
     let n = r .before .before .before .before .before .before .before in
     let s = n .before .before .before .before .before .before .before .before .before .before .before .before in
-    omega (arith, r .raise-partials .kept .0, s .pre .8)
+    omega (arith, r .raise-partials .kept .0, s .pre .2 .block .most)
 
 same-length-4 : tie.Need-same-length-4
 same-length-4 c = search needs
@@ -102,9 +111,9 @@ returns-2 c =
     let r = j1 .before .before .before .before .before .before .before .before in
     let n = r .before .before .before .before .before .before .before in
     let s = n .before .before .before .before .before .before .before .before .before .before .before .before in
-    let few : s .args .count ≤ length (s .args .lobes) = omega (arith, s .good .1 .1 .1 .1 .1 .1 .1 .1 .0 .1 .0 .1, s .pre .3) in (
-      block-joined (s .args .grid) (s .args .table .now) (s .args .lobes) (s .args .count) (s .pre .1) few (r .raise-partials .last .0) (s .args .start) (s .args .end) (s .pre .13) (r .raise-partials .ensures) (s .args .first .now) (s .pre .11) (j1 .join .ensures),
-      block-joined (s .args .grid) (s .args .table .now) (s .args .lobes) (s .args .count) (s .pre .1) few (r .raise-partials .last .0) (s .args .start) (s .args .end) (s .pre .14) (r .raise-partials .ensures) (s .args .second .now) (s .pre .12) (j2 .join2 .ensures),
+    let few : s .args .count ≤ length (s .args .lobes) = omega (arith, s .good .1 .1 .1 .1 .1 .1 .1 .1 .0 .1 .0 .1, s .pre .0 .few) in (
+      block-joined (s .args .grid) (s .args .table .now) (s .args .lobes) (s .args .count) (s .pre .0 .sound) few (r .raise-partials .last .0) (s .args .start) (s .args .end) (s .pre .1 .gains .first-gain) (r .raise-partials .ensures) (s .args .first .now) (s .pre .1 .sides .first-open) (j1 .join .ensures),
+      block-joined (s .args .grid) (s .args .table .now) (s .args .lobes) (s .args .count) (s .pre .0 .sound) few (r .raise-partials .last .0) (s .args .start) (s .args .end) (s .pre .1 .gains .second-gain) (r .raise-partials .ensures) (s .args .second .now) (s .pre .1 .sides .second-open) (j2 .join2 .ensures),
     )
 
 pub raise-block-spec : {M : Type 1} → statement M

@@ -1,4 +1,5 @@
--- `raise_blocks` walks from the block of the first bin that a lobe reaches to that of the last: of each side the bins below the block at hand are raised. Assumes nothing.
+-- `raise_blocks` walks from the block of the first bin that a lobe reaches to that of the last: of
+-- each side the bins below the block at hand are raised. Assumes nothing.
 use mathlib.Core.Path.{_≡_, refl, sym, _∙_}
 use Prim.Native.Nat.{ℕ, _+_, _*_, _-_, _≤_, _<_, min, max}
 use native.Mathlib.Omega.{arith}
@@ -43,14 +44,14 @@ loop-holds c =
     let s = c .before .before .before .before .before .before .before .before .before .before .before .before in
     let span = s .args .span in
     let e : c .block-of .result ≡ blockOf (min (span .«first_bin») (span .«last_bin»)) = rw (c .before .lesser .ensures) at (c .block-of .ensures) in
-    let b = begins (span .«first_bin») (span .«last_bin») (c .block-of .result) (length (s .args .table .now)) e (omega (arith, s .pre .6 .last, s .pre .15)) (omega (arith, s .pre .6 .inside, s .pre .15)) in (
+    let b = begins (span .«first_bin») (span .«last_bin») (c .block-of .result) (length (s .args .table .now)) e (omega (arith, s .pre .2 .spanned .ready .last, s .pre .2 .spanned .last)) (omega (arith, s .pre .2 .spanned .ready .inside, s .pre .2 .spanned .last)) in (
       b .0,
-      s .pre .4,
-      s .pre .5,
+      s .pre .0 .scratch .chunk-64,
+      s .pre .0 .scratch .indexes-64,
       refl,
       s .good .1 .1 .1 .1 .1 .1 .1 .1 .1 .1 .1 .1 .0 .1 .0 .1,
-      s .pre .11,
-      s .pre .12,
+      s .pre .1 .sides .first-open,
+      s .pre .1 .sides .second-open,
       walk-none _ _ _ (c .block-of .result) (s .args .first .now) (rw e refl) (b .1),
       walk-none _ _ _ (c .block-of .result) (s .args .second .now) (rw e refl) (b .1),
     )
@@ -85,7 +86,7 @@ shared-slice-read-bounds-of c =
     let t = c .before .before .before in
     let a = t .before .before in
     let s = a .before .before .before .before .before .before .before .before .before .before .before .before .before in
-    has-ends (a .loop .block) (s .args .span .«last_bin») (length (s .args .table .now)) (length (s .args .lows .now)) (t .if1 .taken) (omega (arith, s .pre .6 .inside, s .pre .15)) (s .pre .6 .lows-long)
+    has-ends (a .loop .block) (s .args .span .«last_bin») (length (s .args .table .now)) (length (s .args .lows .now)) (omega (arith, t .if1 .taken)) (omega (arith, s .pre .2 .spanned .ready .inside, s .pre .2 .spanned .last)) (s .pre .2 .spanned .ready .lows-long)
 
 mul-bounds-of-2 : tie.Need-mul-bounds-of-2 Inv-loop μ-loop
 mul-bounds-of-2 c = omega (arith, c .before .before .before .before .before .loop .inv .0)
@@ -95,14 +96,14 @@ shared-slice-read-bounds-of-2 c =
     let t = c .before .before .before .before in
     let a = t .before .before in
     let s = a .before .before .before .before .before .before .before .before .before .before .before .before .before in
-    has-ends (a .loop .block) (s .args .span .«last_bin») (length (s .args .table .now)) (length (s .args .highs .now)) (t .if1 .taken) (omega (arith, s .pre .6 .inside, s .pre .15)) (s .pre .6 .highs-long)
+    has-ends (a .loop .block) (s .args .span .«last_bin») (length (s .args .table .now)) (length (s .args .highs .now)) (omega (arith, t .if1 .taken)) (omega (arith, s .pre .2 .spanned .ready .inside, s .pre .2 .spanned .last)) (s .pre .2 .spanned .ready .highs-long)
 
 bounds-of-requires : tie.Need-bounds-of-requires Inv-loop μ-loop
 bounds-of-requires c κs =
     let t = c .before .before .before .before in
     let a = t .before .before in
     let s = a .before .before .before .before .before .before .before .before .before .before .before .before .before in
-    (s .pre .0, omega (arith, a .loop .inv .3, s .pre .3), s .pre .7, s .pre .8, s .pre .9)
+    (s .pre .0 .gaussians, omega (arith, a .loop .inv .3, s .pre .0 .few), s .pre .2 .columns .room .centers-long, s .pre .2 .columns .room .strengths-long, s .pre .2 .columns .room .peaks-long)
 
 -- the ends of a block's row
 row-ends : (block last n end : ℕ) → block * 64 < last → last < n → end ≡ min (1 + block * 64 + 64) n → (1 + block * 64 ≤ end) × (end ≤ 1 + block * 64 + 64) × (end ≤ n) × (end ≤ 65 + 64 * block)
@@ -119,24 +120,16 @@ raise-block-requires c κs =
     let a = t .before .before in
     let s = a .before .before .before .before .before .before .before .before .before .before .before .before .before in
     let i = a .loop .inv in
-    let e = row-ends (a .loop .block) (s .args .span .«last_bin») (length (s .args .table .now)) (l .lesser2 .result) (t .if1 .taken) (omega (arith, s .pre .6 .inside, s .pre .15)) (l .lesser2 .ensures) in
+    let e = row-ends (a .loop .block) (s .args .span .«last_bin») (length (s .args .table .now)) (l .lesser2 .result) (omega (arith, t .if1 .taken)) (omega (arith, s .pre .2 .spanned .ready .inside, s .pre .2 .spanned .last)) (l .lesser2 .ensures) in
     let z : 1 + 64 * a .loop .block ≡ 1 + a .loop .block * 64 = omega arith in (
-      s .pre .0,
-      s .pre .1,
-      s .pre .2,
-      s .pre .3,
-      omega (arith, o .bounds-of .kept, i .3, s .pre .3),
-      e .0,
-      i .1,
-      i .2,
-      e .1,
-      e .2,
-      omega (arith, s .pre .6 .last),
-      i .5,
-      i .6,
-      s .pre .13,
-      s .pre .14,
-      rw z at (block-bounded (s .pre .6 .ends) (s .pre .6 .table-real) (a .loop .block) (s .args .grid) (s .args .lobes) (s .args .count) (s .args .centers .now) (s .args .strengths .now) (s .args .peaks .now) (a .loop .bounds) (s .pre .1) (s .pre .10) (omega (arith, i .3, s .pre .3)) (l .lesser2 .result) (e .3) (e .2) (o .bounds-of .ensures)),
+      record { gaussians = s .pre .0 .gaussians; scratch = record { chunk-64 = i .1; indexes-64 = i .2 }; few = s .pre .0 .few; sound = s .pre .0 .sound },
+      record { sides = record { first-open = i .5; second-open = i .6 }; gains = s .pre .1 .gains },
+      record {
+        block = record { from = e .0; most = e .1; inside = e .2; last = omega (arith, s .pre .2 .spanned .ready .last) };
+        some = s .pre .2 .spanned .some;
+        bounds-long = omega (arith, o .bounds-of .kept, i .3, s .pre .0 .few);
+        bounds = rw z at (block-bounded (s .pre .2 .spanned .ready .ends) (s .pre .2 .spanned .ready .table-real) (a .loop .block) (s .args .grid) (s .args .lobes) (s .args .count) (s .args .centers .now) (s .args .strengths .now) (s .args .peaks .now) (a .loop .bounds) (s .pre .0 .sound) (s .pre .2 .columns .values) (omega (arith, i .3, s .pre .0 .few)) (l .lesser2 .result) (e .3) (e .2) (o .bounds-of .ensures));
+      },
     )
 
 add-block : tie.Need-add-block Inv-loop μ-loop
@@ -149,7 +142,7 @@ loop-less c =
     let t = c .before .before .before .before .before .before .before .before .before .before .before .before .before .before .before .before .before .before .before .before in
     let a = t .before .before in
     let s = a .before .before .before .before .before .before .before .before .before .before .before .before .before in
-    omega (arith, t .if1 .taken, s .pre .6 .last, s .pre .15)
+    omega (arith, t .if1 .taken, s .pre .2 .spanned .ready .last, s .pre .2 .spanned .last)
 
 loop-again : tie.Need-loop-again Inv-loop μ-loop
 loop-again c =
@@ -160,17 +153,17 @@ loop-again c =
     let a = t .before .before in
     let s = a .before .before .before .before .before .before .before .before .before .before .before .before .before in
     let i = a .loop .inv in
-    let last : s .args .span .«last_bin» < length (s .args .table .now) = omega (arith, s .pre .6 .inside, s .pre .15) in
-    let few : s .args .count ≤ length (s .args .lobes) = omega (arith, i .4, s .pre .3) in
+    let last : s .args .span .«last_bin» < length (s .args .table .now) = omega (arith, s .pre .2 .spanned .ready .inside, s .pre .2 .spanned .last) in
+    let few : s .args .count ≤ length (s .args .lobes) = omega (arith, i .4, s .pre .0 .few) in
     let first = rw (l .lesser2 .ensures) at (r .raise-block .ensures .0) in
     let second = rw (l .lesser2 .ensures) at (r .raise-block .ensures .1) in (
-      omega (arith, t .if1 .taken, s .pre .6 .last, s .pre .15),
+      omega (arith, t .if1 .taken, s .pre .2 .spanned .ready .last, s .pre .2 .spanned .last),
       omega (arith, r .raise-block .kept .1 .1 .0, i .1),
       omega (arith, r .raise-block .kept .1 .1 .1, i .2),
       omega (arith, o .bounds-of .kept, i .3),
       i .4,
-      range-open (s .args .grid) (s .args .table .now) (s .args .lobes) (s .args .count) (s .pre .1) few (s .pre .13) _ _ (a .loop .first) (i .5) (r .raise-block .ensures .0),
-      range-open (s .args .grid) (s .args .table .now) (s .args .lobes) (s .args .count) (s .pre .1) few (s .pre .14) _ _ (a .loop .second) (i .6) (r .raise-block .ensures .1),
+      range-open (s .args .grid) (s .args .table .now) (s .args .lobes) (s .args .count) (s .pre .0 .sound) few (s .pre .1 .gains .first-gain) _ _ (a .loop .first) (i .5) (r .raise-block .ensures .0),
+      range-open (s .args .grid) (s .args .table .now) (s .args .lobes) (s .args .count) (s .pre .0 .sound) few (s .pre .1 .gains .second-gain) _ _ (a .loop .second) (i .6) (r .raise-block .ensures .1),
       walk-next _ _ (length (s .args .table .now)) (a .loop .block) (i .7) (omega (arith, t .if1 .taken, last)) first,
       walk-next _ _ (length (s .args .table .now)) (a .loop .block) (i .8) (omega (arith, t .if1 .taken, last)) second,
     )
@@ -185,13 +178,13 @@ same-length-3 : tie.Need-same-length-3 Inv-loop μ-loop
 same-length-3 c =
     let a = c .before .before in
     let s = a .before .before .before .before .before .before .before .before .before .before .before .before .before in
-    a .loop .inv .1 ∙ sym (s .pre .4)
+    a .loop .inv .1 ∙ sym (s .pre .0 .scratch .chunk-64)
 
 same-length-4 : tie.Need-same-length-4 Inv-loop μ-loop
 same-length-4 c =
     let a = c .before .before in
     let s = a .before .before .before .before .before .before .before .before .before .before .before .before .before in
-    a .loop .inv .2 ∙ sym (s .pre .5)
+    a .loop .inv .2 ∙ sym (s .pre .0 .scratch .indexes-64)
 
 -- the walk ends above the last bin, and began at or below the first
 passes : (first last block n : ℕ) → last ≤ block * 64 → last < n → (1 + 64 * blockOf (min first last) ≤ max first 1) × (last < min (1 + 64 * block) n)
@@ -203,9 +196,9 @@ returns c =
     let s = a .before .before .before .before .before .before .before .before .before .before .before .before .before in
     let i = a .loop .inv in
     let span = s .args .span in
-    let few : s .args .count ≤ length (s .args .lobes) = omega (arith, i .4, s .pre .3) in
-    let p = passes (span .«first_bin») (span .«last_bin») (a .loop .block) (length (s .args .table .now)) (c .if1 .left) (omega (arith, s .pre .6 .inside, s .pre .15)) in
-    let within = from-first (s .args .grid) (s .args .lobes) (s .args .count) (s .pre .1) (s .pre .16) in (
+    let few : s .args .count ≤ length (s .args .lobes) = omega (arith, i .4, s .pre .0 .few) in
+    let p = passes (span .«first_bin») (span .«last_bin») (a .loop .block) (length (s .args .table .now)) (omega (arith, c .if1 .left)) (omega (arith, s .pre .2 .spanned .ready .inside, s .pre .2 .spanned .last)) in
+    let within = from-first (s .args .grid) (s .args .lobes) (s .args .count) (s .pre .0 .sound) (s .pre .2 .spanned .within) in (
       i .7 .is ∙ walked (s .args .grid) (lent (s .args .table .now)) (s .args .gains .first) (s .args .lobes) (s .args .count) few within _ _ (s .args .first .now) (p .0) (p .1),
       i .8 .is ∙ walked (s .args .grid) (lent (s .args .table .now)) (s .args .gains .second) (s .args .lobes) (s .args .count) few within _ _ (s .args .second .now) (p .0) (p .1),
     )

@@ -1,4 +1,5 @@
--- `rasterize_compact_harmonic_envelope` walks where that pays, and else leaves both sides as they are. Assumes nothing.
+-- `rasterize_compact_harmonic_envelope` walks where that pays, and else leaves both sides as they
+-- are. Assumes nothing.
 use native.Mathlib.Omega.{arith}
 use borrow.Author.Needs.{needs}
 use Rattle.block_walk.proofs.compact.rasterize_compact_harmonic_envelope.Statement.{statement}
@@ -10,7 +11,7 @@ returns c = search needs
 span-of-requires : tie.Need-span-of-requires
 span-of-requires c κs =
     let s = c .before .before .before .before .before .before .before .before in
-    (s .pre .2, s .pre .5 .last, λ p h. omega (arith, s .pre .1 p h .last))
+    (s .pre .0 .few, s .pre .2 .last, λ p h. omega (arith, s .pre .0 .sound p h .last))
 
 mul-if2 : tie.Need-mul-if2
 mul-if2 c = search needs
@@ -25,7 +26,7 @@ walk-requires : tie.Need-walk-requires
 walk-requires c κs =
     let n = c .before .before .before .before .before .before .before in
     let s = n .before .before .before .before .before .before .before .before .before in
-    (s .pre .0, s .pre .1, omega (arith, n .before .if1 .left), s .pre .2, s .pre .3, s .pre .4, s .pre .5, s .pre .6, s .pre .7, s .pre .8, s .pre .9, n .span-of .ensures .0, n .span-of .ensures .2)
+    (s .pre .0, s .pre .1, record { some = omega (arith, n .before .if1 .left); ready = s .pre .2; last = n .span-of .ensures .0; within = n .span-of .ensures .2 })
 
 same-length : tie.Need-same-length
 same-length c = search needs

@@ -30,24 +30,23 @@ raise-blocks-requires : tie.Need-raise-blocks-requires
 raise-blocks-requires c κs =
     let o = c .before .before .before .before .before .before .before .before .before .before in
     let s = o .before .before .before .before .before .before .before .before .before .before .before in
-    let e = o .columns-of .ensures in (
+    let e = o .columns-of .ensures in
+    let few = s .pre .0 .few in (
       s .pre .0,
       s .pre .1,
-      s .pre .2,
-      s .pre .3,
-      s .pre .4,
-      s .pre .5,
-      s .pre .6,
-      omega (arith, o .columns-of .kept .0, s .pre .3),
-      omega (arith, o .columns-of .kept .1 .0, s .pre .3),
-      omega (arith, o .columns-of .kept .1 .1, s .pre .3),
-      λ p h. (column-at _ (s .args .count) _ (s .pre .3) (e .0) p h, column-at _ (s .args .count) _ (s .pre .3) (e .1) p h, column-at _ (s .args .count) _ (s .pre .3) (e .2) p h),
-      s .pre .7,
-      s .pre .8,
-      s .pre .9,
-      s .pre .10,
-      s .pre .11,
-      s .pre .12,
+      record {
+        spanned = s .pre .2;
+        columns =
+            record {
+              room =
+                  record {
+                    centers-long = omega (arith, o .columns-of .kept .0, few);
+                    strengths-long = omega (arith, o .columns-of .kept .1 .0, few);
+                    peaks-long = omega (arith, o .columns-of .kept .1 .1, few);
+                  };
+              values = λ p h. (column-at _ (s .args .count) _ few (e .0) p h, column-at _ (s .args .count) _ few (e .1) p h, column-at _ (s .args .count) _ few (e .2) p h);
+            };
+      },
     )
 
 same-length : tie.Need-same-length

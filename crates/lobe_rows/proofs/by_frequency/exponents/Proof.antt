@@ -1,5 +1,6 @@
--- `exponents` replaces the first `count` octaves: of those below k each is the exponent of its bell. Assumes nothing.
-use mathlib.Core.Path.{ap, _∙_}
+-- `exponents` replaces the first `count` octaves: of those below k each is the exponent of its
+-- bell. Assumes nothing.
+use mathlib.Core.Path.{ap}
 use mathlib.Core.Logic.{inl}
 use Prim.Native.Nat.{_-_, _≤_}
 use native.Mathlib.Omega.{arith}

@@ -21,9 +21,8 @@ steps-requires : tie.Need-steps-requires
 steps-requires c κs =
     let p = c .before .before .before .before in
     let s = p .before .before .before .before .before in (
-      omega (arith, s .pre .1, p .places .kept .0),
-      s .pre .2,
-      placed-in-table (place-at s) (s .args .count) (s .args .chunk .now) (s .pre .1) (λ k. in-table _ _) (p .places .ensures),
+      record { in-chunk = omega (arith, s .pre .1 .in-chunk, p .places .kept .0); in-indexes = s .pre .1 .in-indexes },
+      placed-in-table (place-at s) (s .args .count) (s .args .chunk .now) (s .pre .1 .in-chunk) (λ k. in-table _ _) (p .places .ensures),
     )
 
 lines-requires : tie.Need-lines-requires
@@ -32,9 +31,11 @@ lines-requires c κs =
     let p = t .before .before .before .before .before in
     let s = p .before .before .before .before .before in (
       s .pre .0,
-      omega (arith, s .pre .1, p .places .kept .0, t .steps .kept .0),
-      omega (arith, s .pre .2, t .steps .kept .1 .0),
-      index-most (place-at s) (s .args .count) (s .args .chunk .now) (s .pre .1) (p .places .ensures) (s .args .indexes .now) (s .pre .2) (t .steps .ensures .1),
+      record {
+        in-chunk = omega (arith, s .pre .1 .in-chunk, p .places .kept .0, t .steps .kept .0);
+        in-indexes = omega (arith, s .pre .1 .in-indexes, t .steps .kept .1 .0);
+      },
+      index-most (place-at s) (s .args .count) (s .args .chunk .now) (s .pre .1 .in-chunk) (p .places .ensures) (s .args .indexes .now) (s .pre .1 .in-indexes) (t .steps .ensures .1),
     )
 
 same-length : tie.Need-same-length
@@ -49,7 +50,7 @@ returns c =
     let t = l .before .before .before .before .before .before .before in
     let p = t .before .before .before .before .before in
     let s = p .before .before .before .before .before in
-    belled (place-at s) (s .args .count) (s .args .chunk .now) (s .pre .1) (p .places .ensures) (s .args .indexes .now) (s .pre .2) (t .steps .ensures .1) (t .steps .ensures .0) (l .lines .ensures)
+    belled (place-at s) (s .args .count) (s .args .chunk .now) (s .pre .1 .in-chunk) (p .places .ensures) (s .args .indexes .now) (s .pre .1 .in-indexes) (t .steps .ensures .1) (t .steps .ensures .0) (l .lines .ensures)
 
 pub bells-spec : {M : Type 1} → statement M
 bells-spec =

@@ -1,4 +1,5 @@
--- `lines` replaces the first `count` parts: of those below k each is the line from its own entry. Assumes nothing.
+-- `lines` replaces the first `count` parts: of those below k each is the line from its own entry.
+-- Assumes nothing.
 use mathlib.Core.Logic.{inl}
 use Prim.Native.Nat.{_-_, _≤_}
 use native.Mathlib.Omega.{arith}
@@ -36,7 +37,7 @@ line-requires : tie.Need-line-requires Inv-loop μ-loop
 line-requires c κs =
     let l = c .before .before in
     let s = l .before .before .before .before in
-    (s .pre .0, s .pre .3 (l .before .loop .k) (l .loop-test .taken))
+    (s .pre .0, s .pre .2 (l .before .loop .k) (l .loop-test .taken))
 
 mul-chunk : tie.Need-mul-chunk Inv-loop μ-loop
 mul-chunk c = search needs

@@ -1,4 +1,5 @@
--- `openings` goes by the table where one was lent, and else each bin by its frequency. Assumes nothing.
+-- `openings` goes by the table where one was lent, and else each bin by its frequency. Assumes
+-- nothing.
 use borrow.Author.Needs.{needs}
 use Rattle.lobe_rows.proofs.chunk.openings.Statement.{statement}
 use Rattle.lobe_rows.proofs.chunk.openings.Tie as tie
@@ -6,7 +7,7 @@ use Rattle.lobe_rows.proofs.chunk.openings.Tie as tie
 openings-by-table-requires : tie.Need-openings-by-table-requires
 openings-by-table-requires c κs =
     let s = c .before .before .before .before .before .before in
-    (s .pre .1, s .pre .2, s .pre .3, s .pre .4, s .pre .6 (c .before .before .if1 .taken))
+    (s .pre .0 .gaussians, s .pre .1, record { log-of-center = s .pre .2 .log-of-center; inside = s .pre .2 .inside (c .before .before .if1 .taken) })
 
 same-length : tie.Need-same-length
 same-length c = search needs

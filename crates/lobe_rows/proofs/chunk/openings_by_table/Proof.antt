@@ -22,7 +22,7 @@ returns c =
     let p = c .before .before .before .before .before .before .before .before in
     let s = p .before .before .before .before .before .before in
     let e = rw (p .bells .ensures) at (c .before .before .openings-of-bells .ensures) in
-    e ∙ staged (s .args .grid) (s .args .lobe) (s .args .table .now) (s .args .lobe .«center_log2») (s .args .start) (s .args .count) (s .pre .1) (s .args .chunk .now)
+    e ∙ staged (s .args .grid) (s .args .lobe) (s .args .table .now) (s .args .lobe .«center_log2») (s .args .start) (s .args .count) (s .pre .2 .log-of-center) (s .args .chunk .now)
 
 pub openings-by-table-spec : {M : Type 1} → statement M
 openings-by-table-spec =

@@ -1,4 +1,5 @@
--- `openings_of_bells` replaces the first `count` bells: of those below k each is what the lobe opens under it. Assumes nothing.
+-- `openings_of_bells` replaces the first `count` bells: of those below k each is what the lobe
+-- opens under it. Assumes nothing.
 use mathlib.Core.Logic.{inl}
 use Prim.Native.Nat.{_-_, _≤_}
 use native.Mathlib.Omega.{arith}

@@ -1,4 +1,5 @@
--- `places` replaces the first `count` entries: of those below k each is a place, by the distance that the table gives. Assumes nothing.
+-- `places` replaces the first `count` entries: of those below k each is a place, by the distance
+-- that the table gives. Assumes nothing.
 use mathlib.Core.Logic.{inl}
 use Prim.Native.Nat.{_+_, _-_, _≤_}
 use native.Mathlib.Omega.{arith}

@@ -1,4 +1,5 @@
--- `steps` replaces the first `count` places, and as many indexes: of those below k each is what `step_of` ensures. Assumes nothing.
+-- `steps` replaces the first `count` places, and as many indexes: of those below k each is what
+-- `step_of` ensures. Assumes nothing.
 use mathlib.Core.Path.{sym, ap, _∙_, subst}
 use mathlib.Core.Logic.{inl}
 use Prim.Native.Nat.{_-_, _≤_}
@@ -32,7 +33,7 @@ step-of-requires : tie.Need-step-of-requires Inv-loop μ-loop
 step-of-requires c κs =
     let l = c .before .before in
     let s = l .before .before .before in
-    subst Place (sym (turned-read nan (l .loop .inv .0) (omega (arith, s .pre .0)))) (s .pre .2 (l .loop .k) (c .before .loop-test .taken))
+    subst Place (sym (turned-read nan (l .loop .inv .0) (omega (arith, s .pre .0 .in-chunk)))) (s .pre .1 (l .loop .k) (c .before .loop-test .taken))
 
 mul-chunk : tie.Need-mul-chunk Inv-loop μ-loop
 mul-chunk c = search needs
@@ -56,9 +57,9 @@ loop-again : tie.Need-loop-again Inv-loop μ-loop
 loop-again c =
     let l = c .before .before .before in
     let s = l .before .before .before in
-    let read = turned-read nan (l .loop .inv .0) (omega (arith, s .pre .0)) in (
-      turned-next nan (l .loop .inv .0) (omega (arith, s .pre .0)) (c .step-of .ensures .1),
-      turned-more 0 (l .loop .inv .1) (omega (arith, s .pre .1)) (c .step-of .ensures .0 ∙ ap indexOf read),
+    let read = turned-read nan (l .loop .inv .0) (omega (arith, s .pre .0 .in-chunk)) in (
+      turned-next nan (l .loop .inv .0) (omega (arith, s .pre .0 .in-chunk)) (c .step-of .ensures .1),
+      turned-more 0 (l .loop .inv .1) (omega (arith, s .pre .0 .in-indexes)) (c .step-of .ensures .0 ∙ ap indexOf read),
       omega arith,
     )
 

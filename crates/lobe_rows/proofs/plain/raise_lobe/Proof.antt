@@ -1,4 +1,5 @@
--- `raise_lobe` joins the lobe to both sides: on each every bin from the lobe's first on and below `start` is joined, and a chunk holds the openings of those that come next. Assumes nothing.
+-- `raise_lobe` joins the lobe to both sides: on each every bin from the lobe's first on and below
+-- `start` is joined, and a chunk holds the openings of those that come next. Assumes nothing.
 use mathlib.Core.Path.{_≡_, refl, _∙_}
 use mathlib.Core.Logic.{_⊎_, inl, inr}
 use Prim.Native.Nat.{_+_, _-_, _≤_}
@@ -44,12 +45,15 @@ openings-requires c κs =
     let l = n .before .before in
     let s = l .before .before .before .before .before .before .before in (
       s .pre .0,
-      s .pre .1,
-      s .pre .4,
-      omega (arith, n .lesser .ensures),
-      omega (arith, n .lesser .ensures, s .pre .3, l .loop .inv .0, l .loop .inv .1),
-      omega (arith, n .lesser .ensures, s .pre .5),
-      λ e. omega (arith, n .lesser .ensures, s .pre .6 e),
+      record {
+        in-chunk = omega (arith, n .lesser .ensures);
+        in-indexes = omega (arith, n .lesser .ensures, s .pre .1 .chunk-64, s .pre .1 .indexes-64, l .loop .inv .0, l .loop .inv .1);
+      },
+      record {
+        log-of-center = s .pre .2 .log-of-center;
+        last = omega (arith, n .lesser .ensures, s .pre .2 .last);
+        inside = λ e. omega (arith, n .lesser .ensures, s .pre .2 .inside e);
+      },
     )
 
 join-requires : tie.Need-join-requires Inv-loop μ-loop
@@ -59,7 +63,12 @@ join-requires-2 : tie.Need-join-requires-2 Inv-loop μ-loop
 join-requires-2 c κs = search needs
 
 loop-less : tie.Need-loop-less Inv-loop μ-loop
-loop-less c = search needs
+loop-less c =
+    let o = c .before .before .before .before .before .before .before .before .before .before .before .before .before .before in
+    let n = o .before .before .before in
+    let l = n .before .before in
+    let s = l .before .before .before .before .before .before .before in
+    omega (arith, n .before .loop-test .taken, n .lesser .ensures, l .loop .inv .0, s .pre .1 .chunk-64)
 
 loop-again : tie.Need-loop-again Inv-loop μ-loop
 loop-again c =

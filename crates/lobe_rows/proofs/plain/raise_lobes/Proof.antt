@@ -1,4 +1,5 @@
--- `raise_lobes` joins the lobes to both sides: joining those from the one at hand on, to what stands there now, is joining them all to what stood there. Assumes nothing.
+-- `raise_lobes` joins the lobes to both sides: joining those from the one at hand on, to what
+-- stands there now, is joining them all to what stood there. Assumes nothing.
 use mathlib.Core.Path.{_≡_, refl, sym, _∙_}
 use Prim.Native.Nat.{_-_, _≤_}
 use native.Mathlib.Omega.{arith}
@@ -33,21 +34,18 @@ mul-lobe : tie.Need-mul-lobe Inv-loop μ-loop
 mul-lobe c = omega arith
 
 array-copy-out-lobe : tie.Need-array-copy-out-lobe Inv-loop μ-loop
-array-copy-out-lobe c = omega (arith, c .loop-test .taken, c .before .before .before .before .before .before .before .pre .4)
+array-copy-out-lobe c = omega (arith, c .loop-test .taken, c .before .before .before .before .before .before .before .pre .2 .few)
 
 raise-lobe-requires : tie.Need-raise-lobe-requires Inv-loop μ-loop
 raise-lobe-requires c κs =
     let n = c .before .before .before .before .before in
     let l = n .before in
     let s = l .before .before .before .before .before .before in
-    let w = s .pre .7 (l .loop .p) (n .loop-test .taken) in (
+    let w = s .pre .2 .known (l .loop .p) (n .loop-test .taken) in
+    let g = s .pre .2 .on-grid in (
       s .pre .0,
-      s .pre .1,
-      omega (arith, s .pre .2, l .loop .inv .3),
-      omega (arith, s .pre .3, l .loop .inv .3, l .loop .inv .4),
-      w .0,
-      omega (arith, w .1, s .pre .5),
-      λ e. omega (arith, w .1, s .pre .6 e),
+      record { chunk-64 = l .loop .inv .3 ∙ s .pre .1 .chunk-64; indexes-64 = l .loop .inv .4 ∙ s .pre .1 .indexes-64 },
+      record { log-of-center = w .0; last = omega (arith, w .1, g .last); inside = λ e. omega (arith, w .1, g .inside e) },
     )
 
 add-p : tie.Need-add-p Inv-loop μ-loop
@@ -62,7 +60,7 @@ loop-again c =
     let n = r .before .before .before .before .before .before in
     let l = n .before in
     let s = l .before .before .before .before .before .before in
-    let some : s .args .count ≤ length (s .args .t10) = omega (arith, s .pre .4, l .loop .inv .0) in (
+    let some : s .args .count ≤ length (s .args .t10) = omega (arith, s .pre .2 .few, l .loop .inv .0) in (
       l .loop .inv .0,
       omega (arith, r .raise-lobe .kept .0, l .loop .inv .1),
       omega (arith, r .raise-lobe .kept .1 .0, l .loop .inv .2),

@@ -1,4 +1,5 @@
--- `raise_tone` raises the lobes of the partials together or one after the other; either way that is joining the tone. Assumes nothing.
+-- `raise_tone` raises the lobes of the partials together or one after the other; either way that is
+-- joining the tone. Assumes nothing.
 use mathlib.Core.Path.{_≡_, ap, _∙_, subst}
 use mathlib.Core.Bool.{Bool}
 use mathlib.Core.List.{List}
@@ -28,17 +29,16 @@ raised-together-requires c κs =
     let s = n .before .before .before .before .before .before .before .before .before in
     let of = o .lobes-of .ensures .0 in
     record {
-      gaussians = s .pre .gaussians;
+      gaussians = s .pre .tables .gaussians;
       scratch = s .pre .scratch;
-      few = omega (arith, s .pre .on-grid .few, n .partials-of .ensures .1);
+      few = omega (arith, s .pre .few, n .partials-of .ensures .1);
       walk = λ e.
           let k = s .pre .walk e in
           record {
             sides = k .sides;
             sound = k .tone-ready .sound (o .lobes-of .result) (n .partials-of .result) (n .partials-of .ensures .0)
                 (subst (λ (b : Bool). take (n .partials-of .result) (o .lobes-of .result) ≡ lobesOf (s .args .way .grid) (logsOf b (s .args .table .now)) (s .args .tone)) (k .by-table) of);
-            first-gain = k .tone-ready .first-gain;
-            second-gain = k .tone-ready .second-gain;
+            gains = k .tone-ready .gains;
           };
     }
 
@@ -75,14 +75,16 @@ raise-lobes-requires c κs =
     let o = r .before .before .before .before .before in
     let n = o .before in
     let s = n .before .before .before .before .before .before .before .before .before in (
-      s .pre .powers,
-      s .pre .gaussians,
-      omega (arith, r .raised-together .kept .1 .1 .0, s .pre .scratch .chunk-64),
-      omega (arith, r .raised-together .kept .1 .1 .0, r .raised-together .kept .1 .1 .1, s .pre .scratch .chunk-64, s .pre .scratch .indexes-64),
-      omega (arith, s .pre .on-grid .few, n .partials-of .ensures .1),
-      s .pre .on-grid .last,
-      s .pre .on-grid .inside,
-      known-lobes (s .args .way .grid) _ (s .args .tone) (o .lobes-of .result) (n .partials-of .result) (n .partials-of .ensures .0) (o .lobes-of .ensures .0),
+      s .pre .tables,
+      record {
+        chunk-64 = omega (arith, r .raised-together .kept .1 .1 .0, s .pre .scratch .chunk-64);
+        indexes-64 = omega (arith, r .raised-together .kept .1 .1 .1, s .pre .scratch .indexes-64);
+      },
+      record {
+        few = omega (arith, s .pre .few, n .partials-of .ensures .1);
+        on-grid = s .pre .on-grid;
+        known = known-lobes (s .args .way .grid) _ (s .args .tone) (o .lobes-of .result) (n .partials-of .result) (n .partials-of .ensures .0) (o .lobes-of .ensures .0);
+      },
     )
 
 same-length-5 : tie.Need-same-length-5

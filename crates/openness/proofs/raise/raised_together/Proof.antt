@@ -9,8 +9,11 @@ compact-requires : tie.Need-rasterize-compact-harmonic-envelope-requires
 compact-requires c κs =
     let t = c .before .before .before .before .before in
     let s = t .before .before .before .before .before .before .before .before in
-    let k = s .pre .walk (t .if1 .taken) in
-    (s .pre .gaussians, k .sound, s .pre .few, s .pre .scratch .chunk-64, s .pre .scratch .indexes-64, k .sides .ready, k .sides .first-open, k .sides .second-open, k .first-gain, k .second-gain)
+    let k = s .pre .walk (t .if1 .taken) in (
+      record { gaussians = s .pre .gaussians; scratch = s .pre .scratch; few = s .pre .few; sound = k .sound },
+      record { sides = k .sides .sides; gains = k .gains },
+      k .sides .ready,
+    )
 
 same-length : tie.Need-same-length
 same-length c = search needs

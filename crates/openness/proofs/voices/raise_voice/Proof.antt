@@ -1,4 +1,5 @@
--- `raise_voice` leaves both sides as they are where the voice is skipped, and else joins its tone by its gains. Assumes nothing.
+-- `raise_voice` leaves both sides as they are where the voice is skipped, and else joins its tone
+-- by its gains. Assumes nothing.
 use Rattle.openness.specs.Sides.{firstSide, secondSide}
 use Rattle.openness.proofs.EachVoice.{voice-skipped, voice-joined}
 use Rattle.openness.proofs.ReadyVoices.{tone-ready}
@@ -21,10 +22,10 @@ raise-tone-requires c κs =
     let t = g .before in
     let s = t .before .before .before .before .before .before .before .before .before .before .before in
     record {
-      powers = s .pre .tables .powers;
+      tables = s .pre .tables;
       octaves = s .pre .octaves;
-      gaussians = s .pre .tables .gaussians;
       scratch = s .pre .scratch;
+      few = s .pre .few;
       on-grid = s .pre .on-grid;
       walk = λ e.
           let k = s .pre .walk e in

@@ -1,4 +1,5 @@
--- `raise_voices` joins the voices to both sides: joining those from the one at hand on, to what stands there now, is joining them all to what stood there. Assumes nothing.
+-- `raise_voices` joins the voices to both sides: joining those from the one at hand on, to what
+-- stands there now, is joining them all to what stood there. Assumes nothing.
 use mathlib.Core.Path.{_≡_, refl, sym, _∙_}
 use mathlib.Core.Bool.{true}
 use Prim.Native.Nat.{_-_, _≤_}
@@ -7,7 +8,7 @@ use lib.ListN.{length, getD}
 use Rattle.scene.specs.Accepted.{noVoice}
 use Rattle.lobes.specs.Distance.{logsOf}
 use Rattle.lobes.specs.Pan.{channelGain}
-use Rattle.block_rows.specs.Most.{Opennesses}
+use Rattle.block_rows.specs.Premises.{SidesOpen}
 use Rattle.openness.specs.Sides.{firstSide, secondSide}
 use Rattle.openness.proofs.EachVoice.{voices-from, voices-next, voices-end}
 use Rattle.openness.proofs.ReadyVoices.{voice-open, voice-real}
@@ -24,7 +25,7 @@ Inv-loop first₀ second₀ chunk₀ indexes₀ powers octaves sines gaussians w
     × (length indexes ≡ length indexes₀)
     × (voices-from (way .grid) (logsOf (way .tabled) table) (channelGain (firstSide (way .stereo))) voices count index first ≡ voices-from (way .grid) (logsOf (way .tabled) table) (channelGain (firstSide (way .stereo))) voices count 0 first₀)
     × (voices-from (way .grid) (logsOf (way .tabled) table) (channelGain (secondSide (way .stereo))) voices count index second ≡ voices-from (way .grid) (logsOf (way .tabled) table) (channelGain (secondSide (way .stereo))) voices count 0 second₀)
-    × (way .compact ≡ true → Opennesses first × Opennesses second)
+    × (way .compact ≡ true → SidesOpen first second)
 
 abbrev μ-loop : tie.MeasureT-loop
 μ-loop first₀ second₀ chunk₀ indexes₀ powers octaves sines gaussians way table lows highs count voices index₀ first second chunk indexes index =
@@ -33,7 +34,7 @@ abbrev μ-loop : tie.MeasureT-loop
 loop-holds : tie.Need-loop-holds Inv-loop μ-loop
 loop-holds c =
     let s = c .before .before .before .before .before .before .before in
-    (s .good .1 .1 .1 .1 .1 .1 .1 .1 .1 .1 .1 .1 .0 .1 .0 .1, refl, refl, refl, refl, refl, refl, λ e. (s .pre .walk e .sides .first-open, s .pre .walk e .sides .second-open))
+    (s .good .1 .1 .1 .1 .1 .1 .1 .1 .1 .1 .1 .1 .0 .1 .0 .1, refl, refl, refl, refl, refl, refl, λ e. s .pre .walk e .sides .sides)
 
 mul-voice : tie.Need-mul-voice Inv-loop μ-loop
 mul-voice c = omega arith
@@ -49,14 +50,16 @@ raise-voice-requires c κs =
     let some : s .args .count ≤ length (s .args .t13) = omega (arith, s .pre .heard, l .loop .inv .0) in
     record {
       tables = s .pre .tables;
+      sines = s .pre .sines;
       octaves = s .pre .octaves;
       scratch = record { chunk-64 = l .loop .inv .3 ∙ s .pre .scratch .chunk-64; indexes-64 = l .loop .inv .4 ∙ s .pre .scratch .indexes-64 };
+      few = s .pre .few;
       on-grid = s .pre .on-grid;
       walk = λ e.
           let k = s .pre .walk e in
           record {
             by-table = k .by-table;
-            sides = record { ready = k .sides .ready; first-open = l .loop .inv .7 e .0; second-open = l .loop .inv .7 e .1 };
+            sides = record { ready = k .sides .ready; sides = l .loop .inv .7 e };
             grid-real = k .grid-real;
             voice-real = voice-real (s .args .t13) (s .args .count) (l .loop .index) some (k .voices-real) (n .loop-test .taken);
           };
@@ -85,10 +88,14 @@ loop-again c =
       voices-next _ _ _ _ _ (l .loop .index) _ some (n .loop-test .taken) (r .raise-voice .ensures .1) ∙ l .loop .inv .6,
       λ e.
           let k = s .pre .walk e in
+          let o = l .loop .inv .7 e in
           let u = voice-real (s .args .t13) (s .args .count) (l .loop .index) some (k .voices-real) (n .loop-test .taken) in
           let first = rw (k .by-table) at (r .raise-voice .ensures .0) in
           let second = rw (k .by-table) at (r .raise-voice .ensures .1) in
-          (voice-open (s .args .way .grid) (k .grid-real) (s .args .table .now) (firstSide (s .args .way .stereo)) voice u (l .loop .first) (l .loop .inv .7 e .0) first, voice-open (s .args .way .grid) (k .grid-real) (s .args .table .now) (secondSide (s .args .way .stereo)) voice u (l .loop .second) (l .loop .inv .7 e .1) second),
+          record {
+            first-open = voice-open (s .args .way .grid) (k .grid-real) (s .args .table .now) (firstSide (s .args .way .stereo)) voice u (l .loop .first) (o .first-open) first;
+            second-open = voice-open (s .args .way .grid) (k .grid-real) (s .args .table .now) (secondSide (s .args .way .stereo)) voice u (l .loop .second) (o .second-open) second;
+          },
     )
 
 same-length : tie.Need-same-length Inv-loop μ-loop

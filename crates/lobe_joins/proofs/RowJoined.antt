@@ -15,9 +15,9 @@ use Rattle.lobes.specs.declared.Lobe.{Lobe}
 use Rattle.lobes.specs.Distance.{lent}
 use Rattle.lobes.specs.Lobe.{opening}
 use Rattle.lobes.proofs.NoteLevels.{one-is}
 use Rattle.lobe_joins.specs.Joined.{lobeJoined}
 use Rattle.lobe_joins.proofs.Maxima.{joinWhere}
-use Rattle.block_rows.proofs.Highest.{InUnit}
+use Rattle.lobe_joins.proofs.Highest.{InUnit}
 
 module _ (grid : Grid) (table : List Float) (bin : ℕ) where
   abbrev pub reaches : Lobe → Bool

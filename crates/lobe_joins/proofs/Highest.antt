@@ -1,24 +1,26 @@
--- The highest of several openings, and what a bin holds once they are joined to it. A maximum keeps what it holds where the other is not above it, and what is above it is positive, so that equal
--- values are equal bits: so the order of joining does not count, an opening that is not above what a bin holds may be left out, and a gain may be applied once, to the highest. Assumes nothing.
+-- The highest of several openings, and what a bin holds once they are joined to it. A maximum keeps
+-- what it holds where the other is not above it, and what is above it is positive, so that equal
+-- values are equal bits: so the order of joining does not count, an opening that is not above what
+-- a bin holds may be left out, and a gain may be applied once, to the highest. Assumes nothing.
 use mathlib.Core.Path.{_≡_, refl, sym, ap, _∙_, subst}
 use mathlib.Core.Bool.{Bool, true, false, not, cond}
 use mathlib.Core.Logic.{_⊎_, inl, inr}
 use mathlib.Core.List.{List, [], _∷_}
 use lib.Dec.{T, lit≤}
-use lib.Ieee.{Float, binary32, le, lt, mul}
+use lib.Ieee.{Float, binary32, le, lt, mul, round}
 use Rattle.lists.specs.Folds.{fold}
 use Rattle.lists.specs.Totals.{All}
-use Rattle.float_laws.specs.Units.{number, real-number}
-use Rattle.float_laws.specs.Order.{le-antisymm-f, le-total-f, lt→le-f, not-lt-f, le→not-lt-f, lt-of-le-of-lt-f, lt-of-lt-of-le-f, eq→same, larger-right}
+use Rattle.float_laws.specs.Units.{real, real-number}
+use Rattle.float_laws.specs.Order.{le-trans-f, le-antisymm-f, le-total-f, lt→le-f, not-lt-f, le→not-lt-f, lt-of-le-of-lt-f, lt-of-lt-of-le-f, eq→same}
 use Rattle.float_laws.specs.Round.{plus-zero, real-zero}
-use Rattle.float_laws.specs.Mono.{above-zero, mul-mono-l}
+use Rattle.float_laws.specs.Ops.{mul-comm-f}
+use Rattle.float_laws.specs.Mono.{above-zero, mul-number, mul-mono-l, mul-turns-l}
 use Rattle.float_laws.specs.Rise.{Upto, upto-weaken, upto-mul, upto-maximum}
 use Rattle.float32.specs.Order.{maximum}
+use Rattle.float32.specs.Remainder.{zero}
 use Rattle.float32.proofs.OrderAgrees.{maximum-agrees, maximum-larger}
-use Rattle.lobe_joins.proofs.Maxima.{Openness, le-join, joinWhere, FitWhere, BelowWhere, where-join, AllBelow, fold-join}
-
-is-number : {o : Float} → Openness o → T (number binary32 o)
-is-number {o} u = real-number binary32 o (u .is-real)
+use Rattle.lobes.proofs.NoteLevels.{zero-is}
+use Rattle.lobe_joins.proofs.Maxima.{Openness, zero-unit, is-number, le-join, keeps, second-under, joinWhere, FitWhere, BelowWhere, where-join, AllBelow, fold-join}
 
 -- ---- one maximum
 pub keeps-higher : {h y : Float} → Openness h → Openness y → T (le y h) → maximum h y ≡ h
@@ -28,7 +30,7 @@ keeps-higher {h} {y} u v l = maximum-larger binary32 h y (is-number u) ∙ go (l
     go true n = absurd n
     go false n = refl
 
-takes-higher : {h y : Float} → Openness h → T (lt h y) → maximum h y ≡ y
+pub takes-higher : {h y : Float} → Openness h → T (lt h y) → maximum h y ≡ y
 takes-higher {h} {y} u l = maximum-larger binary32 h y (is-number u) ∙ go (lt h y) l
   where
     go : (b : Bool) → T b → cond b y h ≡ y
@@ -44,12 +46,6 @@ one-datum {h} {y} {z} u v w l a b =
     let p : T (lt plus-zero y) = lt-of-le-of-lt-f binary32 plus-zero h y zeros (is-number u) m (u .low) l in
     let q : T (lt plus-zero z) = lt-of-lt-of-le-f binary32 plus-zero y z zeros m n p a in
     eq→same binary32 y z m n (above-zero binary32 y m p .0 ∙ sym (above-zero binary32 z n q .0)) (le-antisymm-f binary32 y z m n a b)
-
-pub keeps : {s t : Float} → Openness s → Openness t → Openness (maximum s t)
-keeps {s} {t} u v = rw maximum-agrees (upto-maximum binary32 3 s t (lit≤ tt) u v)
-
-reaches : {s t : Float} → Openness s → Openness t → T (le t (maximum s t))
-reaches {s} {t} u v = rw (maximum-larger binary32 s t (is-number u)) (larger-right binary32 s t (is-number u) (is-number v))
 
 -- ---- two
 module _ {h y z : Float} (u : Openness h) (v : Openness y) (w : Openness z) where
@@ -68,7 +64,7 @@ module _ {h y z : Float} (u : Openness h) (v : Openness y) (w : Openness z) wher
       go false e = ap (λ (x : Float). maximum x z) (keeps-higher u v (not-lt-f binary32 h y (is-number u) (is-number v) (subst (λ (b : Bool). T (not b)) (sym e) tt)))
 
   lower-later : T (le z y) → maximum (maximum h y) z ≡ maximum h y
-  lower-later l = keeps-higher (keeps u v) w (le-join w v (keeps u v) l (reaches u v))
+  lower-later l = keeps-higher (keeps u v) w (le-join w v (keeps u v) l (second-under u v))
 
 module _ {h y z : Float} (u : Openness h) (v : Openness y) (w : Openness z) where
   pub either-order : maximum (maximum h y) z ≡ maximum (maximum h z) y
@@ -102,6 +98,26 @@ module _ {h s o gain : Float} (u : Openness h) (v : Upto binary32 0 s) (w : Upto
       go false e =
           let p : T (le o s) = not-lt-f binary32 s o (is-number a) (is-number b) (subst (λ (c : Bool). T (not c)) (sym e) tt) in
           lower-later u (gained v) (gained w) (rises w v p) ∙ ap (λ (x : Float). maximum h (mul binary32 x gain)) (sym (keeps-higher a b p))
+
+no-zero : T (le plus-zero plus-zero)
+unfolding le
+no-zero = tt
+
+zeros : mul binary32 plus-zero plus-zero ≡ plus-zero
+unfolding mul round
+zeros = refl
+
+-- nothing under a gain is nothing
+pub none-gained : {held gain : Float} → Openness held → Openness gain → maximum held (mul binary32 zero gain) ≡ held
+none-gained {held} {gain} u g =
+    keeps-higher u (upto-mul binary32 0 3 zero gain (lit≤ tt) zero-unit g)
+    (le-trans-f binary32 (mul binary32 zero gain) plus-zero held (mul-number binary32 zero gain (zero-unit .is-real) (g .is-real)) (real-number binary32 plus-zero real₀) (is-number u) (rw zero-is least) (u .low))
+  where
+    real₀ : T (real binary32 plus-zero)
+    real₀ = real-zero binary32 false
+
+    least : T (le (mul binary32 plus-zero gain) plus-zero)
+    least = subst (λ (x : Float). T (le x plus-zero)) (mul-comm-f binary32 gain plus-zero) (subst (λ (x : Float). T (le (mul binary32 gain plus-zero) x)) zeros (mul-turns-l binary32 plus-zero gain plus-zero real₀ (g .is-real) real₀ no-zero (g .low)))
 
 -- ---- a list of openings, each where it is there
 module _ {A : Type 0} (there : A → Bool) (opens : A → Float) where
