@@ -10,6 +10,7 @@ use Rattle.lists.specs.Maps.{mapRange}
 use Rattle.float_laws.specs.Rise.{Upto}
 use Rattle.float32.specs.Remainder.{one}
 use Rattle.gaussian.specs.Table.{gaussianTable}
+use Rattle.limits.specs.Lengths.{MAX-PARTIALS}
 use Rattle.lobes.specs.declared.Grid.{Grid}
 use Rattle.lobes.specs.declared.Lobe.{Lobe}
 use Rattle.lobes.specs.Distance.{lent}
@@ -44,7 +45,7 @@ pub record LobesReady (g chunk : List Float) (indexes : List ℕ) (grid : Grid) 
     (count : ℕ) : Type 0 where
   pub gaussians : g ≡ gaussianTable
   pub scratch : Scratch chunk indexes
-  pub few : count ≤ 24
+  pub few : count ≤ MAX-PARTIALS
   pub sound : SoundLobes grid lobes count
 
 -- ---- a block: at most 64 bins, from start on and below end, that the table has

@@ -15,6 +15,7 @@ use blocks::least_from;
 use counts::greater;
 use counts::lesser;
 use gaussian::GaussianTable;
+use limits::lengths::MAX_PARTIALS;
 use lobe_joins::join;
 use lobe_rows::chunk::openings_by_table;
 use lobes::Grid;
@@ -117,7 +118,7 @@ pub fn raise_partials(
     table: &[f32],
     bounds: &[f32],
     grid: Grid,
-    lobes: [Lobe; 24],
+    lobes: [Lobe; MAX_PARTIALS],
     count: usize,
     top: usize,
     start: usize,

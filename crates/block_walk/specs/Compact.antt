@@ -7,6 +7,7 @@ use lib.Dec.{T}
 use lib.ListN.{length, getD}
 use lib.Ieee.{Float, nan, binary32}
 use Rattle.float_laws.specs.Units.{real}
+use Rattle.limits.specs.Lengths.{MOST-BIN}
 use Rattle.blocks.specs.Ends.{Ends}
 use Rattle.lobes.specs.declared.Grid.{Grid}
 use Rattle.lobes.specs.declared.Lobe.{Lobe}
@@ -28,7 +29,7 @@ InColumns lobes count centers strengths peaks =
 
 -- the ends of a table's blocks, on a grid that the walk can go over
 pub record Ready (grid : Grid) (table lows highs : List Float) : Type 0 where
-  pub last : grid .«last_bin» ≤ 8192
+  pub last : grid .«last_bin» ≤ MOST-BIN
   pub inside : grid .«last_bin» < length table
   pub lows-long : length table ≤ 64 * length lows + 1
   pub highs-long : length table ≤ 64 * length highs + 1

@@ -4,12 +4,14 @@ ghost use mathlib.Core.Path.{_≡_};
 ghost use Prim.Native.Nat.{ℕ, _+_, _*_, _≤_, _<_};
 ghost use lib.ListN.{getD};
 ghost use Rattle.lists.specs.Maps.{mapRange};
+ghost use Rattle.limits.specs.Lengths.{MAX-PARTIALS, MOST-BIN};
 ghost use Rattle.blocks.specs.Ends.{blockOf};
 ghost use Rattle.lobe_joins.specs.Joined.{noLobe};
 ghost use Rattle.block_walk.specs.Premises.{ColumnRoom};
 use blocks::BLOCK;
 use counts::greater;
 use counts::lesser;
+use limits::lengths::MAX_PARTIALS;
 use lobes::Grid;
 use lobes::Lobe;
 
@@ -23,8 +25,8 @@ pub struct Span {
 
 // The number of bins from a first to a last one, both included.
 pub fn bins_between(first_bin: usize, last_bin: usize) -> usize
-    requires { ⌜ «last_bin» ≤ 8192 ⌝ }
-    ensures { λ r. ⌜ r ≤ 8193 ⌝ }
+    requires { ⌜ «last_bin» ≤ MOST-BIN ⌝ }
+    ensures { λ r. ⌜ r ≤ MOST-BIN + 1 ⌝ }
 {
     if first_bin <= last_bin {
         return last_bin + 1 - first_bin;
@@ -32,12 +34,12 @@ pub fn bins_between(first_bin: usize, last_bin: usize) -> usize
     0
 }
 
-pub fn span_of(lobes: [Lobe; 24], count: usize, last_bin: usize) -> Span
-    requires { ⌜ (count ≤ 24)
-        × («last_bin» ≤ 8192)
+pub fn span_of(lobes: [Lobe; MAX_PARTIALS], count: usize, last_bin: usize) -> Span
+    requires { ⌜ (count ≤ MAX-PARTIALS)
+        × («last_bin» ≤ MOST-BIN)
         × ((p : ℕ) → p < count → getD lobes p noLobe .«last_bin» ≤ «last_bin») ⌝ }
     ensures { λ r. ⌜ (r .«last_bin» ≤ «last_bin»)
-        × (r .«plain_cost» ≤ 24 * 8193)
+        × (r .«plain_cost» ≤ MAX-PARTIALS * (MOST-BIN + 1))
         × ((p : ℕ) → p < count →
         (r .«first_bin» ≤ getD lobes p noLobe .«first_bin») ×
         (getD lobes p noLobe .«last_bin» ≤ r .«last_bin»)) ⌝ }
@@ -66,10 +68,10 @@ pub fn columns_of(
     centers: &mut [f32],
     strengths: &mut [f32],
     peaks: &mut [f32],
-    lobes: [Lobe; 24],
+    lobes: [Lobe; MAX_PARTIALS],
     count: usize,
 )
-    requires { ⌜ (count ≤ 24)
+    requires { ⌜ (count ≤ MAX-PARTIALS)
         × (ColumnRoom (now centers) (now strengths) (now peaks) count) ⌝ }
     ensures { λ _. ⌜ (now (centers .exit)
         ≡ mapRange (λ p held. getD lobes p noLobe .«center_log2») 0 count (now (centers .entry)))
@@ -106,7 +108,7 @@ pub fn block_walk_pays(grid: Grid) -> bool {
     if grid.partials < 3 {
         return false;
     }
-    if grid.partials > 24 {
+    if grid.partials > MAX_PARTIALS {
         return false;
     }
     let partials = grid.partials as f32;

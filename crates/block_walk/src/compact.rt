@@ -17,6 +17,7 @@ ghost use mathlib.Core.Bool.{cond};
 ghost use Prim.Native.Nat.{_+_, _*_, _≤_};
 ghost use lib.ListN.{take};
 ghost use Rattle.lists.specs.Maps.{mapAt, mapRange};
+ghost use Rattle.limits.specs.Lengths.{MOST-BIN};
 ghost use Rattle.lobes.specs.Distance.{lent};
 ghost use Rattle.lobe_joins.specs.Joined.{lobesJoined};
 ghost use Rattle.block_rows.specs.Premises.{LobesReady, SidesGained, BlockBounded};
@@ -32,6 +33,7 @@ use block_rows::rises::nothing_rises;
 use blocks::BLOCK;
 use counts::lesser;
 use gaussian::GaussianTable;
+use limits::lengths::MAX_PARTIALS;
 use lobe_bounds::bounds_of;
 use lobe_bounds::greatest_at;
 use lobe_joins::join;
@@ -49,7 +51,7 @@ fn raise_block(
     table: &[f32],
     bounds: &[f32],
     grid: Grid,
-    lobes: [Lobe; 24],
+    lobes: [Lobe; MAX_PARTIALS],
     count: usize,
     gains: Gains,
     start: usize,
@@ -102,7 +104,7 @@ fn raise_blocks(
     strengths: &[f32],
     peaks: &[f32],
     grid: Grid,
-    lobes: [Lobe; 24],
+    lobes: [Lobe; MAX_PARTIALS],
     count: usize,
     gains: Gains,
     span: Span,
@@ -118,7 +120,7 @@ fn raise_blocks(
         (lobesJoined grid (lent (now (table .entry))) (gains .second) (take count lobes))
         (now (second .entry))) ⌝ }
 {
-    let mut bounds = [0.0f32; 24];
+    let mut bounds = [0.0f32; MAX_PARTIALS];
     let mut block = block_of(lesser(span.first_bin, span.last_bin));
     while block * BLOCK < span.last_bin {
         let start = 1 + block * BLOCK;
@@ -155,8 +157,8 @@ fn raise_blocks(
 
 // What the walk costs, in bins of the plain way: measured. With many voices it skips most blocks.
 fn compact_cost(span: Span, crowded: bool) -> usize
-    requires { ⌜ span .«last_bin» ≤ 8192 ⌝ }
-    ensures { λ r. ⌜ r ≤ 6 * 8193 + 512 ⌝ }
+    requires { ⌜ span .«last_bin» ≤ MOST-BIN ⌝ }
+    ensures { λ r. ⌜ r ≤ 6 * (MOST-BIN + 1) + 512 ⌝ }
 {
     let bins = bins_between(span.first_bin, span.last_bin);
     if crowded {
@@ -176,7 +178,7 @@ fn walk(
     lows: &[f32],
     highs: &[f32],
     grid: Grid,
-    lobes: [Lobe; 24],
+    lobes: [Lobe; MAX_PARTIALS],
     count: usize,
     gains: Gains,
     span: Span,
@@ -191,9 +193,9 @@ fn walk(
         (lobesJoined grid (lent (now (table .entry))) (gains .second) (take count lobes))
         (now (second .entry))) ⌝ }
 {
-    let mut centers = [0.0f32; 24];
-    let mut strengths = [0.0f32; 24];
-    let mut peaks = [0.0f32; 24];
+    let mut centers = [0.0f32; MAX_PARTIALS];
+    let mut strengths = [0.0f32; MAX_PARTIALS];
+    let mut peaks = [0.0f32; MAX_PARTIALS];
     columns_of(&mut centers, &mut strengths, &mut peaks, lobes, count);
     raise_blocks(
         first,
@@ -227,7 +229,7 @@ pub fn rasterize_compact_harmonic_envelope(
     lows: &[f32],
     highs: &[f32],
     grid: Grid,
-    lobes: [Lobe; 24],
+    lobes: [Lobe; MAX_PARTIALS],
     count: usize,
     gains: Gains,
     crowded: bool,

@@ -9,6 +9,7 @@ use lib.Ieee.{Float}
 use Rattle.power.specs.Table.{powerTable}
 use Rattle.power.specs.Log.{L2}
 use Rattle.gaussian.specs.Table.{gaussianTable}
+use Rattle.limits.specs.Lengths.{MAX-PARTIALS}
 use Rattle.lobes.specs.declared.Grid.{Grid}
 use Rattle.lobes.specs.declared.Lobe.{Lobe}
 use Rattle.lobe_joins.specs.Joined.{noLobe}
@@ -53,7 +54,7 @@ pub record LobeKnown (tabled : Bool) (table : List Float) (lobe : Lobe) : Type 0
 -- the first `count` lobes of a list, none of which reaches past the grid's last bin
 pub record LobesKnown (grid : Grid) (tabled : Bool) (table : List Float) (lobes : List Lobe)
     (count : ℕ) : Type 0 where
-  pub few : count ≤ 24
+  pub few : count ≤ MAX-PARTIALS
   pub on-grid : OnGrid grid tabled table
   pub known : (p : ℕ) → p < count →
       (getD lobes p noLobe .«center_log2» ≡ L2 (getD lobes p noLobe .center)) ×

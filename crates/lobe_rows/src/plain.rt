@@ -10,6 +10,7 @@ use crate::Gains;
 use crate::chunk::openings;
 use counts::lesser;
 use gaussian::GaussianTable;
+use limits::lengths::MAX_PARTIALS;
 use lobe_joins::join;
 use lobes::Grid;
 use lobes::Lobe;
@@ -72,7 +73,7 @@ pub fn raise_lobes(
     tabled: bool,
     table: &[f32],
     grid: Grid,
-    lobes: [Lobe; 24],
+    lobes: [Lobe; MAX_PARTIALS],
     count: usize,
     gains: Gains,
 )

@@ -6,6 +6,7 @@ ghost use Prim.Native.Nat.{_^_, _≤_, _<_};
 ghost use lib.ListN.{length};
 ghost use Rattle.power.specs.Table.{powerTable};
 ghost use Rattle.power.specs.Log.{L2};
+ghost use Rattle.limits.specs.Lengths.{MAX-PARTIALS};
 ghost use Rattle.lobes.specs.Tone.{partialOctaves};
 ghost use Rattle.lobes.specs.Distance.{logsOf, distance};
 ghost use Rattle.lobes.specs.Lobe.{firstBin, lastBin, lobeOf};
@@ -71,7 +72,7 @@ pub fn lobe_of(
     requires { ⌜ (now powers ≡ powerTable)
         × (now octaves ≡ partialOctaves)
         × (grid .«last_bin» ≤ 2 ^ 24)
-        × (partial ≤ 24)
+        × (partial ≤ MAX-PARTIALS)
         × (tabled ≡ true → grid .«last_bin» < length (now table)) ⌝ }
     ensures { λ r. ⌜ r ≡ lobeOf grid (logsOf tabled (now (table .entry))) tone partial ⌝ }
 {

@@ -2,6 +2,7 @@
 ghost use mathlib.Core.Path.{_≡_};
 ghost use Prim.Native.Nat.{_^_, _≤_};
 ghost use Rattle.power.specs.Table.{powerTable};
+ghost use Rattle.limits.specs.Lengths.{MAX-PARTIALS};
 ghost use Rattle.lobes.specs.Tone.{pressureGain, noteLevel, timbreRolloff, fundamentalOf, toneOf, centerOf, partialOctaves, harmonicGain};
 use crate::Grid;
 use crate::Tone;
@@ -76,7 +77,7 @@ pub fn harmonic_gain(
     rolloff: f32,
     partial: usize,
 ) -> f32
-    requires { ⌜ (now powers ≡ powerTable) × (now octaves ≡ partialOctaves) × (partial ≤ 24) ⌝ }
+    requires { ⌜ (now powers ≡ powerTable) × (now octaves ≡ partialOctaves) × (partial ≤ MAX-PARTIALS) ⌝ }
     ensures { λ r. ⌜ r ≡ harmonicGain rolloff partial ⌝ }
 {
     decibels::gain(powers, -rolloff * octaves[partial])

@@ -5,12 +5,13 @@
 use mathlib.Core.Path.{_≡_}
 use mathlib.Core.Bool.{Bool, true}
 use mathlib.Core.List.{List}
-use Prim.Native.Nat.{ℕ, _≤_}
+use Prim.Native.Nat.{ℕ, _+_, _≤_}
 use lib.ListN.{length, take}
 use lib.Ieee.{Float}
 use Rattle.lists.specs.Totals.{All}
 use Rattle.sine.specs.Table.{sineTable}
 use Rattle.gaussian.specs.Table.{gaussianTable}
+use Rattle.limits.specs.Lengths.{MOST-VOICES, MAX-PARTIALS, MOST-BIN}
 use Rattle.scene.specs.declared.MaskVoice.{MaskVoice}
 use Rattle.scene.proofs.Voices.{RealVoice}
 use Rattle.lobes.specs.declared.Grid.{Grid}
@@ -58,7 +59,7 @@ pub record RaiseTogether (first second chunk : List Float) (indexes : List ℕ) 
     Type 0 where
   pub gaussians : g ≡ gaussianTable
   pub scratch : Scratch chunk indexes
-  pub few : count ≤ 24
+  pub few : count ≤ MAX-PARTIALS
   pub walk : way .compact ≡ true → LobesWalk way table lows highs first second lobes count gains
 
 pub record RaiseTone (first second chunk : List Float) (indexes p : List ℕ) (o g : List Float)
@@ -66,7 +67,7 @@ pub record RaiseTone (first second chunk : List Float) (indexes p : List ℕ) (o
   pub tables : Tables p g
   pub octaves : o ≡ partialOctaves
   pub scratch : Scratch chunk indexes
-  pub few : way .grid .partials ≤ 24
+  pub few : way .grid .partials ≤ MAX-PARTIALS
   pub on-grid : OnGrid (way .grid) (way .tabled) table
   pub walk : way .compact ≡ true → ToneWalk way table lows highs first second tone gains
 
@@ -77,7 +78,7 @@ pub record RaiseVoice (first second chunk : List Float) (indexes p : List ℕ) (
   pub sines : s ≡ sineTable
   pub octaves : o ≡ partialOctaves
   pub scratch : Scratch chunk indexes
-  pub few : way .grid .partials ≤ 24
+  pub few : way .grid .partials ≤ MAX-PARTIALS
   pub on-grid : OnGrid (way .grid) (way .tabled) table
   pub walk : way .compact ≡ true → VoiceWalk way table lows highs first second voice
 
@@ -88,9 +89,9 @@ pub record RaiseVoices (first second chunk : List Float) (indexes p : List ℕ) 
   pub sines : s ≡ sineTable
   pub octaves : o ≡ partialOctaves
   pub scratch : Scratch chunk indexes
-  pub few : way .grid .partials ≤ 24
+  pub few : way .grid .partials ≤ MAX-PARTIALS
   pub on-grid : OnGrid (way .grid) (way .tabled) table
-  pub heard : count ≤ 128
+  pub heard : count ≤ MOST-VOICES
   pub walk : way .compact ≡ true → VoicesWalk way table lows highs first second (take count voices)
 
 -- the ends of the table's blocks, where they are asked for
@@ -98,7 +99,7 @@ pub record EndsWhere (compact : Bool) (lows highs row table : List Float) : Type
   pub lows-128 : length lows ≡ 128
   pub highs-128 : length highs ≡ 128
   pub row-64 : length row ≡ 64
-  pub long : compact ≡ true → length table ≤ 8193
+  pub long : compact ≡ true → length table ≤ MOST-BIN + 1
   pub table-real : compact ≡ true → RealTable table
 
 -- the two that fill masks
@@ -106,7 +107,7 @@ pub record Open (p s : List ℕ) (g : List Float) (tabled : Bool) (table : List 
     (voices : List MaskVoice) (count : ℕ) (grid : Grid) : Type 0 where
   pub tables : Tables p g
   pub sines : s ≡ sineTable
-  pub few : grid .partials ≤ 24
+  pub few : grid .partials ≤ MAX-PARTIALS
   pub on-grid : OnGrid grid tabled table
-  pub heard : count ≤ 128
+  pub heard : count ≤ MOST-VOICES
   pub scene : tabled ≡ true → SoundScene grid (take count voices) table

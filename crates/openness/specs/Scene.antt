@@ -2,13 +2,14 @@
 -- Nothing here says what a mask is: both ways of raising a tone write the same. Assumes nothing.
 use mathlib.Core.Path.{_≡_}
 use mathlib.Core.List.{List}
-use Prim.Native.Nat.{ℕ, _≤_}
+use Prim.Native.Nat.{ℕ, _+_, _≤_}
 use lib.Dec.{T}
 use lib.ListN.{length, take}
 use lib.Ieee.{Float, binary32, lt}
 use Rattle.lists.specs.Totals.{All}
 use Rattle.float_laws.specs.Units.{real}
 use Rattle.float_laws.specs.Round.{plus-zero}
+use Rattle.limits.specs.Lengths.{MAX-PARTIALS, MOST-BIN}
 use Rattle.scene.specs.declared.MaskVoice.{MaskVoice}
 use Rattle.scene.proofs.Voices.{RealVoice}
 use Rattle.lobes.specs.declared.Grid.{Grid}
@@ -26,7 +27,7 @@ pub record RealGrid (grid : Grid) : Type 0 where
   pub width-real : T (real binary32 (grid .width))
   pub width-above : T (lt plus-zero (grid .width))
   pub rolloff-real : T (real binary32 (grid .rolloff))
-  pub few : grid .partials ≤ 24
+  pub few : grid .partials ≤ MAX-PARTIALS
 
 -- what the walk asks of a tone: its lobes are sound however they are listed
 abbrev pub SoundTone : Grid → List Float → Tone → Type 0
@@ -34,8 +35,8 @@ SoundTone grid table tone = (lobes : List Lobe) (n : ℕ) → n ≡ length (part
 
 -- an accepted scene, as the masks by a table are built from it
 pub record SoundScene (grid : Grid) (voices : List MaskVoice) (table : List Float) : Type 0 where
-  pub last : grid .«last_bin» ≤ 8192
-  pub long : length table ≤ 8193
+  pub last : grid .«last_bin» ≤ MOST-BIN
+  pub long : length table ≤ MOST-BIN + 1
   pub grid-real : RealGrid grid
   pub voices-real : All RealVoice voices
   pub table-real : RealTable table

@@ -11,6 +11,7 @@ ghost use Rattle.openness.specs.Raising.{EndsWhere, Open};
 use block_walk::columns::block_walk_pays;
 use blocks::block_ends;
 use gaussian::GaussianTable;
+use limits::lengths::MOST_VOICES;
 use lobes::Grid;
 use lobes::octaves::partial_octaves;
 use power::table::PowerTable;
@@ -73,7 +74,7 @@ pub fn open_one(
     gaussians: &GaussianTable,
     tabled: bool,
     table: &[f32],
-    voices: [MaskVoice; 128],
+    voices: [MaskVoice; MOST_VOICES],
     count: usize,
     grid: Grid,
 )
@@ -125,7 +126,7 @@ pub fn open_two(
     sines: &SineTable,
     gaussians: &GaussianTable,
     table: &[f32],
-    voices: [MaskVoice; 128],
+    voices: [MaskVoice; MOST_VOICES],
     count: usize,
     grid: Grid,
 )

@@ -11,6 +11,7 @@ ghost use Rattle.openness.specs.Raising.{RaiseTogether, RaiseTone};
 use crate::Way;
 use block_walk::compact::rasterize_compact_harmonic_envelope;
 use gaussian::GaussianTable;
+use limits::lengths::MAX_PARTIALS;
 use lobe_rows::Gains;
 use lobe_rows::plain::raise_lobes;
 use lobes::Lobe;
@@ -31,7 +32,7 @@ fn raised_together(
     table: &[f32],
     lows: &[f32],
     highs: &[f32],
-    lobes: [Lobe; 24],
+    lobes: [Lobe; MAX_PARTIALS],
     count: usize,
     gains: Gains,
 ) -> bool

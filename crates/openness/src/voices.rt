@@ -12,6 +12,7 @@ ghost use Rattle.openness.specs.Raising.{RaiseVoice, RaiseVoices};
 use crate::Way;
 use crate::raise::raise_tone;
 use gaussian::GaussianTable;
+use limits::lengths::MOST_VOICES;
 use lobe_rows::Gains;
 use lobes::octaves::PartialOctaves;
 use lobes::pan::left_gain;
@@ -106,7 +107,7 @@ pub fn raise_voices(
     table: &[f32],
     lows: &[f32],
     highs: &[f32],
-    voices: [MaskVoice; 128],
+    voices: [MaskVoice; MOST_VOICES],
     count: usize,
 )
     requires { ⌜ RaiseVoices (now first) (now second) (now chunk) (now indexes) (now powers)
