@@ -125,7 +125,7 @@ module _ (grid : Grid) (logs : Logs) (gain : Float) (lobes : List Lobe) (count :
 pub from-first : (grid : Grid) (lobes : List Lobe) (count : ℕ) {first last : ℕ} → SoundLobes grid lobes count → Within lobes count first last → Within lobes count (max first 1) last
 from-first grid lobes count sound within p h = (omega (arith, within p h .0, sound p h .first), within p h .1)
 
--- ---- the walk: the bins below the block at hand are done, as far as the table goes
+-- ---- the walk: the bins below the current block are done, as far as the table reaches
 module _ (g : ℕ → Float → Float) (lo n : ℕ) where
   abbrev pub Walked : ℕ → List Float → List Float → Type 0
   Walked block xs₀ xs = Turned g lo xs₀ xs (min (1 + 64 * block) n)

@@ -1,5 +1,5 @@
--- `join` joins every bin from `start` on and below `end` that there is: of those below the one at
--- hand each is joined, and the others are as they were. Assumes nothing.
+-- `join`: the bins from `start` on and below the current one are joined, and the others are
+-- unchanged. Assumes nothing.
 use mathlib.Core.Path.{_≡_, refl}
 use mathlib.Core.Logic.{_⊎_, inl, inr}
 use Prim.Native.Nat.{_-_, _≤_, min}

@@ -1,4 +1,4 @@
--- `columns_of` writes each column below the place at hand. Assumes nothing.
+-- `columns_of` writes the columns in step: each up to the current place. Assumes nothing.
 use mathlib.Core.Path.{_≡_, refl}
 use mathlib.Core.Logic.{inl}
 use Prim.Native.Nat.{_-_, _≤_}

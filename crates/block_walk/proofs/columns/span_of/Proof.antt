@@ -1,4 +1,4 @@
--- `span_of`: the lobes below the place at hand lie within the span so far, and each has at most
+-- `span_of`: the lobes before the current one lie within the span so far, and each has at most
 -- 8,193 bins. Assumes nothing.
 use mathlib.Core.Path.{_≡_, subst}
 use mathlib.Core.List.{List}

@@ -1,5 +1,5 @@
--- `raise_blocks` walks from the block of the first bin that a lobe reaches to that of the last: of
--- each side the bins below the block at hand are raised. Assumes nothing.
+-- `raise_blocks` walks from the block of the first bin that a lobe reaches to that of the last: on
+-- each side the bins below the current block are raised. Assumes nothing.
 use mathlib.Core.Path.{_≡_, refl, sym, _∙_}
 use Prim.Native.Nat.{ℕ, _+_, _*_, _-_, _≤_, _<_, min, max}
 use native.Mathlib.Omega.{arith}

@@ -1,5 +1,5 @@
--- `rasterize_compact_harmonic_envelope` walks where that pays, and else leaves both sides as they
--- are. Assumes nothing.
+-- `rasterize_compact_harmonic_envelope` walks where that costs less, and otherwise leaves both
+-- sides unchanged. Assumes nothing.
 use native.Mathlib.Omega.{arith}
 use borrow.Author.Needs.{needs}
 use Rattle.block_walk.proofs.compact.rasterize_compact_harmonic_envelope.Statement.{statement}

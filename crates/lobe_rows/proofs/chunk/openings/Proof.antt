@@ -1,5 +1,4 @@
--- `openings` goes by the table where one was lent, and else each bin by its frequency. Assumes
--- nothing.
+-- `openings` uses the table if one is lent, and the bins' frequencies otherwise. Assumes nothing.
 use borrow.Author.Needs.{needs}
 use Rattle.lobe_rows.proofs.chunk.openings.Statement.{statement}
 use Rattle.lobe_rows.proofs.chunk.openings.Tie as tie

@@ -1,5 +1,5 @@
--- `raise_lobe` joins the lobe to both sides: on each every bin from the lobe's first on and below
--- `start` is joined, and a chunk holds the openings of those that come next. Assumes nothing.
+-- `raise_lobe`: on each side every bin from the lobe's first on and below `start` is joined, and
+-- the chunk holds the openings of the next ones. Assumes nothing.
 use mathlib.Core.Path.{_≡_, refl, _∙_}
 use mathlib.Core.Logic.{_⊎_, inl, inr}
 use Prim.Native.Nat.{_+_, _-_, _≤_}

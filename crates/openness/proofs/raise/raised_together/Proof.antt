@@ -1,4 +1,4 @@
--- `raised_together` goes the compact way where its caller says that this can pay. Assumes nothing.
+-- `raised_together` goes the compact way where its caller allows it. Assumes nothing.
 use mathlib.Core.Path.{refl, sym}
 use mathlib.Core.Bool.{true≢false}
 use borrow.Author.Needs.{needs}
