@@ -1,6 +1,6 @@
 -- What the calls on the gate and the drawn curve answer to accepted input, and the range of it: an
 -- emphasis from 1 to 2; a gate from the floor to 3, the floor from 0 to 1; a manual gain from 0 to
--- 1. The tests pass, and the rest is known of the core. Assumes nothing.
+-- 1. The tests pass, and the rest is a law of the core. Assumes nothing.
 use mathlib.Core.Path.{_≡_, refl}
 use mathlib.Core.Bool.{false}
 use mathlib.Core.List.{List, [], _∷_}

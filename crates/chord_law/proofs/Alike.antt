@@ -1,5 +1,6 @@
--- What equal settings, equal entries and matched voices are worth to the laws below: settings that
--- differ at most in signs of zeros, and a voice raised above another. Assumes nothing.
+-- What follows from equal settings, equal entries and matched voices, in the terms of the laws
+-- below: settings and entries that differ at most in signs of zeros, and a voice raised above
+-- another. Assumes nothing.
 use mathlib.Core.Path.{_≡_, refl, sym, ap, _∙_}
 use mathlib.Core.Bool.{true, false, not}
 use Prim.Native.Nat.{ℕ, _/_, _+_, _<_}
@@ -27,7 +28,7 @@ use Rattle.mask_calls.specs.F32.{F32Settings}
 use Rattle.mask_calls.proofs.SettingsNumbers as numbers
 use Rattle.chord_law.proofs.Acceptance.{table-length, entry-number}
 
--- ---- equal numbers that a least one above 0 is below are the same
+-- ---- equal numbers that are at least a number above 0 are the same
 pub record Above (least : Float) : Type 0 where
   pub plus : T (not (le least (nought false)))
   pub minus : T (not (le least (nought true)))

@@ -1,5 +1,4 @@
--- The chord law bin by bin: a mask has size/2 + 1 bins, and the law says something of each. Assumes
--- nothing.
+-- The chord law bin by bin: a mask has size/2 + 1 bins, and the law compares each. Assumes nothing.
 use mathlib.Core.List.{List}
 use Prim.Native.Nat.{ℕ, _+_, _/_, _<_}
 use lib.Dec.{T}

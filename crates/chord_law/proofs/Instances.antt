@@ -1,7 +1,7 @@
 -- The premise on voices can be met: a chord is matched in itself with one note more, in itself
--- turned round, and in itself with one level raised. The law then says, for every curve, table and
+-- reversed, and in itself with one level raised. The law then says, for every curve, table and
 -- settings that are accepted with the two lists: a note more or a level raised lowers no bin, and
--- the order of the notes is not heard. Assumes nothing.
+-- the order of the notes does not count. Assumes nothing.
 use mathlib.Core.Path.{_≡_, refl, sym, subst}
 use mathlib.Core.Bool.{not}
 use mathlib.Core.List.{List, [], _∷_}
@@ -149,10 +149,10 @@ module _ (a b : Call) (fa : F32Call a) (fb : F32Call b)
       → MasksNotAbove (whole a) (whole b)
   a-level-raised-lowers-no-bin e h = masks-not-above a b fa fb c (beneath with-G-raised e raised h)
 
-  pub the-order-is-not-heard :
+  pub the-order-does-not-count :
       given b ≡ reversed → NowhereAbove (a .curve) (b .curve) → NowhereAbove (b .curve) (a .curve)
       → MasksEqual (whole a) (whole b)
-  the-order-is-not-heard e h k =
+  the-order-does-not-count e h k =
       let back = subst (λ zs. MatchedIn reversed zs) (sym is-chord) turned-back in
       masks-equal a b fa fb c (beneath reversed e turned-round h)
       (record { matched = subst (λ xs. MatchedIn xs (given a)) (sym e) back; curve = k })

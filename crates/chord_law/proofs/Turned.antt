@@ -1,5 +1,4 @@
--- What two calls are compared by holds the other way round: equality is symmetric, as all its
--- numbers are numbers. Assumes nothing.
+-- `Comparable` is symmetric: so is f32's equality, where no number is a NaN. Assumes nothing.
 use mathlib.Core.Path.{sym}
 use Prim.Native.Nat.{_<_}
 use native.Mathlib.Omega.{arith}

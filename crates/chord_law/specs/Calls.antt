@@ -1,5 +1,5 @@
 -- One whole stereo call, from what it is given to what it answers and the masks that it writes. The
--- chord law speaks of two of them, in either of the two forms that the call has: on an array of
+-- chord law is about two of them, in either of the two forms that the call has: on an array of
 -- voices with a count, and on a lent slice of voice records. Assumes nothing.
 use mathlib.Core.Path.{_≡_}
 use mathlib.Core.List.{List, []}

@@ -1,6 +1,6 @@
--- Of the array that `gather` gives, the mask builders make what they make of the list itself: a
--- list of more than 128 voices is refused, and of another they read the first `length` entries of
--- the array. Assumes nothing.
+-- For the array that `gather` gives, the mask builders answer and write what they do for the list
+-- itself: more than 128 voices are refused, and of at most 128 they read the first entries of the
+-- array, as many as the list has. Assumes nothing.
 use mathlib.Core.Path.{_≡_, refl, sym, ap, _∙_}
 use mathlib.Core.Bool.{Bool, true, false, cond, not}
 use mathlib.Core.List.{List, []}

@@ -1,5 +1,5 @@
--- What a walk of a call on a lent slice of voices needs of `gather` and of the array that it gives.
--- Assumes nothing.
+-- What the proof of a call on a lent slice of voices needs of `gather` and of the array that it
+-- gives. Assumes nothing.
 use mathlib.Core.Path.{_≡_}
 use mathlib.Core.List.{List, [], _∷_}
 use lib.Dec.{T as Holds}
