@@ -1,10 +1,9 @@
-// Replays the oracle's list `spectral_dsp`. A record is its call's number and as many words as the
-// call takes.
+// The list `spectral_dsp`. A record is its call's number and as many words as the call takes.
+use crate::list;
+use crate::settings;
+use crate::slice;
+use crate::text;
 use answer::Envelopes;
-use replay::list;
-use replay::settings;
-use replay::slice;
-use replay::text;
 use scene::MotionConfig;
 
 fn print_note_emphasis_gain(bytes: &[u8], at: usize) {
@@ -26,17 +25,10 @@ fn print_note_gate_gain(bytes: &[u8], at: usize) {
 }
 
 fn print_manual_gain_on(bytes: &[u8], at: usize, curve: &mut [f32]) {
-    slice::fill(bytes, std::num::wrapping_add_usize(at, 3), curve);
+    slice::fill(bytes, at, 3, curve);
     let bin = list::count(bytes, at, 1);
     let size = list::count(bytes, at, 2);
     text::print_answer(spectral_dsp::manual_gain_at_bin(curve, bin, size));
-}
-
-fn print_manual_gain_in(bytes: &[u8], at: usize, space: &mut [f32]) {
-    let points = slice::length(bytes, std::num::wrapping_add_usize(at, 3));
-    if points <= space.len() {
-        print_manual_gain_on(bytes, at, &mut space[..points]);
-    }
 }
 
 // The list's longest curve has 8,194 points.
@@ -44,8 +36,9 @@ fn print_manual_gain_at_bin(bytes: &[u8], at: usize) {
     text::print(b"manual_gain_at_bin");
     text::print_count(list::count(bytes, at, 1));
     text::print_count(list::count(bytes, at, 2));
-    let mut space = [0.0f32; 8194];
-    print_manual_gain_in(bytes, at, &mut space);
+    let mut room = [0.0f32; 8194];
+    let points = slice::length(bytes, at, 3, &room);
+    print_manual_gain_on(bytes, at, &mut room[..points]);
 }
 
 // The settings from four words, which are printed.
@@ -55,7 +48,7 @@ fn motion_at(bytes: &[u8], at: usize, past: usize) -> MotionConfig {
     text::print_word(list::word(bytes, first, 1));
     text::print_word(list::word(bytes, first, 2));
     text::print_word(list::word(bytes, first, 3));
-    settings::motion_at(bytes, first)
+    settings::motion_at(bytes, at, past)
 }
 
 fn print_motion_openness(bytes: &[u8], at: usize) {
@@ -121,7 +114,7 @@ fn print_envelopes(envelopes: Envelopes) {
 fn print_advance_note_envelopes(bytes: &[u8], at: usize) {
     text::print(b"advance_note_envelopes");
     let mut levels = [0.0f32; 128];
-    slice::fill(bytes, std::num::wrapping_add_usize(at, 7), &mut levels);
+    slice::fill(bytes, at, 7, &mut levels);
     print_envelopes(spectral_dsp::advance_note_envelopes(
         levels,
         held_at(bytes, at),
@@ -131,25 +124,19 @@ fn print_advance_note_envelopes(bytes: &[u8], at: usize) {
 }
 
 fn print_prepare_on(bytes: &[u8], at: usize, table: &mut [f32]) {
-    slice::fill(bytes, std::num::wrapping_add_usize(at, 3), table);
+    slice::fill(bytes, at, 3, table);
     let rate = list::float(bytes, at, 1);
     let size = list::count(bytes, at, 2);
     text::print_outcome(spectral_dsp::MaskWorkspace::prepare(table, rate, size));
     text::print_hash(table);
 }
 
-fn print_prepare_in(bytes: &[u8], at: usize, space: &mut [f32]) {
-    let entries = slice::length(bytes, std::num::wrapping_add_usize(at, 3));
-    if entries <= space.len() {
-        print_prepare_on(bytes, at, &mut space[..entries]);
-    }
-}
-
 // The list's longest table has 16,386 entries.
 fn print_prepare(bytes: &[u8], at: usize) {
     text::print(b"prepare");
-    let mut space = [0.0f32; 16386];
-    print_prepare_in(bytes, at, &mut space);
+    let mut room = [0.0f32; 16386];
+    let entries = slice::length(bytes, at, 3, &room);
+    print_prepare_on(bytes, at, &mut room[..entries]);
 }
 
 fn print_call(call: u32, bytes: &[u8], at: usize) {
@@ -164,7 +151,6 @@ fn print_call(call: u32, bytes: &[u8], at: usize) {
         7 => print_prepare(bytes, at),
         _ => text::print(b"no such call"),
     }
-    text::end_line();
 }
 
 // The number of words of a call's record.
@@ -182,25 +168,8 @@ fn words_of(call: u32) -> usize {
     }
 }
 
-fn run(bytes: &[u8]) {
-    let n = list::words(bytes);
-    let mut at: usize = 0;
-    while at < n {
-        let call = list::word(bytes, at, 0);
-        print_call(call, bytes, at);
-        let words = words_of(call);
-        if words == 0 {
-            return;
-        }
-        if n - at < words {
-            return;
-        }
-        at += words;
-    }
-}
-
-fn main() {
-    let mut bytes = io::large_buffer();
-    let n = list::read(1, &mut bytes);
-    run(&bytes[..n]);
+pub fn print_record(bytes: &[u8], at: usize) -> usize {
+    let call = list::word(bytes, at, 0);
+    print_call(call, bytes, at);
+    words_of(call)
 }

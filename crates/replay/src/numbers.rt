@@ -1,9 +1,9 @@
-// Replays the oracle's list `numbers`: the functions of floats. A record is four words: the
-// function's number, and three bit patterns.
+// The list `numbers`: the functions of floats. A record is four words: the function's number, and
+// three bit patterns.
+use crate::list;
+use crate::text;
 use elementary::Function;
 use float32::bits::of_bits;
-use replay::list;
-use replay::text;
 
 fn print_function(name: &[u8], function: Function, a: u32) {
     text::print(name);
@@ -78,25 +78,12 @@ fn print_call(which: u32, a: u32, b: u32, c: u32) {
     }
 }
 
-fn print_record(bytes: &[u8], at: usize) {
+pub fn print_record(bytes: &[u8], at: usize) -> usize {
     print_call(
         list::word(bytes, at, 0),
         list::word(bytes, at, 1),
         list::word(bytes, at, 2),
         list::word(bytes, at, 3),
     );
-    text::end_line();
-}
-
-fn run(bytes: &[u8]) {
-    let n = bytes.len() / 16;
-    for k in 0..n {
-        print_record(bytes, k * 4);
-    }
-}
-
-fn main() {
-    let mut bytes = io::large_buffer();
-    let n = list::read(1, &mut bytes);
-    run(&bytes[..n]);
+    4
 }

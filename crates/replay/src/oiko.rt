@@ -1,6 +1,6 @@
-// Replays the oracle's list `oiko_dsp`. A record is three words: the call, and its arguments.
-use replay::list;
-use replay::text;
+// The list `oiko_dsp`. A record is three words: the call, and its arguments.
+use crate::list;
+use crate::text;
 
 // A note is a byte: the word's last.
 fn note_of(word: u32) -> u8 {
@@ -26,7 +26,7 @@ fn print_note_frequency_with_tuning(note: u8, tuning: u32) {
     text::print_answer(oiko_dsp::note_frequency_with_tuning(note, float32::bits::of_bits(tuning)));
 }
 
-fn print_record(bytes: &[u8], at: usize) {
+pub fn print_record(bytes: &[u8], at: usize) -> usize {
     let first = list::word(bytes, at, 1);
     let second = list::word(bytes, at, 2);
     match list::word(bytes, at, 0) {
@@ -35,18 +35,5 @@ fn print_record(bytes: &[u8], at: usize) {
         2 => print_note_frequency_with_tuning(note_of(first), second),
         _ => text::print(b"no such call"),
     }
-    text::end_line();
-}
-
-fn run(bytes: &[u8]) {
-    let n = bytes.len() / 12;
-    for k in 0..n {
-        print_record(bytes, k * 3);
-    }
-}
-
-fn main() {
-    let mut bytes = io::large_buffer();
-    let n = list::read(1, &mut bytes);
-    run(&bytes[..n]);
+    3
 }
