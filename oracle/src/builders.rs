@@ -1,4 +1,4 @@
-//! The five mask builders by name, and all that any of them is lent.
+//! The five mask builders by name, and the arguments that any of them takes.
 
 use crate::calls;
 use crate::refusals::{MAX_WINDOW, Outcome};
@@ -13,7 +13,7 @@ pub enum Builder {
     StereoPrepared,
 }
 
-/// What a builder is given beside the masks that it writes. Each reads its own part.
+/// The arguments of all builders beside the masks that they write. Each reads its own.
 #[derive(Clone, Debug)]
 pub struct Lent {
     pub config: MaskConfig,

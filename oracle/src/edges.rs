@@ -1,5 +1,5 @@
-//! The numbers at which a test shows: the ends of limits, one step past them, and what lies in no
-//! limits.
+//! The numbers at which a wrong test is found: the ends of limits, one step past them, and numbers
+//! outside all limits.
 
 pub fn around_limits((low, high): (f32, f32)) -> Vec<f32> {
     let middle = low + (high - low) / 2.0;
@@ -22,7 +22,7 @@ pub fn around_finite() -> Vec<f32> {
     [&limits[..], &[f32::MAX, f32::MIN, 2.0, 0.5]].concat()
 }
 
-/// A number at which something turns, within its limits, and the next ones on either side.
+/// A number within limits at which the result changes, and its neighbours.
 pub fn around(x: f32) -> [f32; 3] {
     [x.next_down(), x, x.next_up()]
 }

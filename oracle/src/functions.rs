@@ -1,4 +1,4 @@
-//! Document 01's functions, which stand for the library calls of the ported Rust.
+//! Document 01's functions, in place of the library calls of the ported Rust.
 
 use crate::tables::{POWER_LOW_BITS, POWERS, SINE_LOW_BITS, SINES};
 use std::f32::consts::{LOG2_10, LOG2_E, LOG10_2};
@@ -18,7 +18,7 @@ pub fn min(a: f32, b: f32) -> f32 {
     if b < a || a.is_nan() { b } else { a }
 }
 
-/// The low end below it, the high end above it, else the number itself, NaN too.
+/// The low end for a number below it, the high end for one above it, else the number, NaN too.
 pub fn clamp(x: f32, low: f32, high: f32) -> f32 {
     if x < low {
         low
@@ -71,7 +71,7 @@ pub fn sum(terms: impl Iterator<Item = f32>) -> f32 {
     terms.fold(0.0, |total, term| total + term)
 }
 
-/// I(F): between the entries of `table` that stand around F, by its low bits, with floor.
+/// I(F): the line between the two entries of `table` around F, at its low bits, rounded down.
 fn interpolate(table: &[u64], low_bits: usize, f: u64) -> u64 {
     let (h, r) = ((f >> low_bits) as usize, f & ((1 << low_bits) - 1));
     if r == 0 {
@@ -107,11 +107,11 @@ pub fn log2(v: f32) -> f32 {
     (((e << 24) + f as i64) as f64 / TWO_TO_24) as f32
 }
 
-/// The greatest F with I(F) <= value, for a value from P[0] up to, but not with, the last entry.
+/// The greatest F with I(F) <= value, for a value from P[0] to below the last entry.
 fn greatest_at_most(value: u64) -> u64 {
     let h = POWERS.partition_point(|&entry| entry <= value) - 1;
     let (above, step) = (value - POWERS[h], POWERS[h + 1] - POWERS[h]);
-    // floor(step·r / 2^16) <= above just where step·r < (above + 1)·2^16.
+    // floor(step·r / 2^16) <= above is the same as step·r < (above + 1)·2^16.
     let r = (((above + 1) << POWER_LOW_BITS) - 1) / step;
     ((h as u64) << POWER_LOW_BITS) + r
 }

@@ -1,5 +1,5 @@
-//! What the port is compared with: the Rust that is ported, with the functions of document 01 put
-//! for its library calls, the plain way always, and the refusals of document 01's table.
+//! What the port is compared with: the Rust that is ported, with document 01's functions in place
+//! of its library calls, always the plain way, and the refusals of document 01's table.
 
 #![forbid(unsafe_code)]
 
@@ -11,6 +11,7 @@ pub mod functions;
 pub mod lists;
 pub mod mask_calls;
 pub mod numbers;
+pub mod port_tables;
 pub mod random;
 pub mod refusals;
 pub mod scenes;

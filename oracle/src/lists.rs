@@ -1,5 +1,5 @@
-//! Replay lists: calls as bytes, and the text that a program which makes them has to print.
-//! The formats are stated in the folder's README.md.
+//! The replay lists: calls as bytes, and the text that the port's program must print when it makes
+//! them. README.md states the formats.
 
 mod masks;
 mod notes;
@@ -16,8 +16,8 @@ use crate::numbers::bits_of;
 use crate::refusals::{Outcome, Refusal};
 use slices::Slice;
 
-/// A list's files: the calls, where the program reads any, what it prints, and what it draws, where
-/// it does.
+/// A list: its calls, the text that the program prints, and the drawing that it makes. Calls and
+/// drawing are empty where a program has none.
 #[derive(Default)]
 pub struct List {
     pub calls: Vec<u8>,
@@ -25,7 +25,7 @@ pub struct List {
     pub plot: String,
 }
 
-/// A replay program holds no more bytes of calls than this.
+/// The replay program has room for this many bytes of calls.
 pub const LARGEST: usize = 65_536;
 
 impl List {
@@ -86,51 +86,43 @@ fn outcome_text(outcome: Outcome) -> String {
     outcome.map_or_else(refusal_text, |()| "done".to_string())
 }
 
+/// A list by its name. Its calls are the file `NAME.bin`.
 pub struct Named {
     pub name: &'static str,
-    /// The crate of the program that prints the lists.
-    pub program: &'static str,
-    /// The lists in the order in which it prints them, each with the name of its file of calls.
-    pub lists: &'static [(&'static str, fn() -> List)],
+    pub write: fn() -> List,
 }
 
-pub const ALL: [Named; 7] = [
-    Named {
-        name: "notes",
-        program: "note_frequencies",
-        lists: &[("", notes::list)],
+impl Named {
+    const fn new(name: &'static str, write: fn() -> List) -> Self {
+        Self { name, write }
+    }
+}
+
+/// A program of the port that is compared with lists, in the order in which it prints them.
+pub struct Program {
+    /// Its crate.
+    pub name: &'static str,
+    pub lists: &'static [Named],
+}
+
+pub const PROGRAMS: [Program; 3] = [
+    Program {
+        name: "note_frequencies",
+        lists: &[Named::new("notes", notes::list)],
     },
-    Named {
-        name: "numbers",
-        program: "replay_numbers",
-        lists: &[("calls.bin", numbers::list)],
-    },
-    Named {
-        name: "oiko_dsp",
-        program: "replay_oiko_dsp",
-        lists: &[("calls.bin", oiko_dsp::list)],
-    },
-    Named {
-        name: "spectral_dsp",
-        program: "replay_spectral_dsp",
-        lists: &[("calls.bin", spectral_dsp::list)],
-    },
-    Named {
-        name: "processing",
-        program: "replay_processing",
-        lists: &[("calls.bin", processing::list)],
-    },
-    Named {
-        name: "masks",
-        program: "replay_masks",
+    Program {
+        name: "replay",
         lists: &[
-            ("calls.bin", masks::list),
-            ("refusals.bin", masks::refusals),
+            Named::new("numbers", numbers::list),
+            Named::new("oiko_dsp", oiko_dsp::list),
+            Named::new("spectral_dsp", spectral_dsp::list),
+            Named::new("processing", processing::list),
+            Named::new("masks", masks::list),
+            Named::new("mask_refusals", masks::refusals),
         ],
     },
-    Named {
+    Program {
         name: "panel",
-        program: "panel",
-        lists: &[("", panel::list)],
+        lists: &[Named::new("panel", panel::list)],
     },
 ];

@@ -1,5 +1,5 @@
-//! Random calls of the mask builders, each told in a few words: what the replay lists hold, and
-//! where the comparison with the static library begins.
+//! Random calls of the mask builders, each described by a few words. The replay lists hold such
+//! calls, and the comparison with the static library starts from them.
 
 use crate::builders::{Lent, Masks, block_of};
 use crate::calls;
@@ -10,10 +10,10 @@ use crate::refusals::*;
 use crate::scenes::{self, RESTING_DEPTH, SILENT_LEVEL};
 use crate::spectral_dsp::{MANUAL_MASK_POINTS, MIDI_NOTES, MaskConfig, MaskVoice, MotionConfig};
 
-/// What the slices that are written hold before.
+/// What the slices that a call may write hold before it.
 const BEFORE: f32 = 7.0;
 
-/// All that any of the builders is given.
+/// The arguments of all builders.
 #[derive(Clone, Debug)]
 pub struct Call {
     pub config: MaskConfig,

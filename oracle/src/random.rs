@@ -1,12 +1,12 @@
-//! Seeded random numbers (splitmix64), and the floats that show most.
+//! Seeded random numbers (splitmix64), and floats that often find faults.
 
 #[derive(Clone, Debug)]
 pub struct Random {
     state: u64,
 }
 
-/// Bit patterns at which functions of floats turn: zeros, subnormals, ones, the ends of exp2, the
-/// counts that no longer fit, the infinities, NaN.
+/// Bit patterns at which functions of floats take another branch: zeros, subnormals, ones, the ends
+/// of exp2, counts that no longer fit, the infinities, NaN.
 const EDGES: [u32; 32] = [
     0x0000_0000, // 0
     0x0000_0001, // the least subnormal
@@ -55,7 +55,7 @@ impl Random {
         z ^ (z >> 31)
     }
 
-    /// A number from 0 up to, but not with, `end`.
+    /// A number from 0 to below `end`.
     pub fn below(&mut self, end: usize) -> usize {
         (self.word() % end as u64) as usize
     }

@@ -1,4 +1,4 @@
-//! Random scenes: what a mask call is given, accepted by every test.
+//! Random scenes: arguments of the mask builders that every test accepts.
 
 use crate::random::Random;
 use crate::refusals::{MAX_VOICES, within};
@@ -19,7 +19,7 @@ pub const SHAPES: [MotionShape; 8] = [
 
 /// A voice sounds above this level.
 pub const SILENT_LEVEL: f32 = 1.0e-5;
-/// Motion moves above this depth.
+/// There is motion above this depth.
 pub const RESTING_DEPTH: f32 = 0.001;
 
 #[derive(Clone, Debug)]
@@ -44,7 +44,7 @@ impl Scene {
         }
     }
 
-    /// As a studio plays: common rates and sizes, a chord of notes at their pitch, a flat curve.
+    /// As in a studio: common rates and sizes, a chord of notes in tune, a flat curve.
     pub fn studio(random: &mut Random) -> Self {
         let config = MaskConfig {
             sample_rate: random.pick(&[44_100.0, 48_000.0, 96_000.0]),
@@ -146,7 +146,7 @@ macro_rules! given {
     }};
 }
 
-/// One of the given numbers, or one from between the limits.
+/// One of the given numbers, or one between the limits.
 fn mostly(random: &mut Random, usual: &[f32], limits: (f32, f32)) -> f32 {
     if random.once_in(2) {
         random.pick(usual)
@@ -209,7 +209,7 @@ pub fn curve(random: &mut Random) -> Vec<f32> {
     (0..MANUAL_MASK_POINTS).map(|_| point(random)).collect()
 }
 
-/// A table that is accepted and not prepared: any entries from -2 to 17, and entry 0 at will.
+/// A table that is accepted and not prepared: entries from -2 to 17, and anything at entry 0.
 pub fn unprepared(random: &mut Random, length: usize) -> Vec<f32> {
     let (low, high) = random.pick(&[(-2.0, 17.0), (5.0, 9.0), (8.0, 8.5)]);
     let mut table: Vec<f32> = (0..length).map(|_| random.between(low, high)).collect();

@@ -25,8 +25,8 @@ pub static HALF_ANGLE_COSINES: LazyLock<[u64; SINE_HALVINGS + 1]> =
 /// R[j], near 2^30 times the sine of j parts in 256 of a quarter turn.
 pub static SINES: LazyLock<[u64; SINE_STEPS + 1]> = LazyLock::new(sines);
 
-/// The greatest whole number from `low` up to, but not with, `high` that is allowed, where the
-/// allowed ones are those up to some point and `low` is one of them.
+/// The greatest allowed whole number from `low` to below `high`. `low` is allowed, and so is every
+/// number below an allowed one.
 fn greatest(mut low: u64, mut high: u64, allowed: impl Fn(u64) -> bool) -> u64 {
     while high - low > 1 {
         let middle = low + (high - low) / 2;

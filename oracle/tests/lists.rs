@@ -1,8 +1,12 @@
 //! The replay lists: they fit, and they show every refusal of every call.
 
 use oracle::builders::Builder;
-use oracle::lists::{ALL, LARGEST};
-use std::collections::BTreeMap;
+use oracle::lists::{LARGEST, Named, PROGRAMS};
+use std::collections::{BTreeMap, BTreeSet};
+
+fn all() -> impl Iterator<Item = &'static Named> {
+    PROGRAMS.iter().flat_map(|program| program.lists)
+}
 
 /// The lines of a list, counted by call and refusal number, 0 for an accepted call.
 fn counts(stdout: &str) -> BTreeMap<(&str, u32), usize> {
@@ -17,18 +21,21 @@ fn counts(stdout: &str) -> BTreeMap<(&str, u32), usize> {
 }
 
 fn stdout_of(name: &str) -> String {
-    let named = ALL.iter().find(|named| named.name == name);
-    let lists = named.expect("a list of this name").lists;
-    lists.iter().map(|(_, write)| write().stdout).collect()
+    let named = all().find(|named| named.name == name);
+    (named.expect("a list of this name").write)().stdout
 }
 
 #[test]
 fn lists_fit() {
-    for named in &ALL {
-        for (file, write) in named.lists {
-            assert!(write().calls.len() <= LARGEST, "{}: {file}", named.name);
-        }
+    for named in all() {
+        assert!((named.write)().calls.len() <= LARGEST, "{}", named.name);
     }
+}
+
+#[test]
+fn names_differ() {
+    let names: BTreeSet<&str> = all().map(|named| named.name).collect();
+    assert_eq!(names.len(), all().count());
 }
 
 /// Of each call, each of these numbers in at least twenty lines of the list.
@@ -82,5 +89,5 @@ fn every_mask_builder_and_refusal_shows_twenty_times() {
         (Builder::StereoPrecomputed, &[1, 2, 3, 4, 5, 6]),
     ];
     let refused = refused.map(|(builder, numbers)| (builder.name(), numbers));
-    shows("masks", &refused);
+    shows("mask_refusals", &refused);
 }

@@ -2,6 +2,7 @@
 
 use oracle::bignum::Natural;
 use oracle::functions::exp;
+use oracle::port_tables::blocks;
 use oracle::spectral_dsp::MaskWorkspace;
 use oracle::tables::{HALF_ANGLE_COSINES, POWERS, SINES};
 
@@ -54,5 +55,14 @@ fn each_gaussian_entry_is_an_exponential() {
     assert_eq!(gaussian.len(), 1025);
     for (i, entry) in gaussian.into_iter().enumerate() {
         assert_eq!(entry, exp(-(i as f32 / 128.0)));
+    }
+}
+
+/// `tables --write` puts them there.
+#[test]
+fn each_file_of_the_port_has_the_table_of_its_rule() {
+    for block in blocks() {
+        let text = std::fs::read_to_string(block.path()).expect("the file can be read");
+        assert!(block.stands_in(&text), "{}", block.file);
     }
 }

@@ -1,5 +1,6 @@
-// A list of calls: words of 32 bits, most significant byte first.
-ghost use Prim.Native.Nat.{_<_};
+// A list of calls: words of 32 bits, most significant byte first. A word is found by the place of a
+// record and the word's place past it.
+ghost use Prim.Native.Nat.{_≤_, _<_};
 ghost use Rattle.io.specs.Counts.{Counts};
 
 fn wide(byte: u8) -> u32
@@ -45,14 +46,26 @@ pub fn count(bytes: &[u8], at: usize, past: usize) -> usize {
     word(bytes, at, past) as usize
 }
 
-// Reads the file that an argument names, and answers how many bytes it put at the start.
-pub fn read(argument: usize, bytes: &mut [u8; 65536]) -> usize
+// The place past a record of this many words; the end where there is no such place.
+pub fn after(at: usize, words: usize, end: usize) -> usize
+    requires { ⌜ at < end ⌝ }
+    ensures { λ r. ⌜ (at < r) × (r ≤ end) ⌝ }
+{
+    if words == 0 {
+        return end;
+    }
+    if end - at < words {
+        return end;
+    }
+    at + words
+}
+
+// Reads a file into the start of the bytes, and answers how many it read.
+pub fn read(path: &[u8], bytes: &mut [u8]) -> usize
     ensures { λ r. ⌜ Counts r (now (bytes .exit)) ⌝ }
 {
-    let mut path = io::buffer();
-    let n = os::arg(argument, &mut path);
-    let fd = os::open_read(&path[..n]);
-    let m = io::read_full(fd, bytes);
+    let fd = os::open_read(path);
+    let n = io::read_full(fd, bytes);
     libc::close(fd);
-    m
+    n
 }

@@ -1,5 +1,5 @@
 // Settings and voices, a word to each field.
-ghost use Prim.Native.Nat.{_<_};
+ghost use Prim.Native.Nat.{_≤_, _<_};
 use crate::list;
 use scene::MaskConfig;
 use scene::MaskVoice;
@@ -7,26 +7,28 @@ use scene::MotionConfig;
 use std::num::wrapping_add_usize;
 
 // The moving field's settings, from four words.
-pub fn motion_at(bytes: &[u8], at: usize) -> MotionConfig {
+pub fn motion_at(bytes: &[u8], at: usize, past: usize) -> MotionConfig {
+    let first = wrapping_add_usize(at, past);
     MotionConfig {
-        shape: scene::shape_of(list::word(bytes, at, 0)),
-        depth_db: list::float(bytes, at, 1),
-        phase: list::float(bytes, at, 2),
-        size_octaves: list::float(bytes, at, 3),
+        shape: scene::shape_of(list::word(bytes, first, 0)),
+        depth_db: list::float(bytes, first, 1),
+        phase: list::float(bytes, first, 2),
+        size_octaves: list::float(bytes, first, 3),
     }
 }
 
 // A mask's settings, from eleven words.
-pub fn config_at(bytes: &[u8], at: usize) -> MaskConfig {
+pub fn config_at(bytes: &[u8], at: usize, past: usize) -> MaskConfig {
+    let first = wrapping_add_usize(at, past);
     MaskConfig {
-        sample_rate: list::float(bytes, at, 0),
-        fft_size: list::count(bytes, at, 1),
-        note_depth_db: list::float(bytes, at, 2),
-        note_layer_enabled: list::word(bytes, at, 3) != 0,
-        width_cents: list::float(bytes, at, 4),
-        partials: list::count(bytes, at, 5),
-        harmonic_rolloff_db_per_octave: list::float(bytes, at, 6),
-        motion: motion_at(bytes, wrapping_add_usize(at, 7)),
+        sample_rate: list::float(bytes, first, 0),
+        fft_size: list::count(bytes, first, 1),
+        note_depth_db: list::float(bytes, first, 2),
+        note_layer_enabled: list::word(bytes, first, 3) != 0,
+        width_cents: list::float(bytes, first, 4),
+        partials: list::count(bytes, first, 5),
+        harmonic_rolloff_db_per_octave: list::float(bytes, first, 6),
+        motion: motion_at(bytes, first, 7),
     }
 }
 
@@ -46,42 +48,46 @@ fn default_voice() -> MaskVoice {
     }
 }
 
-fn voice_at(bytes: &[u8], at: usize) -> MaskVoice {
+fn voice_at(bytes: &[u8], at: usize, past: usize) -> MaskVoice {
+    let first = wrapping_add_usize(at, past);
     MaskVoice {
-        note: (list::word(bytes, at, 0) % 256) as u8,
-        level: list::float(bytes, at, 1),
-        tuning_semitones: list::float(bytes, at, 2),
-        pressure: list::float(bytes, at, 3),
-        timbre: list::float(bytes, at, 4),
-        volume_gain: list::float(bytes, at, 5),
-        expression_gain: list::float(bytes, at, 6),
-        pan: list::float(bytes, at, 7),
+        note: (list::word(bytes, first, 0) % 256) as u8,
+        level: list::float(bytes, first, 1),
+        tuning_semitones: list::float(bytes, first, 2),
+        pressure: list::float(bytes, first, 3),
+        timbre: list::float(bytes, first, 4),
+        volume_gain: list::float(bytes, first, 5),
+        expression_gain: list::float(bytes, first, 6),
+        pan: list::float(bytes, first, 7),
     }
 }
 
 // The stored voice with this number, or a default one past them.
-fn voice_of(bytes: &[u8], at: usize, number: usize) -> MaskVoice
+fn voice_of(bytes: &[u8], first: usize, number: usize) -> MaskVoice
     requires { ⌜ number < 128 ⌝ }
 {
-    if number < list::count(bytes, at, 1) {
-        return voice_at(bytes, wrapping_add_usize(at, 2 + number * VOICE_WORDS));
+    if number < list::count(bytes, first, 1) {
+        return voice_at(bytes, first, 2 + number * VOICE_WORDS);
     }
     default_voice()
 }
 
-// The first 128 voices: a call refuses more before it reads any.
-pub fn voices_at(bytes: &[u8], at: usize) -> [MaskVoice; 128] {
+// The first 128 voices. A call with more is refused before it reads any.
+pub fn voices_at(bytes: &[u8], at: usize, past: usize) -> [MaskVoice; 128] {
+    let first = wrapping_add_usize(at, past);
     let mut voices = [default_voice(); 128];
     let mut number: usize = 0;
     while number < 128 {
-        voices[number] = voice_of(bytes, at, number);
+        voices[number] = voice_of(bytes, first, number);
         number += 1;
     }
     voices
 }
 
-// The place after the voices; at most 128 are stored.
-pub fn past_voices(bytes: &[u8], at: usize) -> usize {
-    let stored = list::count(bytes, at, 1) % 129;
-    wrapping_add_usize(at, 2 + stored * VOICE_WORDS)
+// The number of words of the voices, of which at most 128 are stored.
+pub fn voice_words(bytes: &[u8], at: usize, past: usize) -> usize
+    ensures { λ r. ⌜ r ≤ 1026 ⌝ }
+{
+    let first = wrapping_add_usize(at, past);
+    2 + list::count(bytes, first, 1) % 129 * VOICE_WORDS
 }

@@ -1,8 +1,23 @@
-// A slice told in 8 words: length, seed, low, high, and twice a place and a value.
+// A slice described by 8 words: length, seed, low, high, and twice a place and a value.
+ghost use Rattle.replay.specs.Counts.{Counts};
 use crate::list;
+use std::num::wrapping_add_usize;
 
-pub fn length(bytes: &[u8], at: usize) -> usize {
-    list::count(bytes, at, 0)
+// The count, or the length of the room where that is less.
+pub fn within(count: usize, room: &[f32]) -> usize
+    ensures { λ r. ⌜ Counts r (now (room .entry)) ⌝ }
+{
+    if count <= room.len() {
+        return count;
+    }
+    room.len()
+}
+
+// The slice's length, or that of the room for it where that is less.
+pub fn length(bytes: &[u8], at: usize, past: usize, room: &[f32]) -> usize
+    ensures { λ r. ⌜ Counts r (now (room .entry)) ⌝ }
+{
+    within(list::count(bytes, at, past), room)
 }
 
 // The generator's next state.
@@ -26,22 +41,32 @@ fn put(xs: &mut [f32], place: usize, value: f32) {
     }
 }
 
-// Puts in the two values that have a place of their own.
-pub fn put_both(bytes: &[u8], at: usize, xs: &mut [f32]) {
-    put(xs, list::count(bytes, at, 4), list::float(bytes, at, 5));
-    put(xs, list::count(bytes, at, 6), list::float(bytes, at, 7));
+// Puts the two values at their places.
+pub fn put_both(bytes: &[u8], at: usize, past: usize, xs: &mut [f32]) {
+    let first = wrapping_add_usize(at, past);
+    put(
+        xs,
+        list::count(bytes, first, 4),
+        list::float(bytes, first, 5),
+    );
+    put(
+        xs,
+        list::count(bytes, first, 6),
+        list::float(bytes, first, 7),
+    );
 }
 
-// Makes the entries of the slice that the words at a place tell of.
-pub fn fill(bytes: &[u8], at: usize, xs: &mut [f32]) {
-    let low = list::word(bytes, at, 2);
-    let high = list::word(bytes, at, 3);
-    let mut state = list::word(bytes, at, 1);
+// Makes the entries of the slice.
+pub fn fill(bytes: &[u8], at: usize, past: usize, xs: &mut [f32]) {
+    let first = wrapping_add_usize(at, past);
+    let low = list::word(bytes, first, 2);
+    let high = list::word(bytes, first, 3);
+    let mut state = list::word(bytes, first, 1);
     let mut i: usize = 0;
     while i < xs.len() {
         state = next(state);
         xs[i] = spread(low, high, state);
         i += 1;
     }
-    put_both(bytes, at, xs);
+    put_both(bytes, at, past, xs);
 }

@@ -1,5 +1,5 @@
-// Words, answers and hashes of slices as text. A part of a line begins with a space; a line begins
-// with the call's name.
+// Words, answers and hashes of slices as text. A line is the call's name and parts that each begin
+// with a space.
 use answer::Answer;
 use answer::Outcome;
 use answer::Prepared;

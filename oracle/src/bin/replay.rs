@@ -1,59 +1,56 @@
-//! Writes the replay lists, or checks that those of the repository are the ones it would write.
+//! Writes the replay lists, or checks that the repository has the lists that it would write.
 //!
-//!     replay [NAME ..]                 write these lists into the repository's crates
-//!     replay --check [NAME ..]         write nothing; exit 1 where a list differs
-//!     replay --into FOLDER [NAME ..]   write into another folder
+//!     replay [PROGRAM ..]                 write the lists of these programs into their crates
+//!     replay --check [PROGRAM ..]         write nothing; exit 1 where a file differs
+//!     replay --into FOLDER [PROGRAM ..]   write into another folder
 //!
-//! Without names: into another folder all lists, else those that the repository has.
+//! Where no program is named: into another folder all of them, else those that the repository has.
 
-use oracle::lists::{ALL, Named};
+use oracle::lists::{PROGRAMS, Program};
 use std::path::{Path, PathBuf};
 use std::process::ExitCode;
 
-fn stdout(folder: &Path, named: &Named) -> PathBuf {
-    folder.join(named.program).join("stdout")
+/// A path and what the file has to hold.
+type File = (PathBuf, Vec<u8>);
+
+fn stdout(folder: &Path, program: &Program) -> PathBuf {
+    folder.join(program.name).join("stdout")
 }
 
-/// The text of the lists, and the files with their contents. A list without calls or without a
-/// drawing has no file of it.
-fn files(folder: &Path, named: &Named) -> (String, Vec<(PathBuf, Vec<u8>)>) {
-    let program = folder.join(named.program);
+/// A program's files: the calls of each list, the drawing, and the text of all lists together.
+fn files(folder: &Path, program: &Program) -> Vec<File> {
+    let place = folder.join(program.name);
     let mut text = String::new();
     let mut files = Vec::new();
-    for (file, write) in named.lists {
-        let list = write();
+    for named in program.lists {
+        let list = (named.write)();
         text.push_str(&list.stdout);
         if !list.calls.is_empty() {
-            files.push((program.join("data").join(file), list.calls));
+            let file = format!("data/{}.bin", named.name);
+            files.push((place.join(file), list.calls));
         }
         if !list.plot.is_empty() {
-            files.push((program.join("plot.svg"), list.plot.into_bytes()));
+            files.push((place.join("plot.svg"), list.plot.into_bytes()));
         }
     }
-    files.push((stdout(folder, named), text.clone().into_bytes()));
-    (text, files)
+    files.push((stdout(folder, program), text.into_bytes()));
+    files
 }
 
-fn write(files: &[(PathBuf, Vec<u8>)]) -> std::io::Result<()> {
-    for (path, contents) in files {
-        std::fs::create_dir_all(path.parent().expect("a file lies in a folder"))?;
-        std::fs::write(path, contents)?;
-    }
-    Ok(())
+fn write((path, contents): &File) -> std::io::Result<()> {
+    std::fs::create_dir_all(path.parent().expect("a file lies in a folder"))?;
+    std::fs::write(path, contents)
 }
 
-fn differ(files: &[(PathBuf, Vec<u8>)]) -> bool {
-    let same = |(path, contents): &(PathBuf, Vec<u8>)| {
-        std::fs::read(path).is_ok_and(|found| found == *contents)
-    };
-    !files.iter().all(same)
+fn differs((path, contents): &File) -> bool {
+    !std::fs::read(path).is_ok_and(|found| found == *contents)
 }
 
 /// What the words of the command ask for.
 struct Order {
     folder: PathBuf,
     check: bool,
-    /// Whether a list is wanted that is not in the folder yet.
+    /// Whether to take programs whose files are not in the folder yet.
     new: bool,
     names: Vec<String>,
 }
@@ -66,7 +63,7 @@ impl Order {
             ["--check", names @ ..] => (crates, true, !names.is_empty(), names),
             names => (crates, false, !names.is_empty(), names),
         };
-        let known = |name: &&str| ALL.iter().any(|named| named.name == *name);
+        let known = |name: &&str| PROGRAMS.iter().any(|program| program.name == *name);
         names.iter().all(known).then(|| Self {
             folder,
             check,
@@ -75,25 +72,31 @@ impl Order {
         })
     }
 
-    fn wants(&self, named: &Named) -> bool {
-        let chosen = self.names.is_empty() || self.names.iter().any(|name| name == named.name);
-        chosen && (self.new || stdout(&self.folder, named).exists())
+    fn wants(&self, program: &Program) -> bool {
+        let chosen = self.names.is_empty() || self.names.iter().any(|name| name == program.name);
+        chosen && (self.new || stdout(&self.folder, program).exists())
     }
 
-    /// Writes or checks a list, and says whether it is as it should be.
-    fn carry_out(&self, named: &Named) -> bool {
-        let (text, files) = files(&self.folder, named);
-        let (name, lines) = (named.name, text.lines().count());
+    /// Writes or checks a program's files. True where they now are as they should be.
+    fn carry_out(&self, program: &Program) -> bool {
+        let (name, files) = (program.name, files(&self.folder, program));
+        let lists: Vec<&str> = program.lists.iter().map(|named| named.name).collect();
+        let lists = lists.join(", ");
         if !self.check {
-            write(&files).expect("the folder can be written");
-            println!("{name}: {lines} lines written");
-        } else if differ(&files) {
-            println!("{name}: differs from the list of today");
-            return false;
-        } else {
-            println!("{name}: {lines} lines as today");
+            for file in &files {
+                write(file).expect("the folder can be written");
+            }
+            println!("{name}: written: {lists}");
+            return true;
         }
-        true
+        let different: Vec<&File> = files.iter().filter(|file| differs(file)).collect();
+        for (path, _) in &different {
+            println!("{name}: not what the oracle writes: {}", path.display());
+        }
+        if different.is_empty() {
+            println!("{name}: as the oracle writes them: {lists}");
+        }
+        different.is_empty()
     }
 }
 
@@ -101,10 +104,10 @@ fn main() -> ExitCode {
     let words: Vec<String> = std::env::args().skip(1).collect();
     let words: Vec<&str> = words.iter().map(String::as_str).collect();
     let Some(order) = Order::of(&words) else {
-        eprintln!("usage: replay [--check | --into FOLDER] [NAME ..]");
+        eprintln!("usage: replay [--check | --into FOLDER] [PROGRAM ..]");
         return ExitCode::from(2);
     };
-    let wanted = ALL.iter().filter(|named| order.wants(named));
-    let failed = wanted.filter(|named| !order.carry_out(named)).count();
+    let wanted = PROGRAMS.iter().filter(|program| order.wants(program));
+    let failed = wanted.filter(|program| !order.carry_out(program)).count();
     ExitCode::from(u8::from(failed > 0))
 }

@@ -1,4 +1,4 @@
-//! The two lists `masks`: the four mask builders.
+//! The lists `masks` and `mask_refusals`: the four mask builders.
 
 use super::slices::hash_text;
 use super::{List, float_text, outcome_text};
@@ -167,7 +167,7 @@ fn refused(random: &mut Random, builder: Builder, number: u8) -> List {
     }
 }
 
-/// Every refusal of every builder, as often of each.
+/// Every refusal of every builder, each equally often.
 pub fn refusals() -> List {
     let mut list = List::default();
     let random = &mut Random::new(SEED);

@@ -1,5 +1,5 @@
-//! What the program of the 128 notes prints: it makes no calls of its own choosing, so its list has
-//! no records.
+//! What the program `note_frequencies` prints: the 128 notes. It reads no calls, so the list has no
+//! records.
 
 use super::List;
 use crate::oiko_dsp::note_frequency;

@@ -7,7 +7,7 @@ use std::collections::HashSet;
 
 const SEED: u64 = 20;
 const RECORD: usize = 16;
-/// NaNs of other bits than the usual one.
+/// NaNs other than the usual one.
 const NANS: [u32; 4] = [0x7f80_0001, 0x7fff_ffff, 0xff80_0001, 0xffc0_0000];
 
 /// The neighbour below, the number and the neighbour above, of both signs.
@@ -188,7 +188,7 @@ fn points_of(name: &str) -> Vec<f32> {
     [common(), own].concat()
 }
 
-/// Pairs and triples: every one of a short row with every other.
+/// Pairs and triples of the numbers of a short row.
 fn rows(arguments: usize) -> Vec<[u32; 3]> {
     let row = [
         0.0,
@@ -216,7 +216,7 @@ fn rows(arguments: usize) -> Vec<[u32; 3]> {
     found.into_iter().map(|row| row.map(f32::to_bits)).collect()
 }
 
-/// The kind of random argument that says most about a function.
+/// Random arguments of the kind that tests a function best.
 fn random_bits(random: &mut Random, name: &str) -> u32 {
     if random.once_in(2) {
         return random.bits();
@@ -231,7 +231,7 @@ fn random_bits(random: &mut Random, name: &str) -> u32 {
     }
 }
 
-/// The list as it grows; no record enters it twice.
+/// The list so far; no record enters it twice.
 #[derive(Default)]
 struct Numbers {
     list: List,

@@ -1,4 +1,4 @@
-//! The list `oiko_dsp`.
+//! The list `oiko_dsp`: gains from decibels, and frequencies of notes.
 
 use super::{List, answer_text, around_limits};
 use crate::calls;

@@ -1,5 +1,5 @@
-//! What the program `panel` prints: both masks of one scene, in rows at the chord's partials, and as
-//! a drawing.
+//! What the program `panel` prints: both masks of one scene, in rows at the chord's partials, and
+//! as a drawing.
 
 mod plot;
 

@@ -1,4 +1,4 @@
-//! Slices told in a few words, and the hash by which a slice is printed.
+//! Slices described by a few words, and the hash by which a slice is printed.
 
 use super::List;
 use crate::numbers::bits_of;
@@ -8,7 +8,7 @@ use crate::random::Random;
 pub const NOWHERE: u32 = u32::MAX;
 
 /// A slice by its rule: `length` entries from a congruential generator, spread from `low` to
-/// `high`, or all `low` where the two have the same bits; then up to two entries put in.
+/// `high`, or all `low` where the two have the same bits; then up to two entries are replaced.
 #[derive(Clone, Copy, Debug)]
 pub struct Slice {
     pub length: usize,

@@ -1,4 +1,4 @@
-//! The list `spectral_dsp`: the calls of spectral_dsp's lib but the mask builders.
+//! The list `spectral_dsp`: the calls of spectral_dsp's lib, without the mask builders.
 
 use super::slices::{Slice, hash_text};
 use super::{List, answer_text, around_finite, around_limits, outcome_text};
@@ -201,7 +201,7 @@ fn add_envelopes(list: &mut List, random: &mut Random) {
             list.add(advance_note_envelopes(elapsed, 50.0, held(random), levels));
         }
     }
-    // One note at a time, so that the order of the bits shows.
+    // One note at a time, so that a wrong order of the bits is found.
     for note in [0, 1, 7, 8, 63, 64, 120, 127] {
         let mut one = [0; 16];
         one[note / 8] = 0x80 >> (note % 8);

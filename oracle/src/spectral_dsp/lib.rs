@@ -17,8 +17,8 @@ pub const MIDI_NOTES: usize = 128;
 pub const MAX_PARTIALS: usize = 24;
 pub const MIN_DISPLAY_FREQUENCY_HZ: f32 = 20.0;
 pub const MANUAL_CURVE_MUTE_DB: f32 = -144.0;
-const DISPLAY_OCTAVES: f32 = 9.965_784;
-const MOTION_COMPENSATION_SAMPLES: usize = 256;
+pub(crate) const DISPLAY_OCTAVES: f32 = 9.965_784;
+pub(crate) const MOTION_COMPENSATION_SAMPLES: usize = 256;
 const MAX_MOTION_COMPENSATION_DB: f32 = 12.0;
 
 #[derive(Clone, Copy, Debug)]

@@ -2,8 +2,8 @@
 //!
 //!     stack SEED SCENES
 //!
-//! A call runs on a stack of its own, which holds one byte throughout before; what holds it still
-//! was not used. The frame of the Rust function that makes the call is counted with it.
+//! A call runs on a stack of its own that is filled with one byte before; what still holds it was
+//! not used. The frame of the Rust function that makes the call is counted with it.
 
 use linked::calls::{self as port, Crossing, Given};
 use oracle::builders::{Builder, Lent, Masks};

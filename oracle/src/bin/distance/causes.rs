@@ -85,7 +85,7 @@ fn lobes(scene: &Scene) -> Vec<Lobe> {
     all.take_while(|lobe| lobe.center <= nyquist).collect()
 }
 
-/// Which cause parts the two ways at a bin at which they differ.
+/// Why the two ways differ at a bin.
 fn cause(scene: &Scene, bin: usize, compact: f32, long: f32) -> Cause {
     let config = &scene.config;
     let bin_hz = config.sample_rate / config.fft_size as f32;

@@ -1,4 +1,4 @@
-//! How far the agreed meaning, which the oracle carries, lies from a build of the unaltered Rust.
+//! How far the agreed meaning, which the oracle has, is from a build of the unaltered Rust.
 //!
 //!     distance SEED COUNT
 //!

@@ -1,4 +1,4 @@
-//! Whole stereo masks over random scenes, and which cause parts them.
+//! Whole stereo masks over random scenes, and what makes them differ.
 
 use crate::measure::Distance;
 use crate::variants;
@@ -72,7 +72,7 @@ fn extremes(scene: &Scene) -> Masks {
 
 type Run = fn(&Scene) -> Masks;
 
-/// Two builds whose masks are compared, and what parts them.
+/// Two builds whose masks are compared, and what makes them differ.
 const PAIRS: [(&str, Run, Run); 7] = [
     ("the whole distance: unaltered, agreed", unaltered, agreed),
     ("compact way: unaltered, plain on std", unaltered, plain),

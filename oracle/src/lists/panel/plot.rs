@@ -1,4 +1,5 @@
-//! The drawing, in SVG: 1,000 units to the octave from 20 Hz on, 60 to the decibel from +12 dB down.
+//! The drawing, in SVG: 1,000 units to the octave from 20 Hz up, 60 to the decibel from +12 dB
+//! down.
 
 use super::{Built, decibels};
 use crate::functions::{clamp, floor_to_count, log2};
@@ -62,7 +63,8 @@ polyline, .left, .right { fill: none; stroke-linejoin: round }
 </style>
 <rect x='-1150' y='-1150' width='11650' height='8000' fill='#ffffff'/>
 <text x='0' y='-680' style='font-size: 380px'>C minor seventh</text>
-<text x='0' y='-270'>C4, E&#9837;4 on the left, G4 on the right, B&#9837;4 tuned down; 48 kHz, size 8,192</text>
+<text x='0' y='-270'>C4, E&#9837;4 on the left, G4 on the right, B&#9837;4 tuned down; \
+48 kHz, size 8,192</text>
 <path class='left' d='M7400 -770H7900'/><text x='8000' y='-680'>left</text>
 <path class='right' d='M8800 -770H9300'/><text x='9400' y='-680'>right</text>
 <text x='5000' y='6600' text-anchor='middle'>frequency</text>

@@ -7,10 +7,14 @@ use Rattle.replay.proofs.settings.voices_at.Statement.{statement}
 use Rattle.replay.proofs.settings.voices_at.Tie as tie
 
 abbrev Inv-loop : tie.InvT-loop
-Inv-loop bytes at voices₀ number₀ voices number = (number ≤ 128) × (length voices ≡ length voices₀)
+Inv-loop bytes at past first voices₀ number₀ voices number =
+    (number ≤ 128) × (length voices ≡ length voices₀)
 
 abbrev μ-loop : tie.MeasureT-loop
-μ-loop bytes at voices₀ number₀ voices number = 128 - number
+μ-loop bytes at past first voices₀ number₀ voices number = 128 - number
+
+wrapping-add-usize-requires : tie.Need-wrapping-add-usize-requires Inv-loop μ-loop
+wrapping-add-usize-requires c κs = search needs
 
 default-voice-requires : tie.Need-default-voice-requires Inv-loop μ-loop
 default-voice-requires c κs = search needs
@@ -45,6 +49,7 @@ voices-at-spec =
     (tie.spec
     Inv-loop
     μ-loop
+    wrapping-add-usize-requires
     default-voice-requires
     loop-holds
     voice-of-requires

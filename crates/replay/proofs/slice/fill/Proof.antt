@@ -7,10 +7,14 @@ use Rattle.replay.proofs.slice.fill.Statement.{statement}
 use Rattle.replay.proofs.slice.fill.Tie as tie
 
 abbrev Inv-loop : tie.InvT-loop
-Inv-loop bytes at xs₀ low high state₀ i₀ xs state i = (i ≤ length xs₀) × (length xs ≡ length xs₀)
+Inv-loop bytes at past xs₀ first low high state₀ i₀ xs state i =
+    (i ≤ length xs₀) × (length xs ≡ length xs₀)
 
 abbrev μ-loop : tie.MeasureT-loop
-μ-loop bytes at xs₀ low high state₀ i₀ xs state i = length xs₀ - i
+μ-loop bytes at past xs₀ first low high state₀ i₀ xs state i = length xs₀ - i
+
+wrapping-add-usize-requires : tie.Need-wrapping-add-usize-requires Inv-loop μ-loop
+wrapping-add-usize-requires c κs = search needs
 
 word-requires : tie.Need-word-requires Inv-loop μ-loop
 word-requires c κs = search needs
@@ -60,6 +64,7 @@ fill-spec =
     (tie.spec
     Inv-loop
     μ-loop
+    wrapping-add-usize-requires
     word-requires
     word-requires-2
     word-requires-3

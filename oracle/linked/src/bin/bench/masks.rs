@@ -169,7 +169,8 @@ fn print_row(name: &str, all: &[(Times, String)]) {
     let (worst, scene) = all.iter().min_by(by_ratio).expect("there is a scene");
     let (number, least, middle) = (all.len(), worst.ratio(), median(ratios));
     println!(
-        "| {name} | {number} | {port:.1} | {original:.1} | {mean:.2} | {middle:.2} | {least:.2} | {scene} |"
+        "| {name} | {number} | {port:.1} | {original:.1} | {mean:.2} | {middle:.2} | {least:.2} | \
+         {scene} |"
     );
 }
 

@@ -1,5 +1,5 @@
-//! On std's functions, but document 01's maximum, minimum, clamp, counts, remainder, powers by whole
-//! numbers, square root and sums.
+//! On std's functions, but document 01's maximum, minimum, clamp, counts, remainder, whole powers,
+//! square root and sums.
 
 pub mod functions {
     pub use super::super::std_functions::*;
