@@ -15,7 +15,7 @@ use Rattle.float_laws.specs.Rise.{Upto, Rise, rise-refl, rise-mul}
 use Rattle.float32.specs.Order.{clamp, finite}
 use Rattle.float32.proofs.OrderAgrees.{clamp-agrees}
 use Rattle.scene.specs.declared.MaskVoice.{MaskVoice}
-use Rattle.scene.proofs.Voices.{RealVoice}
+use Rattle.scene.specs.Voices.{RealVoice}
 use Rattle.lobes.specs.Pan.{Side, HARD-LEFT, HARD-RIGHT, MAX-EXPRESSION-GAIN, balance, panOf, expressionOf, channelGain}
 use Rattle.lobes.proofs.NoteLevels.{zero-is}
 use Rattle.lobes.proofs.Balances.{balance-upto}

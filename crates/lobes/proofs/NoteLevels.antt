@@ -17,7 +17,7 @@ use Rattle.float32.specs.Order.{maximum, clamp}
 use Rattle.float32.specs.Remainder.{zero, one}
 use Rattle.float32.proofs.OrderAgrees.{clamp-agrees, maximum-larger}
 use Rattle.scene.specs.declared.MaskVoice.{MaskVoice}
-use Rattle.scene.proofs.Voices.{RealVoice}
+use Rattle.scene.specs.Voices.{RealVoice}
 use Rattle.lobes.specs.Tone.{LEAST-PRESSURE-GAIN, PRESSURE-GAIN-RANGE, pressureGain, noteLevel}
 
 pub zero-is : zero ≡ plus-zero

@@ -13,7 +13,7 @@ use Rattle.float32.specs.Remainder.{zero}
 use Rattle.scene.specs.declared.MaskVoice.{MaskVoice}
 use Rattle.scene.specs.declared.MaskConfig.{MaskConfig}
 use Rattle.scene.specs.Accepted.{noVoice}
-use Rattle.scene.proofs.Voices.{RealVoice}
+use Rattle.scene.specs.Voices.{RealVoice}
 use Rattle.masks.specs.Manual.{manualGain}
 use Rattle.bin_gains.specs.Gains.{ceilingAt}
 use Rattle.bin_gains.proofs.Rising.{RealSettings, motion-upto, gate-rises}

@@ -11,7 +11,7 @@ use Rattle.power.specs.Table.{powerTable}
 use Rattle.sine.specs.Table.{sineTable}
 use Rattle.gaussian.specs.Table.{gaussianTable}
 use Rattle.scene.specs.declared.MaskVoice.{MaskVoice}
-use Rattle.scene.proofs.Voices.{RealVoice}
+use Rattle.scene.specs.Voices.{RealVoice}
 use Rattle.lobes.specs.declared.Grid.{Grid}
 use Rattle.lobes.specs.declared.Tone.{Tone}
 use Rattle.lobes.specs.declared.Lobe.{Lobe}
