@@ -1,5 +1,6 @@
--- Whole runs of `advance_note_envelopes`: for every list of calls, refused ones among them, each on the bank that the one before handed back, levels that start in 0..1 stay there,
--- no call refuses a level, and no call moves a level away from its target. Assumes nothing.
+-- Whole runs of `advance_note_envelopes`: for every list of calls, refused ones among them, each on
+-- the bank that the one before handed back, levels that start in 0..1 stay there, no call refuses a
+-- level, and no call moves a level away from its target. Assumes nothing.
 use mathlib.Core.Path.{_≡_}
 use mathlib.Core.Bool.{Bool, true, false, not, cond}
 use mathlib.Core.List.{List, []}
@@ -14,13 +15,13 @@ use lib.Ieee.Bits.{is-true}
 use Rattle.float_laws.specs.Units.{real-number}
 use Rattle.float_laws.specs.Order.{le-refl-f}
 use Rattle.lists.specs.Folds.{fold, fold-keeps, firstBad, bad-none}
+use Rattle.float32.proofs.InUnit.{InUnit, unit-within}
 use Rattle.float32.proofs.Limits.{within-low, within-real}
 use Rattle.answer.specs.Reply.{done, refused}
 use Rattle.answer.specs.Written.{written}
 use Rattle.limits.specs.Limits as limits
 use Rattle.limits.specs.Limits.{LEAST-ELAPSED, MOST-ELAPSED, LEAST-FADE, MOST-FADE}
 use Rattle.envelopes.specs.Envelope.{isHeld, fadeAlpha, advanced}
-use Rattle.envelopes.proofs.Unit.{Unit, unit-within}
 use Rattle.envelopes.proofs.Alpha.{fade-alpha-unit}
 use Rattle.envelopes.proofs.Bank.{Levels, Toward, levels-stay, none-moves-away}
 use Rattle.list_calls.specs.Advanced.{advanceReply, advanceOf}
@@ -40,7 +41,8 @@ after bank frame = advanceOf bank (frame .held) (frame .elapsed) (frame .fade) .
 abbrev pub run : List Float → List Frame → List Float
 run bank frames = fold after bank frames
 
--- ---- a call refuses and changes nothing, or its numbers are within their limits and it advances the bank
+-- ---- a call refuses and changes nothing, or its numbers are within their limits and it advances
+-- the bank
 by-cases : (P : List Float → Type 0) (bank : List Float) (frame : Frame) → P bank
     → (T (limits.elapsed (frame .elapsed)) → T (limits.fade (frame .fade)) → P (advanced (frame .held) (frame .elapsed) (frame .fade) bank)) → P (after bank frame)
 by-cases P bank frame same next = go (limits.elapsed (frame .elapsed)) (limits.fade (frame .fade)) (ltb note (length bank)) next
@@ -55,7 +57,7 @@ by-cases P bank frame same next = go (limits.elapsed (frame .elapsed)) (limits.f
     go true true true next = same
     go true true false next = next tt tt
 
-alpha-unit : (frame : Frame) → T (limits.elapsed (frame .elapsed)) → T (limits.fade (frame .fade)) → Unit (fadeAlpha (frame .elapsed) (frame .fade))
+alpha-unit : (frame : Frame) → T (limits.elapsed (frame .elapsed)) → T (limits.fade (frame .fade)) → InUnit (fadeAlpha (frame .elapsed) (frame .fade))
 unfolding fits ofBits
 alpha-unit frame s t =
     let e = frame .elapsed in
@@ -67,9 +69,9 @@ alpha-unit frame s t =
 levels-stay-once : (bank : List Float) (frame : Frame) → Levels bank → Levels (after bank frame)
 levels-stay-once bank frame l = by-cases Levels bank frame l (λ s t. levels-stay bank (frame .held) (frame .elapsed) (frame .fade) (alpha-unit frame s t) l)
 
-stands : (held : Bool) (level : Float) → Unit level → Toward held level level
-stands false level u = le-refl-f binary32 level (real-number binary32 level (u .is-real))
-stands true level u = inl (le-refl-f binary32 level (real-number binary32 level (u .is-real)))
+stands : (held : Bool) (level : Float) → InUnit level → Toward held level level
+stands false level u = le-refl-f binary32 level (real-number binary32 level (u .finite))
+stands true level u = inl (le-refl-f binary32 level (real-number binary32 level (u .finite)))
 
 pub no-level-moves-away : (bank : List Float) (frame : Frame) → Levels bank → (note : ℕ) → note < length bank
     → Toward (isHeld (frame .held) note) (getD bank note nan) (getD (after bank frame) note nan)

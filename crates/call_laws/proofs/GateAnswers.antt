@@ -1,5 +1,6 @@
--- What the calls on the gate and the drawn curve answer to accepted input, and the range of it: an emphasis from 1 to 2; a gate from the floor to 3, the floor from 0 to 1; a manual
--- gain from 0 to 1. The tests pass, and the rest is known of the core. Assumes nothing.
+-- What the calls on the gate and the drawn curve answer to accepted input, and the range of it: an
+-- emphasis from 1 to 2; a gate from the floor to 3, the floor from 0 to 1; a manual gain from 0 to
+-- 1. The tests pass, and the rest is known of the core. Assumes nothing.
 use mathlib.Core.Path.{_≡_, refl}
 use mathlib.Core.Bool.{false}
 use mathlib.Core.List.{List, [], _∷_}
@@ -18,7 +19,7 @@ use Rattle.limits.specs.Limits as limits
 use Rattle.decibels.proofs.Gains.{two}
 use Rattle.masks.specs.Gates.{emphasisGain, floorGain, limitedGateGain}
 use Rattle.masks.specs.Manual.{MANUAL-MASK-POINTS, curvePoint, manualGain}
-use Rattle.masks.proofs.InUnit.{InUnit}
+use Rattle.float32.proofs.InUnit.{InUnit}
 use Rattle.masks.proofs.Emphasis.{emphasis-at-least-one, emphasis-at-most-two}
 use Rattle.masks.proofs.Gated.{note-gate-at-least-floor, note-gate-at-most-three}
 use Rattle.masks.proofs.Curve.{curve-gain-in-unit}

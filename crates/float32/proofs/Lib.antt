@@ -8,6 +8,9 @@ pub mod Magnitude
 pub mod FiniteTest
 pub mod Limits
 pub mod OrderAgrees
+pub mod InUnit
+pub mod LastStretch
+pub mod Smoothstep
 pub mod Squares
 pub mod WholePart
 pub mod Remainders

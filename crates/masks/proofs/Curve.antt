@@ -21,7 +21,7 @@ use Rattle.power.specs.Power.{powerAt, powerOf, E2}
 use Rattle.decibels.specs.Gain.{gainOf}
 use Rattle.decibels.proofs.Gains.{gain-nonneg, gain-number, gain-at-most-one, gain-never-falls}
 use Rattle.masks.specs.Manual.{MANUAL-CURVE-MUTE-DB, curveGain}
-use Rattle.masks.proofs.InUnit.{InUnit, in-unit, zero-in-unit, zero-is}
+use Rattle.float32.proofs.InUnit.{InUnit, in-unit, zero-in-unit, zero-is}
 
 -- ---- "curve -144 gives 0, +6 gives 1"
 pub curve-mute : curveGain MANUAL-CURVE-MUTE-DB ≡ plus-zero
