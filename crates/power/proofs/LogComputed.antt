@@ -12,9 +12,10 @@ use lib.Ieee.Digits.{size-lt}
 use Rattle.power.specs.Table.{lowBits, P, I}
 use Rattle.power.specs.Rules.{P-rule}
 use Rattle.power.specs.Log.{greatest, positiveNormal, unitsOf, rounded, logAt, logOf, L2}
+use Rattle.power.specs.Stages.{guessed}
 use Rattle.power.proofs.Division.{found-by-division}
 use Rattle.power.proofs.Search.{step-is}
-use Rattle.power.proofs.Guess.{guessed, guess-within, guess-from, guess-to, step-from}
+use Rattle.power.proofs.Guess.{guess-within, guess-from, guess-to, step-from}
 use Rattle.power.proofs.Normal.{units-low}
 use Rattle.power.proofs.LogRising.{size-high, M-low}
 
