@@ -11,7 +11,6 @@ pub mod OrderAgrees
 pub mod InUnit
 pub mod LastStretch
 pub mod Smoothstep
-pub mod Squares
 pub mod WholePart
 pub mod Remainders
 pub mod RemainderByOne
