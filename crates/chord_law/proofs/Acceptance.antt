@@ -1,4 +1,5 @@
--- What an accepted call is given: what `mask_calls` knows of a scene that is built, said of a call. Assumes nothing.
+-- What an accepted call is given: what `mask_calls` knows of a scene that is built, said of a call.
+-- Assumes nothing.
 use mathlib.Core.Path.{_≡_}
 use Prim.Native.Nat.{ℕ, _<_}
 use lib.Dec.{T}

@@ -1,4 +1,5 @@
--- What equal settings, equal entries and matched voices are worth to the laws below: settings that differ at most in signs of zeros, and a voice raised above another. Assumes nothing.
+-- What equal settings, equal entries and matched voices are worth to the laws below: settings that
+-- differ at most in signs of zeros, and a voice raised above another. Assumes nothing.
 use mathlib.Core.Path.{_≡_, refl, sym, ap, _∙_}
 use mathlib.Core.Bool.{true, false, not}
 use Prim.Native.Nat.{ℕ, _/_, _+_, _<_}

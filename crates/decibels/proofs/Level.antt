@@ -1,4 +1,5 @@
--- A level row, one of a single number: numbers that are equal as floats compare have one gain, to the bit, since gains never fall and none is a negative zero. So the gain of the first entry
+-- A level row, one of a single number: numbers that are equal as floats compare have one gain, to
+-- the bit, since gains never fall and none is a negative zero. So the gain of the first entry
 -- serves for all of them. Assumes nothing.
 use mathlib.Core.Path.{_≡_, refl, sym, _∙_}
 use mathlib.Core.Bool.{Bool, true, false, not, cond, _&&_, _||_, Bool·beq, true≢false}

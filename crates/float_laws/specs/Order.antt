@@ -1,6 +1,6 @@
 -- The order of numbers, a NaN left out: a total order up to `eq`, which puts the two zeros in one
--- place. `larger` and `smaller` are of two numbers; `maximum` and `clamp` are document 01's, and agree
--- with them on numbers. Each law is one on keys, and `omega` proves it. Assumes nothing.
+-- place. `larger` and `smaller` are of two numbers; `maximum` and `clamp` are document 01's, and
+-- agree with them on numbers. Each law is one on keys, and `omega` proves it. Assumes nothing.
 use mathlib.Core.Path.{_≡_, refl, sym, ap, _∙_}
 use mathlib.Core.Logic.{_⊎_, inl, inr}
 use mathlib.Core.Bool.{Bool, true, false, not, cond, true≢false}

@@ -1,4 +1,5 @@
--- The gain of what a voice opens never falls as its expression rises, and is from 0 to 8: the expression is at most 4 and a balance, never negative, at most 2. Assumes nothing.
+-- The gain of what a voice opens never falls as its expression rises, and is from 0 to 8: the
+-- expression is at most 4 and a balance, never negative, at most 2. Assumes nothing.
 use mathlib.Core.Path.{_≡_, refl}
 use mathlib.Core.Bool.{true}
 use native.Mathlib.Nat.{le-trans, le-of-eq}

@@ -1,4 +1,5 @@
--- A voice's level never falls as its own level, its volume or its pressure rises: each operation keeps the order. It is finite and not negative. Assumes nothing.
+-- A voice's level never falls as its own level, its volume or its pressure rises: each operation
+-- keeps the order. It is finite and not negative. Assumes nothing.
 use mathlib.Core.Path.{_≡_, refl}
 use mathlib.Core.Bool.{Bool, true, false, cond}
 use native.Mathlib.Omega.{arith}

@@ -1,5 +1,8 @@
--- A voice and one that is raised above it: the same pitch, the same fall of the partials and the same balance, and level, pressure, volume and expression no lower. Partial by partial the two have
--- lobes on the same bins, and at each bin what the raised voice opens is at least what the other opens. The bell is the same, and the rest are products that keep the order. Assumes nothing.
+-- A voice and one that is raised above it: the same pitch, the same fall of the partials and the
+-- same balance, and level, pressure, volume and expression no lower. Partial by partial the two
+-- have lobes on the same bins, and at each bin what the raised voice opens is at least what the
+-- other opens. The bell is the same, and the rest are products that keep the order. Assumes
+-- nothing.
 use mathlib.Core.Path.{_≡_, refl}
 use mathlib.Core.List.{List}
 use Prim.Native.Nat.{ℕ, _≤_}

@@ -1,4 +1,5 @@
--- A bin of a mask never falls as its curve point rises and as voices are raised: the manual gain and the gate never fall, the motion is the same, and all three are finite and not negative, so
+-- A bin of a mask never falls as its curve point rises and as voices are raised: the manual gain
+-- and the gate never fall, the motion is the same, and all three are finite and not negative, so
 -- the product of the three rises. Assumes nothing.
 use mathlib.Core.Bool.{Bool, true, false, cond}
 use mathlib.Core.List.{List}

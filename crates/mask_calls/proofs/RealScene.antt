@@ -1,6 +1,6 @@
--- What is known of the numbers of a scene that a mask builder goes on to build: the voices that count
--- are real, the settings are real, and the table's entries from 1 on are finite. The tests were
--- passed, and the types of the parameters say that each number is an f32. Assumes nothing.
+-- What is known of the numbers of a scene that a mask builder goes on to build: the voices that
+-- count are real, the settings are real, and the table's entries from 1 on are finite. The tests
+-- were passed, and the types of the parameters say that each number is an f32. Assumes nothing.
 use mathlib.Core.Path.{_≡_, sym, subst}
 use mathlib.Core.Bool.{Bool, _&&_}
 use mathlib.Core.List.{List}

@@ -1,5 +1,5 @@
--- The decibels that a curve value counts as, so that its gain is one power: those of a muted value are
--- so few that the power is 0. Assumes nothing.
+-- The decibels that a curve value counts as, so that its gain is one power: those of a muted value
+-- are so few that the power is 0. Assumes nothing.
 use mathlib.Core.Bool.{cond}
 use lib.Ieee.{Float, binary32, ofBits}
 use Rattle.float32.specs.Order.{minimum}

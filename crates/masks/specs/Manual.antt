@@ -16,8 +16,8 @@ MANUAL-MASK-POINTS = 8193
 abbrev pub LAST-POINT : ℕ
 LAST-POINT = 8192
 
--- "Bin b reads curve point floor((b * 8192 + size / 4) / (size / 2)), at most 8,192." A bin is at most
--- 8,192; one above it would count as that.
+-- "Bin b reads curve point floor((b * 8192 + size / 4) / (size / 2)), at most 8,192." A bin is at
+-- most 8,192; one above it would count as that.
 unfoldable pub curvePoint : ℕ → ℕ → ℕ
 curvePoint bin size = min ((min bin LAST-POINT * LAST-POINT + size / 4) / (size / 2)) LAST-POINT
 

@@ -1,4 +1,5 @@
--- L2 of a positive normal number in a form that a test can compute: F by the guess and the test that `log2` has and one division, where the definition tries every F. Assumes nothing.
+-- L2 of a positive normal number in a form that a test can compute: F by the guess and the test
+-- that `log2` has and one division, where the definition tries every F. Assumes nothing.
 use mathlib.Core.Path.{_≡_, sym, ap, _∙_}
 use Prim.Native.Nat.{ℕ, _+_, _-_, _*_, _/_, _^_, _≤_, _<_}
 use native.Mathlib.Nat.{div-lt-iff-lt-mul, lt-of-lt-of-le, le-of-eq}

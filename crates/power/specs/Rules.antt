@@ -1,5 +1,5 @@
--- The rule of P: it has 257 entries, and entry j is the greatest whole number whose 256th power is at
--- most 2 ^ (7680 + j). It is shown by one test that runs over the whole table. Assumes nothing.
+-- The rule of P: it has 257 entries, and entry j is the greatest whole number whose 256th power is
+-- at most 2 ^ (7680 + j). It is shown by one test that runs over the whole table. Assumes nothing.
 use mathlib.Core.Path.{_≡_, refl}
 use mathlib.Core.Bool.{Bool, _&&_}
 use Prim.Native.Nat.{ℕ, suc, _+_, _*_, _^_, _≤_, _<_}
@@ -10,8 +10,8 @@ use lib.Ieee.Fits.{and-l, and-r}
 use Rattle.lists.specs.Tested.{every, every-at}
 use Rattle.power.specs.Table.{highBits, lowBits, powerTable, P}
 
--- x is the greatest whole number with x ^ n ≤ 2 ^ (30 * n + j): entry j of a table of n steps. Here n
--- is 256, and 30 * n is 7680
+-- x is the greatest whole number with x ^ n ≤ 2 ^ (30 * n + j): entry j of a table of n steps. Here
+-- n is 256, and 30 * n is 7680
 pub record Root (n j x : ℕ) : Type 0 where
   pub most : x ^ n ≤ 2 ^ (30 * n + j)
   pub more : 2 ^ (30 * n + j) < suc x ^ n

@@ -1,5 +1,5 @@
--- What the stages of a logarithm hand on: the digits of a number that has one, the step of the table
--- that these lie in, and the guess that the search for it begins with. Assumes nothing.
+-- What the stages of a logarithm hand on: the digits of a number that has one, the step of the
+-- table that these lie in, and the guess that the search for it begins with. Assumes nothing.
 use Prim.Native.Nat.{ℕ, _+_, _-_, _*_, _/_, _%_, _^_}
 use lib.Ieee.{Float, binary32, toBits}
 use Rattle.power.specs.Table.{highBits, P}
@@ -17,7 +17,7 @@ stepOf v = greatest P (digitsOf v) (2 ^ highBits)
 abbrev pub SLOPE : ℕ
 SLOPE = 1506459779
 
--- The step for the ten leading digits m of a fraction, or the one before it: log2(1 + x) is a little
--- above x * (1.403 - x * (0.53 - x * 0.125)), with x = m / 1024.
+-- The step for the ten leading digits m of a fraction, or the one before it: log2(1 + x) is a
+-- little above x * (1.403 - x * (0.53 - x * 0.125)), with x = m / 1024.
 abbrev pub guessed : ℕ → ℕ
 guessed m = m * (SLOPE - m * (555745 - m * 128)) / 2 ^ 32

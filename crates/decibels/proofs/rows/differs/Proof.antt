@@ -1,4 +1,5 @@
--- `differs` has seen no other number: each entry below k is the number, as floats compare. Assumes nothing.
+-- `differs` has seen no other number: each entry below k is the number, as floats compare. Assumes
+-- nothing.
 use mathlib.Core.Path.{_≡_}
 use mathlib.Core.Bool.{false}
 use Prim.Native.Nat.{_-_, _≤_}
