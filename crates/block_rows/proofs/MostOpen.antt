@@ -19,7 +19,8 @@ use Rattle.blocks.specs.Least.{Numbers}
 use Rattle.lobes.specs.declared.Grid.{Grid}
 use Rattle.lobes.specs.declared.Lobe.{Lobe}
 use Rattle.lobes.specs.Distance.{lent}
-use Rattle.lobe_bounds.proofs.Bounded.{Measured, opening-in-unit}
+use Rattle.lobe_bounds.specs.Bound.{Measured}
+use Rattle.lobe_bounds.proofs.Bounded.{opening-in-unit}
 use Rattle.lobe_joins.specs.Joined.{lobeJoined, noLobe, lobesJoined}
 use Rattle.lobe_joins.proofs.Maxima.{le-join, joinWhere, FitWhere, BelowWhere, where-join, nothing-open}
 use Rattle.lobe_joins.proofs.Highest.{InUnit, highest-reaches, once-before}

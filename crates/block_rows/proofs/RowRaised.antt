@@ -21,7 +21,8 @@ use Rattle.lobes.specs.declared.Grid.{Grid}
 use Rattle.lobes.specs.declared.Lobe.{Lobe}
 use Rattle.lobes.specs.Distance.{lent}
 use Rattle.lobes.specs.Lobe.{opening}
-use Rattle.lobe_bounds.proofs.Bounded.{Measured, opening-in-unit}
+use Rattle.lobe_bounds.specs.Bound.{Measured}
+use Rattle.lobe_bounds.proofs.Bounded.{opening-in-unit}
 use Rattle.lobe_joins.specs.Joined.{joined, lobeJoined}
 use Rattle.lobe_joins.proofs.Maxima.{le-join, where-join}
 use Rattle.lobe_joins.proofs.Highest.{keeps-higher}

@@ -13,7 +13,7 @@ use Rattle.lobes.specs.declared.Grid.{Grid}
 use Rattle.lobes.specs.declared.Lobe.{Lobe}
 use Rattle.lobes.specs.Distance.{Logs, lent}
 use Rattle.lobes.specs.Lobe.{opening}
-use Rattle.lobe_bounds.proofs.Bounded.{Measured}
+use Rattle.lobe_bounds.specs.Bound.{Measured}
 use Rattle.lobe_joins.specs.Joined.{noLobe, lobesJoined}
 
 -- the most that one of them opens at a bin

@@ -15,6 +15,7 @@ use lib.Ieee.Bits.{is-true}
 use Rattle.float_laws.specs.Units.{real-number}
 use Rattle.float_laws.specs.Order.{le-refl-f}
 use Rattle.lists.specs.Folds.{fold, fold-keeps, firstBad, bad-none}
+use Rattle.float32.proofs.InUnit.{InUnit, unit-within}
 use Rattle.float32.proofs.Limits.{within-low, within-real}
 use Rattle.answer.specs.Refusal.{SETTING, LIST-VALUE}
 use Rattle.answer.specs.Reply.{done, refused}
@@ -22,7 +23,6 @@ use Rattle.answer.specs.Written.{written}
 use Rattle.limits.specs.Limits as limits
 use Rattle.limits.specs.Limits.{LEAST-ELAPSED, MOST-ELAPSED, LEAST-FADE, MOST-FADE}
 use Rattle.envelopes.specs.Envelope.{isHeld, fadeAlpha, advanced}
-use Rattle.envelopes.proofs.Unit.{Unit, unit-within}
 use Rattle.envelopes.proofs.Alpha.{fade-alpha-unit}
 use Rattle.envelopes.proofs.Bank.{Levels, Toward, levels-stay, none-moves-away}
 use Rattle.list_calls.specs.Advanced.{advanceReply, advanceOf}
@@ -66,7 +66,7 @@ by-cases P bank frame same next =
 
 alpha-unit :
     (frame : Frame) → T (limits.elapsed (frame .elapsed)) → T (limits.fade (frame .fade))
-    → Unit (fadeAlpha (frame .elapsed) (frame .fade))
+    → InUnit (fadeAlpha (frame .elapsed) (frame .fade))
 unfolding fits ofBits
 alpha-unit frame s t =
     let e = frame .elapsed in
@@ -83,9 +83,9 @@ levels-stay-once bank frame l =
     by-cases Levels bank frame l
     (λ s t. levels-stay bank (frame .held) (frame .elapsed) (frame .fade) (alpha-unit frame s t) l)
 
-stands : (held : Bool) (level : Float) → Unit level → Toward held level level
-stands false level u = le-refl-f binary32 level (real-number binary32 level (u .is-real))
-stands true level u = inl (le-refl-f binary32 level (real-number binary32 level (u .is-real)))
+stands : (held : Bool) (level : Float) → InUnit level → Toward held level level
+stands false level u = le-refl-f binary32 level (real-number binary32 level (u .finite))
+stands true level u = inl (le-refl-f binary32 level (real-number binary32 level (u .finite)))
 
 pub no-level-moves-away :
     (bank : List Float) (frame : Frame) → Levels bank → (note : ℕ) → note < length bank

@@ -20,7 +20,7 @@ use Rattle.decibels.proofs.Gains.{two}
 use Rattle.masks.specs.Gates.{emphasisGain, floorGain, limitedGateGain}
 use Rattle.limits.specs.Lengths.{MANUAL-MASK-POINTS}
 use Rattle.masks.specs.Manual.{curvePoint, manualGain}
-use Rattle.masks.proofs.InUnit.{InUnit}
+use Rattle.float32.proofs.InUnit.{InUnit}
 use Rattle.masks.proofs.Emphasis.{emphasis-at-least-one, emphasis-at-most-two}
 use Rattle.masks.proofs.Gated.{note-gate-at-least-floor, note-gate-at-most-three}
 use Rattle.masks.proofs.Curve.{curve-gain-in-unit}

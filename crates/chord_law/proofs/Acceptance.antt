@@ -9,7 +9,7 @@ use Rattle.lists.specs.Totals.{All, all-at}
 use Rattle.float_laws.specs.Units.{number}
 use Rattle.limits.specs.Lengths.{MANUAL-MASK-POINTS}
 use Rattle.scene.specs.Accepted.{noVoice, sizeAccepted, settingsAccepted}
-use Rattle.scene.proofs.Voices.{RealVoice}
+use Rattle.scene.specs.Voices.{RealVoice}
 use Rattle.refusals.proofs.MaskAccepted.{Done, is-done, stereo-accepted, stereo-settings}
 use Rattle.mask_calls.proofs.RealScene.{RealScene, RealTable, stereo-scene, stereo-table}
 use Rattle.refusals.specs.Masks.{bins}

@@ -17,7 +17,7 @@ use Rattle.limits.specs.Limits.{LEAST-RATE, MOST-RATE, LEAST-WIDTH, MOST-WIDTH}
 use Rattle.scene.specs.declared.MaskVoice.{MaskVoice}
 use Rattle.scene.specs.declared.MaskConfig.{MaskConfig}
 use Rattle.scene.specs.Accepted.{sizeAccepted, settingsAccepted}
-use Rattle.scene.proofs.Voices.{RealVoice}
+use Rattle.scene.specs.Voices.{RealVoice}
 use Rattle.lobes.proofs.Raised.{Raised}
 use Rattle.lobes.proofs.ZeroSigns.{SameTable, pitch-same, timbre-same, balance-same}
 use Rattle.mask_builder.proofs.ZeroSigns.{SameConfig}

@@ -1,6 +1,7 @@
--- A level row, one of a single number: numbers that are equal as floats compare have one gain, to the bit, since gains never fall and none is a negative zero. So the gain of the first entry
+-- A level row, one of a single number: numbers that are equal as floats compare have one gain, to
+-- the bit, since gains never fall and none is a negative zero. So the gain of the first entry
 -- serves for all of them. Assumes nothing.
-use mathlib.Core.Path.{_≡_, refl, sym, ap, _∙_}
+use mathlib.Core.Path.{_≡_, refl, sym, _∙_}
 use mathlib.Core.Bool.{Bool, true, false, not, cond, _&&_, _||_, Bool·beq, true≢false}
 use mathlib.Core.List.{List}
 use Prim.Native.Nat.{ℕ, _+_, _-_, _*_, _/_, _%_, _^_, _<_}
@@ -8,7 +9,7 @@ use native.Mathlib.Decide.{decLt}
 use native.Mathlib.Omega.{arith}
 use lib.Dec.{T, ltb, eqb, eqb→eq, eqb-refl}
 use lib.ListN.{length, getD}
-use lib.Ieee.{Float, nan, inf, fin, binary32, up, down, level, lt, eq, le, ne, odd, isNan, mul, div}
+use lib.Ieee.{Float, nan, inf, fin, binary32, up, down, level, lt, eq, le, ne, odd, isNan}
 use lib.Seq.{ext-getD}
 use Rattle.lists.specs.Maps.{mapRange, between, between-in, between-high, length-mapRange, getD-mapRange}
 use Rattle.float_laws.specs.Units.{sign}

@@ -1,26 +1,26 @@
--- The part of the way that a level goes lies in 0..1, for every elapsed time and fade within their limits: -elapsed / time is at most 0, so its exponential is in 0..1, and so is 1 less that.
+-- The part of the way that a level goes lies in 0..1, for every elapsed time and fade within their
+-- limits: -elapsed / time is at most 0, so its exponential is in 0..1, and so is 1 less that.
 -- Assumes nothing.
-use mathlib.Core.Path.{_≡_, refl, ap, _∙_}
+use mathlib.Core.Path.{_≡_, ap, _∙_}
 use mathlib.Core.Bool.{Bool, true, false, not, cond}
 use Prim.Native.Nat.{ℕ, _+_}
 use native.Mathlib.Omega.{arith}
 use lib.Dec.{T}
-use lib.Count.{trailingZeros}
 use lib.IntN.{pos}
-use lib.Ieee.{Float, Format, binary32, ofBits, fits, sub, mul, div, neg, le, lt, add, sum, round, size, span, climb, units, odd}
+use lib.Ieee.{Float, Format, binary32, ofBits, fits, sub, mul, div, neg, le, lt}
 use lib.Ieee.Scale.{overflow}
 use Rattle.float_laws.specs.Units.{mag, sign, real, key, keyed, real-number, key→le, le→key}
-use Rattle.float_laws.specs.Order.{not-le-f, le-refl-f}
+use Rattle.float_laws.specs.Order.{not-le-f}
 use Rattle.float_laws.specs.Round.{plus-zero, real-zero, key-zero, mag-zero, rnd, rnd-zero}
-use Rattle.float_laws.specs.Mono.{real-neg, key-neg, nonneg-key, above-zero, div-number, div-key, div-mono, sub-number, sub-mono}
+use Rattle.float_laws.specs.Mono.{real-neg, key-neg, nonneg-key, above-zero, div-number, div-key, div-mono}
 use Rattle.float_laws.specs.Bounds as bounds
-use Rattle.float_laws.specs.Bounds.{real-one, real-between, sub-nonneg, mul-real}
+use Rattle.float_laws.specs.Bounds.{mul-real}
 use Rattle.float32.specs.Constants.{LOG2-E}
+use Rattle.float32.proofs.InUnit.{InUnit, one-in-unit, one-less}
 use Rattle.power.specs.Decimal.{exp}
 use Rattle.power.proofs.Range.{E2-nonneg, E2-real}
 use Rattle.power.proofs.Bases.{exp-at-most-one}
 use Rattle.envelopes.specs.Envelope.{smoothingAlpha, SECONDS-PER-MS, fadeAlpha}
-use Rattle.envelopes.proofs.Unit.{Unit, unit-one}
 
 -- ---- -elapsed / time is at most 0
 module _ (f : Format) (elapsed time : Float) (p : T (real f elapsed)) (h : T (le plus-zero elapsed)) (q : T (real f time)) (l : T (lt plus-zero time)) where
@@ -38,34 +38,19 @@ module _ (f : Format) (elapsed time : Float) (p : T (real f elapsed)) (h : T (le
       key→le f (div f (neg elapsed) time) plus-zero dn nz
       (omega (arith, le→key f (div f (neg elapsed) time) (div f plus-zero time) dn zn (div-mono f (neg elapsed) plus-zero time n z q l below), key-zero f))
 
--- ---- 1 less a number in 0..1
-less-nothing : sub binary32 bounds.one plus-zero ≡ bounds.one
-unfolding sub add neg sum round size span climb units odd trailingZeros
-less-nothing = refl
-
-rest : (e : Float) → Unit e → Unit (sub binary32 bounds.one e)
-rest e u =
-    let f = binary32 in
-    let r = real-one f in
-    let z = real-zero f false in
-    let n = sub-number f bounds.one e r (u .is-real) in
-    let low = sub-nonneg f bounds.one e r (u .is-real) (u .high) in
-    let high = rw less-nothing at (sub-mono f bounds.one bounds.one e plus-zero r r (u .is-real) z (le-refl-f f bounds.one (real-number f bounds.one r)) (u .low)) in
-    record { is-real = real-between f plus-zero (sub f bounds.one e) bounds.one n z r low high; low = low; high = high }
-
 -- ---- the part of the way
-exp-unit : (y : Float) → T (le y plus-zero) → Unit (exp y)
-exp-unit y h = record { is-real = E2-real (mul binary32 y LOG2-E); low = E2-nonneg (mul binary32 y LOG2-E); high = exp-at-most-one y h }
+exp-unit : (y : Float) → T (le y plus-zero) → InUnit (exp y)
+exp-unit y h = record { finite = E2-real (mul binary32 y LOG2-E); low = E2-nonneg (mul binary32 y LOG2-E); high = exp-at-most-one y h }
 
-pub alpha-unit : (elapsed time : Float) → T (real binary32 elapsed) → T (le plus-zero elapsed) → T (real binary32 time) → Unit (smoothingAlpha elapsed time)
+pub alpha-unit : (elapsed time : Float) → T (real binary32 elapsed) → T (le plus-zero elapsed) → T (real binary32 time) → InUnit (smoothingAlpha elapsed time)
 unfolding smoothingAlpha ofBits
 alpha-unit elapsed time p h q = go (le time plus-zero) (not-le-f binary32 time plus-zero (real-number binary32 time q) (real-number binary32 plus-zero (real-zero binary32 false)))
   where
-    go : (b : Bool) → (T (not b) → T (lt plus-zero time)) → Unit (cond b bounds.one (sub binary32 bounds.one (exp (div binary32 (neg elapsed) time))))
-    go true l = unit-one
-    go false l = rest (exp (div binary32 (neg elapsed) time)) (exp-unit (div binary32 (neg elapsed) time) (ratio-low binary32 elapsed time p h q (l tt)))
+    go : (b : Bool) → (T (not b) → T (lt plus-zero time)) → InUnit (cond b bounds.one (sub binary32 bounds.one (exp (div binary32 (neg elapsed) time))))
+    go true l = one-in-unit
+    go false l = one-less (exp (div binary32 (neg elapsed) time)) (exp-unit (div binary32 (neg elapsed) time) (ratio-low binary32 elapsed time p h q (l tt)))
 
 -- ---- of a fade in milliseconds, within its limits
-pub fade-alpha-unit : (elapsed fade : Float) → T (real binary32 elapsed) → T (le plus-zero elapsed) → T (real binary32 fade) → T (le plus-zero fade) → Unit (fadeAlpha elapsed fade)
+pub fade-alpha-unit : (elapsed fade : Float) → T (real binary32 elapsed) → T (le plus-zero elapsed) → T (real binary32 fade) → T (le plus-zero fade) → InUnit (fadeAlpha elapsed fade)
 unfolding ofBits le fits
 fade-alpha-unit elapsed fade p h q l = alpha-unit elapsed (mul binary32 fade SECONDS-PER-MS) p h (mul-real binary32 fade SECONDS-PER-MS q tt l tt tt)

@@ -1,5 +1,7 @@
--- Levels stay in 0..1, and a level never moves away from its target, with one exception, which is document 01's and the Rust's alike: a step that ends below 0.000001 ends at 0, for a held note too.
--- A released level goes down and not below 0; a held one goes up and not above 1 (float_laws Range). Assumes nothing.
+-- Levels stay in 0..1, and a level never moves away from its target, with one exception, which is
+-- document 01's and the Rust's alike: a step that ends below 0.000001 ends at 0, for a held note
+-- too. A released level goes down and not below 0; a held one goes up and not above 1 (float_laws
+-- Range). Assumes nothing.
 use mathlib.Core.Path.{_≡_, refl, sym, subst}
 use mathlib.Core.Bool.{Bool, true, false, cond}
 use Prim.Native.Nat.{ℕ, _<_}
@@ -15,9 +17,9 @@ use Rattle.float_laws.specs.Bounds.{real-one}
 use Rattle.float_laws.specs.Range.{toward-lower-nonneg, toward-lower-most, toward-lower-real, toward-one-least, toward-one-most, toward-one-real}
 use Rattle.float32.specs.Order.{magnitude}
 use Rattle.float32.specs.Remainder.{zero}
+use Rattle.float32.proofs.InUnit.{InUnit, zero-in-unit}
 use Rattle.float32.proofs.Magnitude.{magnitude-clear, magnitude-size, magnitude-is-number}
 use Rattle.envelopes.specs.Envelope.{targetOf, SILENCE, settled, nextLevel}
-use Rattle.envelopes.proofs.Unit.{Unit, unit-zero}
 
 -- where a level is before it is settled
 abbrev pub moved : Bool → Float → Float → Float
@@ -32,7 +34,7 @@ module _ (f : Format) (x y : Float) (p : T (number f x)) (q : T (number f y)) wh
   below-of-magnitude h = key→lt f x y p q (lt-of-le-of-lt (keyed-le (overflow f) (sign x) (mag f x)) (subst (λ (k : ℕ). k < key f y) magnitude-key (lt→key f (magnitude x) y (magnitude-is-number f x p) q h)))
 
 -- ---- before it is settled
-module _ (alpha level : Float) (a : Unit alpha) (l : Unit level) where
+module _ (alpha level : Float) (a : InUnit alpha) (l : InUnit level) where
   zero-number : T (number binary32 plus-zero)
   zero-number = real-number binary32 plus-zero (real-zero binary32 false)
 
@@ -40,42 +42,42 @@ module _ (alpha level : Float) (a : Unit alpha) (l : Unit level) where
   one-number = real-number binary32 bounds.one (real-one binary32)
 
   level-number : T (number binary32 level)
-  level-number = real-number binary32 level (l .is-real)
+  level-number = real-number binary32 level (l .finite)
 
   falls : T (le (moved false alpha level) level)
   unfolding ofBits
-  falls = toward-lower-most binary32 level plus-zero alpha (l .is-real) (real-zero binary32 false) (a .is-real) (le-refl-f binary32 plus-zero zero-number) (l .low) (a .low) (a .high)
+  falls = toward-lower-most binary32 level plus-zero alpha (l .finite) (real-zero binary32 false) (a .finite) (le-refl-f binary32 plus-zero zero-number) (l .low) (a .low) (a .high)
 
   rises : T (le level (moved true alpha level))
   unfolding ofBits
-  rises = toward-one-least level alpha (l .is-real) (a .is-real) (l .low) (l .high) (a .low) (a .high)
+  rises = toward-one-least level alpha (l .finite) (a .finite) (l .low) (l .high) (a .low) (a .high)
 
-  moved-unit : (held : Bool) → Unit (moved held alpha level)
+  moved-unit : (held : Bool) → InUnit (moved held alpha level)
   unfolding ofBits
   moved-unit false =
       let z = le-refl-f binary32 plus-zero zero-number in
       let o = real-zero binary32 false in
-      let r = toward-lower-real binary32 level plus-zero alpha (l .is-real) o (a .is-real) z (l .low) (a .low) (a .high) in
+      let r = toward-lower-real binary32 level plus-zero alpha (l .finite) o (a .finite) z (l .low) (a .low) (a .high) in
       record {
-        is-real = r;
-        low = toward-lower-nonneg binary32 level plus-zero alpha (l .is-real) o (a .is-real) z (l .low) (a .low) (a .high);
+        finite = r;
+        low = toward-lower-nonneg binary32 level plus-zero alpha (l .finite) o (a .finite) z (l .low) (a .low) (a .high);
         high = le-trans-f binary32 (moved false alpha level) level bounds.one (real-number binary32 (moved false alpha level) r) level-number one-number falls (l .high);
       }
   moved-unit true =
-      let r = toward-one-real level alpha (l .is-real) (a .is-real) (l .low) (l .high) (a .low) (a .high) in
+      let r = toward-one-real level alpha (l .finite) (a .finite) (l .low) (l .high) (a .low) (a .high) in
       record {
-        is-real = r;
+        finite = r;
         low = le-trans-f binary32 plus-zero level (moved true alpha level) zero-number level-number (real-number binary32 (moved true alpha level) r) (l .low) rises;
-        high = toward-one-most level alpha (l .is-real) (a .is-real) (l .low) (l .high) (a .low) (a .high);
+        high = toward-one-most level alpha (l .finite) (a .finite) (l .low) (l .high) (a .low) (a .high);
       }
 
 -- ---- settled
-settled-unit : (x : Float) → Unit x → Unit (settled x)
-unfolding settled
+settled-unit : (x : Float) → InUnit x → InUnit (settled x)
+unfolding settled ofBits
 settled-unit x u = go (lt (magnitude x) SILENCE)
   where
-    go : (b : Bool) → Unit (cond b zero x)
-    go true = unit-zero
+    go : (b : Bool) → InUnit (cond b zero x)
+    go true = zero-in-unit
     go false = u
 
 settled-silent : (x : Float) → lt (magnitude x) SILENCE ≡ true → settled x ≡ zero
@@ -87,8 +89,8 @@ unfolding settled
 settled-same x e = rw e
 
 -- ---- the laws of one step
-module _ (alpha level : Float) (a : Unit alpha) (l : Unit level) where
-  pub level-in-range : (held : Bool) → Unit (nextLevel held alpha level)
+module _ (alpha level : Float) (a : InUnit alpha) (l : InUnit level) where
+  pub level-in-range : (held : Bool) → InUnit (nextLevel held alpha level)
   level-in-range held = settled-unit (moved held alpha level) (moved-unit alpha level a l held)
 
   -- a released level never rises
@@ -109,8 +111,8 @@ module _ (alpha level : Float) (a : Unit alpha) (l : Unit level) where
   unfolding fits ofBits
   held-in-silence e =
       let m = moved true alpha level in
-      let n = real-number binary32 m (moved-unit alpha level a l true .is-real) in
-      (lt-of-le-of-lt-f binary32 level m SILENCE (real-number binary32 level (l .is-real)) n tt (rises alpha level a l) (below-of-magnitude binary32 m SILENCE n tt (subst T (sym e) tt)), settled-silent m e)
+      let n = real-number binary32 m (moved-unit alpha level a l true .finite) in
+      (lt-of-le-of-lt-f binary32 level m SILENCE (real-number binary32 level (l .finite)) n tt (rises alpha level a l) (below-of-magnitude binary32 m SILENCE n tt (subst T (sym e) tt)), settled-silent m e)
 
   -- so a held level from 0.000001 up never falls
   pub held-from-silence-never-falls : T (le SILENCE level) → T (le level (nextLevel true alpha level))
@@ -120,4 +122,4 @@ module _ (alpha level : Float) (a : Unit alpha) (l : Unit level) where
       go : (b : Bool) → (b ≡ false → T (le level (nextLevel true alpha level))) → (b ≡ true → T (lt level SILENCE) × (nextLevel true alpha level ≡ zero))
           → T (le level (nextLevel true alpha level))
       go false up out = up refl
-      go true up out = absurd (T-not (lt level SILENCE) (le→not-lt-f binary32 SILENCE level tt (real-number binary32 level (l .is-real)) h) (out refl .0))
+      go true up out = absurd (T-not (lt level SILENCE) (le→not-lt-f binary32 SILENCE level tt (real-number binary32 level (l .finite)) h) (out refl .0))

@@ -1,5 +1,4 @@
 pub mod Silence
-pub mod Unit
 pub mod Alpha
 pub mod Levels
 pub mod Bank

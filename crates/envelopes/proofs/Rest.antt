@@ -1,4 +1,5 @@
--- A fade of no time is over at once: the part of the way is then 1, and a released level is 0 after one step, since level + (0 - level) is exact. Assumes nothing.
+-- A fade of no time is over at once: the part of the way is then 1, and a released level is 0 after
+-- one step, since level + (0 - level) is exact. Assumes nothing.
 use mathlib.Core.Path.{_≡_, ap, _∙_}
 use mathlib.Core.Bool.{Bool, true, false}
 use Prim.Native.Nat.{ℕ, _+_, _-_, _≤_, _<_}
@@ -15,9 +16,9 @@ use Rattle.float_laws.specs.Bounds as bounds
 use Rattle.float_laws.specs.Bounds.{mul-one-f}
 use Rattle.float32.specs.Order.{magnitude}
 use Rattle.float32.specs.Remainder.{zero, one}
+use Rattle.float32.proofs.InUnit.{InUnit}
 use Rattle.float32.proofs.Magnitude.{magnitude-clear, magnitude-size, magnitude-is-number}
 use Rattle.envelopes.specs.Envelope.{smoothingAlpha, SILENCE, settled, nextLevel}
-use Rattle.envelopes.proofs.Unit.{Unit}
 
 pub no-time : (elapsed time : Float) → le time zero ≡ true → smoothingAlpha elapsed time ≡ one
 unfolding smoothingAlpha
@@ -70,10 +71,10 @@ module _ (f : Format) (level : Float) (p : T (real f level)) (h : T (le plus-zer
       key→lt f (magnitude x) y (magnitude-is-number f x end-number) q
       (omega (arith, e, z, key-zero f, lt→key f plus-zero y (real-number f plus-zero (real-zero f false)) q l))
 
-pub released-at-once : (level : Float) → Unit level → nextLevel false one level ≡ zero
+pub released-at-once : (level : Float) → InUnit level → nextLevel false one level ≡ zero
 unfolding settled ofBits fits lt
 released-at-once level u =
     let f = binary32 in
     let x = sub f plus-zero level in
-    let same : add f level (mul f x bounds.one) ≡ add f level x = ap (add f level) (mul-one-f f x (gap-real f level (u .is-real) (u .low))) in
-    rw (same, is-true (lt (magnitude (add f level x)) SILENCE) (end-below f level (u .is-real) (u .low) SILENCE tt tt))
+    let same : add f level (mul f x bounds.one) ≡ add f level x = ap (add f level) (mul-one-f f x (gap-real f level (u .finite) (u .low))) in
+    rw (same, is-true (lt (magnitude (add f level x)) SILENCE) (end-below f level (u .finite) (u .low) SILENCE tt tt))

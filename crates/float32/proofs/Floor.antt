@@ -1,7 +1,8 @@
--- floor((x + c) * 2 ^ 24) never falls as the finite x rises: over one common denominator the two fractions stand in the order of the floats. Equal fractions have equal floors. Assumes nothing.
+-- floor((x + c) * 2 ^ 24) never falls as the finite x rises: over one common denominator the two
+-- fractions stand in the order of the floats. Equal fractions have equal floors. Assumes nothing.
 use mathlib.Core.Path.{_≡_, sym, ap, _∙_}
 use mathlib.Core.Bool.{Bool, true, false}
-use Prim.Native.Nat.{ℕ, _+_, _-_, _*_, _/_, _^_, _≤_, _<_}
+use Prim.Native.Nat.{ℕ, _+_, _-_, _*_, _^_, _≤_, _<_}
 use native.Mathlib.Nat.{mul-comm, mul-assoc, mul-right-comm, mul-le-mul-right, add-mul, zero-mul}
 use native.Mathlib.Omega.{arith}
 use lib.Dec.{T, lit<}

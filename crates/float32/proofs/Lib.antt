@@ -8,7 +8,9 @@ pub mod Magnitude
 pub mod FiniteTest
 pub mod Limits
 pub mod OrderAgrees
-pub mod Squares
+pub mod InUnit
+pub mod LastStretch
+pub mod Smoothstep
 pub mod WholePart
 pub mod Remainders
 pub mod RemainderByOne

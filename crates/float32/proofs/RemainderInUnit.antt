@@ -1,5 +1,6 @@
--- The remainder by 1 of a finite value is in 0..1: `v % 1` is in -1..1, what is not below 0 stays, and below 0 the sum with 1 lies between the rounded sums of -1 and 1 and of 0 and 1.
--- Assumes nothing.
+-- The remainder by 1 of a finite value is in 0..1: `v % 1` is in -1..1, what is not below 0 stays,
+-- and below 0 the sum with 1 lies between the rounded sums of -1 and 1 and of 0 and 1. Assumes
+-- nothing.
 use mathlib.Core.Path.{_≡_, refl, sym, _∙_}
 use mathlib.Core.Bool.{Bool, true, false, not, cond}
 use Prim.Native.Nat.{ℕ, _+_, _-_, _*_, _%_, _^_, _≤_, _<_}
@@ -23,7 +24,8 @@ use Rattle.float32.specs.Remainder.{remEuclidOne}
 abbrev minus-one : Float
 minus-one = fin true 1 (pos 0)
 
-record Unit (r : Float) : Type 0 where
+-- a number from -1 to 1
+record WithinOne (r : Float) : Type 0 where
   number-32 : T (number binary32 r)
   least : T (le minus-one r)
   most : T (le r one)
@@ -54,7 +56,7 @@ minus-one-real : T (real binary32 minus-one)
 unfolding fits
 minus-one-real = tt
 
-rounded-unit : (s : Bool) (a c : ℕ) → 0 < c → a ≤ c → Unit (round binary32 s a c)
+rounded-unit : (s : Bool) (a c : ℕ) → 0 < c → a ≤ c → WithinOne (round binary32 s a c)
 rounded-unit s a c z h =
     let n = round-number binary32 s a c in
     record {
@@ -66,7 +68,7 @@ rounded-unit s a c z h =
 under-one : (a d : ℕ) → 0 < d → a % (1 * 1 * d) ≤ d * 1
 under-one a d z = let e : 1 * 1 * d ≡ d = omega arith in rw (e, mul-one) (le-of-lt (mod-lt a z))
 
-rem-unit : (v : Float) → T (real binary32 v) → Unit (rem binary32 v one)
+rem-unit : (v : Float) → T (real binary32 v) → WithinOne (rem binary32 v one)
 unfolding rem
 rem-unit nan p = absurd p
 rem-unit (inf s) p = absurd p
@@ -79,7 +81,7 @@ sum-ends : (add binary32 minus-one one ≡ plus-zero) × (add binary32 plus-zero
 unfolding add sum round units odd size span climb trailingZeros
 sum-ends = (refl, refl)
 
-module _ (r : Float) (u : Unit r) where
+module _ (r : Float) (u : WithinOne r) where
   o-number : T (number binary32 plus-zero)
   o-number = real-number binary32 plus-zero (real-zero binary32 false)
 

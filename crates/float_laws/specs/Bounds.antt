@@ -1,5 +1,6 @@
--- Ranges and units: what stays between 0 and 1, what 0 and 1 do, and that a value between two finite ones is finite. Assumes nothing.
-use mathlib.Core.Path.{_≡_, refl, sym, ap, _∙_}
+-- Ranges and units: what stays between 0 and 1, what 0 and 1 do, and that a value between two
+-- finite ones is finite. Assumes nothing.
+use mathlib.Core.Path.{_≡_, refl, ap, _∙_}
 use mathlib.Core.Bool.{Bool, true, false}
 use Prim.Native.Nat.{ℕ, _+_, _-_, _*_, _^_, _≤_, _<_}
 use native.Mathlib.Nat.{one-mul, div-one, mul-assoc, le-of-eq, le-refl, le-trans}
@@ -10,9 +11,8 @@ use lib.Dec.{T}
 use lib.Ieee.{Float, nan, inf, fin, Format, binary32, binary64, low, fits, round, le, eq, unlike, add, sub, mul}
 use lib.Ieee.Scale.{overflow}
 use Rattle.float_laws.specs.Units.{mag, sign, number, real, key, keyed, mag-below, mag-inf, le→key, key→le, key→eq, real-number, overflow-pos, unique, keyed-le, keyed-ge}
-use Rattle.float_laws.specs.Order.{le-trans-f}
-use Rattle.float_laws.specs.Round.{plus-zero, key-zero, rnd, rnd-zero, rnd-exact, rnd-real, key-round, round-number, mag-zero, real-zero, mag-round, sign-round, squared-pos}
-use Rattle.float_laws.specs.Ops.{mul-round, add-sum, sum-clear, unlike-clear}
+use Rattle.float_laws.specs.Round.{plus-zero, key-zero, rnd-zero, rnd-exact, rnd-real, key-round, round-number, real-zero, mag-round, sign-round, squared-pos}
+use Rattle.float_laws.specs.Ops.{mul-round, unlike-clear}
 use Rattle.float_laws.specs.Mono.{center, center-up, center-down, rndU, rndM, rndM-mono, add-number, add-key, sub-number, sub-key, mul-number, mul-key-nonneg, mul-nonneg, key-nonneg, size-nonneg, sizes}
 
 -- ---- one
@@ -83,14 +83,6 @@ pub mul-real : (f : Format) (x y : Float) → T (real f x) → T (real f y) → 
 mul-real f x y p q X Y h =
     real-between f plus-zero (mul f x y) x (mul-number f x y p q) (real-zero f false) p (mul-nonneg f x y p q X Y) (mul-le-left f x y p q X Y h)
 
--- so the product of two that are in 0..1 is in 0..1
-pub mul-levels : (f : Format) (x y : Float) → T (real f x) → T (real f y) → T (le plus-zero x) → T (le x one) → T (le plus-zero y) → T (le y one)
-    → T (le plus-zero (mul f x y)) × T (le (mul f x y) one)
-mul-levels f x y p q X h Y k = (
-  mul-nonneg f x y p q X Y,
-  le-trans-f f (mul f x y) x one (mul-number f x y p q) (real-number f x p) (real-number f one (real-one f)) (mul-le-left f x y p q X Y k) h,
-)
-
 -- ---- 1 and 0 change nothing
 pub mul-one-f : (f : Format) (x : Float) → T (real f x) → mul f x one ≡ x
 mul-one-f f x p =
@@ -113,17 +105,6 @@ add-zero-f f x p =
         center-down (overflow f) (rndU f) (overflow f - mag f x + overflow f) (mag f x) (rnd-zero f (2 ^ low f) (pow-pos (low f)))
         (omega (arith, mag-below f x p))
         ∙ ap (λ (z : ℕ). overflow f - z) (rnd-real f x p)
-
--- as data too, but for -0, whose sum with +0 is +0
-pub add-zero-clear : (f : Format) (x : Float) → T (real f x) → sign x ≡ false → add f x plus-zero ≡ x
-add-zero-clear f x p s =
-    let L = 2 ^ low f in
-    let n = mag f x + mag f plus-zero in
-    let r = add-sum f x plus-zero p (real-zero f false) ∙ sum-clear f (sign x) false (mag f x) (mag f plus-zero) L s refl in
-    let w : n ≡ mag f x = omega (arith, mag-zero f false (pos 0)) in
-    unique f (add f x plus-zero) x (add-number f x plus-zero p (real-zero f false)) (real-number f x p)
-    (ap sign r ∙ sign-round f false n L ∙ sym s)
-    (ap (mag f) r ∙ mag-round f false n L ∙ ap (λ (z : ℕ). rnd f z L) w ∙ rnd-real f x p)
 
 -- ---- what is rounded with a clear sign is not negative
 pub round-nonneg : (f : Format) (a c : ℕ) → T (le plus-zero (round f false a c))

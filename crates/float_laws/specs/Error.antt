@@ -1,4 +1,6 @@
--- How far a rounded value lies from the fraction: at most one part in 2 ^ prec of it, and half a unit of the smallest value besides where the fraction is no whole number of units. Assumes nothing.
+-- How far a rounded value lies from the fraction: at most one part in 2 ^ prec of it, and half a
+-- unit of the smallest value besides where the fraction is no whole number of units. Assumes
+-- nothing.
 use mathlib.Core.Path.{_≡_, sym, ap, _∙_, subst}
 use mathlib.Core.Logic.{inl, inr}
 use mathlib.Core.Bool.{false, not}
@@ -8,7 +10,7 @@ use native.Mathlib.Omega.{arith}
 use lib.Pow.{pow-add, pow-pos}
 use lib.Dec.{T, isLe, isEq, eqb, leb→le, nleb→lt, eqb→eq, eqb-refl}
 use lib.Arith.{lt-of-le-ne}
-use lib.Ieee.{Float, nan, inf, fin, Format, binary32, prec, low, size, nearest, round}
+use lib.Ieee.{Float, nan, inf, fin, Format, prec, low, size, nearest, round}
 use lib.Ieee.Digits.{size-reaches}
 use lib.Ieee.Fits.{two, two-le-pos, round-fits}
 use lib.Ieee.Nearest.{closest}
@@ -48,7 +50,8 @@ half-of q r u n Ordering·gt h e l = omega (arith, suc-mul q u)
 closest-half : (n u : ℕ) → 0 < u → Half n u (closest n u)
 closest-half n u U = half-of (n / u) (n % u) u n (compare (n % u * 2) u) (cmp (n % u * 2) u) (div-add-mod' n u) (mod-lt n U)
 
--- ---- the unit that a rounding goes to, u = c * 2 ^ drop: where digits are dropped, it is small beside n
+-- ---- the unit that a rounding goes to, u = c * 2 ^ drop: where digits are dropped, it is small
+-- beside n
 digits-in : (z p : ℕ) → 0 < p → 0 < z - p → p - 1 + (z - p) < z
 digits-in z p P h = omega arith
 
@@ -68,7 +71,8 @@ unit-le p n c P C =
       | inr k ↦ omega (arith, unit-small p n c P C k)
     ]
 
--- ---- a rounded value r, in units, and the fraction n / c, in units: they differ by at most one part in 2 P of the fraction, and half a unit
+-- ---- a rounded value r, in units, and the fraction n / c, in units: they differ by at most one
+-- part in 2 P of the fraction, and half a unit
 pub record Within (P n c r : ℕ) : Type 0 where
   pub hi : P * (2 * (r * c)) ≤ P * (2 * n) + (n + P * c)
   pub lo : P * (2 * n) ≤ P * (2 * (r * c)) + (n + P * c)
@@ -188,9 +192,6 @@ rnd-close f n h = subst (λ (r : ℕ). Close (2 ^ (prec f - 1)) n r) (sym (rnd-g
 pub rnd-at-most : (f : Format) (x : Float) (a c : ℕ) → T (real f x) → 0 < c → a * 2 ^ low f ≤ mag f x * c → rnd f a c ≤ mag f x
 rnd-at-most f x a c p C h = le-trans (rnd-mono f a c (mag f x) (2 ^ low f) C (pow-pos (low f)) h) (le-of-eq (rnd-real f x p))
 
-pub rnd-at-least : (f : Format) (x : Float) (a c : ℕ) → T (real f x) → 0 < c → mag f x * c ≤ a * 2 ^ low f → mag f x ≤ rnd f a c
-rnd-at-least f x a c p C h = le-trans (le-of-eq (sym (rnd-real f x p))) (rnd-mono f (mag f x) (2 ^ low f) a c (pow-pos (low f)) C h)
-
 -- ---- for `f32`, with the powers of two written out
 -- `omega` reads no number of more than 38 digits, so 2 ^ 149 stands behind a variable
 pub hi-32 : (x n c : ℕ) → 8388608 * (2 * x) ≤ 8388608 * (2 * n) + (n + 8388608 * c) → 16777216 * x ≤ 16777217 * n + 8388608 * c
@@ -198,11 +199,3 @@ hi-32 x n c h = omega arith
 
 pub lo-32 : (x n c : ℕ) → 8388608 * (2 * n) ≤ 8388608 * (2 * x) + (n + 8388608 * c) → 16777215 * n ≤ 16777216 * x + 8388608 * c
 lo-32 x n c h = omega arith
-
-pub within-32 : (a c : ℕ) → 0 < c → rnd binary32 a c < overflow binary32
-    → (16777216 * (rnd binary32 a c * c) ≤ 16777217 * (a * 2 ^ low binary32) + 8388608 * c) × (16777215 * (a * 2 ^ low binary32) ≤ 16777216 * (rnd binary32 a c * c) + 8388608 * c)
-within-32 a c C h = let w = rnd-within binary32 a c C h in (hi-32 (rnd binary32 a c * c) (a * 2 ^ low binary32) c (w .hi), lo-32 (rnd binary32 a c * c) (a * 2 ^ low binary32) c (w .lo))
-
-pub close-32 : (n : ℕ) → rnd binary32 n (2 ^ low binary32) < overflow binary32
-    → (16777216 * rnd binary32 n (2 ^ low binary32) ≤ 16777217 * n) × (16777215 * n ≤ 16777216 * rnd binary32 n (2 ^ low binary32))
-close-32 n h = let w = rnd-close binary32 n h in (omega (arith, w .hi), omega (arith, w .lo))

@@ -1,10 +1,12 @@
--- Where an operation is exact: where its exact result is a value of the format. So for a difference of two that are at most twice each other, for a product with and a quotient by a power of two,
--- and for whole numbers up to 2 ^ prec. Results are said in units: `key f (add f x y) + overflow f ≡ key f x + key f y` is x + y without a rounding. Assumes nothing.
+-- Where an operation is exact: where its exact result is a value of the format. So for a difference
+-- of two that are at most twice each other, for a product with and a quotient by a power of two,
+-- and for whole numbers up to 2 ^ prec. Results are said in units: `key f (sub f x y) + key f y ≡
+-- key f x + overflow f` is x - y without a rounding. Assumes nothing.
 use mathlib.Core.Path.{_≡_, refl, sym, ap, _∙_, subst}
 use mathlib.Core.Logic.{inl, inr}
 use mathlib.Core.Bool.{Bool, true, false, not, _&&_, cond, true≢false, Bool·beq}
 use Prim.Native.Nat.{ℕ, suc, _+_, _-_, _*_, _^_, _≤_, _<_}
-use native.Mathlib.Nat.{le-of-suc-le-suc, one-mul, mul-one, mul-comm, mul-assoc, mul-right-comm, mul-mul-mul-comm, mul-pos, add-mul, mul-le-mul-right, mul-le-mul-left, mul-lt-mul-of-pos-right, le-of-mul-le-mul-right, eq-of-mul-eq-mul-right, le-trans, le-of-eq, le-of-lt, lt-irrefl, lt-of-le-of-lt, lt-of-lt-of-le, not-le-of-lt, eq-or-lt-of-le}
+use native.Mathlib.Nat.{le-of-suc-le-suc, one-mul, mul-one, mul-comm, mul-assoc, mul-right-comm, mul-pos, add-mul, mul-le-mul-right, mul-le-mul-left, mul-lt-mul-of-pos-right, le-of-mul-le-mul-right, eq-of-mul-eq-mul-right, le-trans, le-of-eq, le-of-lt, lt-irrefl, lt-of-le-of-lt, lt-of-lt-of-le, not-le-of-lt, eq-or-lt-of-le}
 use native.Mathlib.Decide.{decLe}
 use native.Mathlib.Omega.{arith}
 use lib.IntN.{ℤ, pos, negsuc}
@@ -19,7 +21,7 @@ use Rattle.float_laws.specs.Units.{mag, sign, real, key, mag-exact, mag-
 use Rattle.float_laws.specs.Round.{plus-zero, Held, rnd-held, held-real, mag-round, mag-neg, rnd-zero, sign-round, round-number, mag-zero, real-zero, squared-pos}
 use Rattle.float_laws.specs.Signs.{sub-mul}
 use Rattle.float_laws.specs.Ops.{mul-round, div-round, add-sum, sum-clear}
-use Rattle.float_laws.specs.Mono.{center, center-up, center-down, rndU, rndU-zero, add-key, sub-key, key-high, real-neg, size-nonneg}
+use Rattle.float_laws.specs.Mono.{center, center-up, center-down, rndU, rndU-zero, sub-key, key-high, real-neg, size-nonneg}
 use Rattle.float_laws.specs.Power.{power, mag-power, real-power}
 
 -- ---- which numbers of units the format holds
@@ -110,13 +112,6 @@ center-exact K g t z e h = go (decLe (K + K) t)
 module _ (f : Format) (x y : Float) (p : T (real f x)) (q : T (real f y)) where
   whole-units : (n : ℕ) → Held f n → n < overflow f → rndU f n ≡ n
   whole-units n h b = rnd-held f n n (2 ^ low f) h b (pow-pos (low f)) refl
-
-  pub add-exact : Held f (apart (key f x + key f y) (overflow f + overflow f)) → apart (key f x + key f y) (overflow f + overflow f) < overflow f
-      → key f (add f x y) + overflow f ≡ key f x + key f y
-  add-exact h b =
-      ap (λ (z : ℕ). z + overflow f) (add-key f x y p q)
-      ∙ center-exact (overflow f) (rndU f) (key f x + key f y) (rndU-zero f) (whole-units (apart (key f x + key f y) (overflow f + overflow f)) h b)
-      (le-of-lt b)
 
   pub sub-exact : Held f (apart (key f x) (key f y)) → apart (key f x) (key f y) < overflow f → key f (sub f x y) + key f y ≡ key f x + overflow f
   sub-exact h b =
@@ -247,18 +242,6 @@ module _ (f : Format) (m n : ℕ) (g : m ≤ 2 ^ prec f) (h : n ≤ 2 ^ prec f) 
       (le-trans (le-of-eq k) (le-trans (mul-le-mul-right L l) (le-of-eq (sym (mag-whole f m g)))))
       ∙ ap (λ (z : ℕ). round f false z L) (ap (λ (z : ℕ). z - mag f (neg y)) (mag-whole f m g) ∙ ap (λ (z : ℕ). m * L - z) k ∙ sym (sub-mul m n L))
       ∙ in-ones (m - n)
-
-  pub whole-mul : mul f (ofInt f (pos m)) (ofInt f (pos n)) ≡ ofInt f (pos (m * n))
-  unfolding ofInt
-  whole-mul =
-      let L = 2 ^ low f in
-      let x = round f false m 1 in
-      let y = round f false n 1 in
-      mul-round f x y (real-whole f m g) (real-whole f n h)
-      ∙ ap (λ (s : Bool). round f (unlike s (sign y)) (mag f x * mag f y) (L * L)) (sign-whole f m g)
-      ∙ ap (λ (s : Bool). round f (unlike false s) (mag f x * mag f y) (L * L)) (sign-whole f n h)
-      ∙ round-same f false (mag f x * mag f y) (L * L) (m * n) 1 (squared-pos f) (lit≤ tt)
-      (mul-one (mag f x * mag f y) ∙ ap (λ (z : ℕ). z * mag f y) (mag-whole f m g) ∙ ap (λ (z : ℕ). m * L * z) (mag-whole f n h) ∙ mul-mul-mul-comm m L n L)
 
 -- a power of two among them is the value that `mul-two` and `div-two` speak of
 pub whole-power : (f : Format) (k : ℕ) → k ≤ prec f → ofInt f (pos (2 ^ k)) ≡ power k

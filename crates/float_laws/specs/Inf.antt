@@ -1,5 +1,7 @@
--- The order laws with the infinities: as in Mono, for all numbers whose results are numbers, so where no infinity meets its opposite in a sum or a zero in a product.
--- A product with, and a quotient by, a finite constant above zero keeps the order of any two values, infinities too; below zero it turns it. Assumes nothing.
+-- The order laws with the infinities: as in Mono, for all numbers whose results are numbers, so
+-- where no infinity meets its opposite in a sum or a zero in a product. A product with, and a
+-- quotient by, a finite constant above zero keeps the order of any two values, infinities too;
+-- below zero it turns it. Assumes nothing.
 use mathlib.Core.Path.{_≡_, refl, sym, ap, _∙_, subst, subst₂}
 use mathlib.Core.Logic.{inl, inr}
 use mathlib.Core.Bool.{Bool, true, false, not, cond, true≢false}
@@ -16,7 +18,7 @@ use Rattle.float_laws.specs.Units.{mag, number, real, keyed, mag-inf, ke
 use Rattle.float_laws.specs.Order.{le-trans-f}
 use Rattle.float_laws.specs.Round.{plus-zero, mag-zero, real-zero, rnd, rnd-mono, rnd-zero, key-round, round-number}
 use Rattle.float_laws.specs.Signs.{Ord, ord-of-le}
-use Rattle.float_laws.specs.Ops.{mul-comm-f, unlike-clear, neg-neg, mul-neg, div-neg}
+use Rattle.float_laws.specs.Ops.{mul-comm-f, unlike-clear, neg-neg, mul-neg}
 use Rattle.float_laws.specs.Mono.{key-high, number-neg, le-neg, add-mono, mul-mono, above-zero}
 
 pub le-top : (f : Format) (x : Float) → T (number f x) → T (le x (inf false))
@@ -180,7 +182,8 @@ module _ (f : Format) (x x' y y' : Float) (p : T (number f x)) (p' : T (number f
       go (finite a) (finite b) (finite c) (top e) = by-right e
       go (finite a) (finite b) (finite c) (finite d) = mul-mono f x x' y y' a c b d X Y h k
 
--- ---- the product with, and the quotient by, a constant that is finite and not zero: of any two values in order, whether or not they fit the format
+-- ---- the product with, and the quotient by, a constant that is finite and not zero: of any two
+-- values in order, whether or not they fit the format
 no-size-of : (a d : ℕ) → 0 < d → a * d ≡ 0 → a ≡ 0
 no-size-of a d D h = elim (eq-zero-or-pos a) [ inl z ↦ z | inr p ↦ absurd (omega (arith, mul-pos p D)) ]
 
@@ -316,6 +319,3 @@ turned f h g e n m x y l =
 module _ (f : Format) (z : Float) (p : T (positive (neg z))) where
   pub mul-by-turns : (x y : Float) → T (le x y) → T (le (mul f y z) (mul f x z))
   mul-by-turns = turned f (λ x. mul f x z) (λ x. mul f x (neg z)) (λ x. mul-neg f x z) (mul-by-number f (neg z) p) (mul-by f (neg z) p)
-
-  pub div-by-turns : (x y : Float) → T (le x y) → T (le (div f y z) (div f x z))
-  div-by-turns = turned f (λ x. div f x z) (λ x. div f x (neg z)) (λ x. div-neg f x z) (div-by-number f (neg z) p) (div-by f (neg z) p)

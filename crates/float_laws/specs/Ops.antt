@@ -1,9 +1,10 @@
--- The operations on finite values, in units of the format's smallest value: each is one rounding of a fraction of whole numbers. Assumes nothing.
+-- The operations on finite values, in units of the format's smallest value: each is one rounding of
+-- a fraction of whole numbers. Assumes nothing.
 use mathlib.Core.Path.{_≡_, refl, sym, ap, _∙_, subst}
 use mathlib.Core.Bool.{Bool, true, false, not, _&&_, cond, true≢false, Bool·beq}
 use Prim.Native.Nat.{ℕ, _+_, _-_, _*_, _^_, _<_}
 use native.Mathlib.Nat.{mul-comm, mul-assoc, mul-left-comm, mul-right-comm, mul-mul-mul-comm, mul-pos, add-mul, lt-irrefl, eq-of-mul-eq-mul-right}
-use lib.IntN.{ℤ, pos}
+use lib.IntN.{ℤ}
 use lib.Pow.{pow-pos}
 use lib.Dec.{T, ltb, eqb, ltb→lt, lt→ltb, eqb→eq}
 use lib.Ieee.{Float, nan, inf, fin, Format, up, down, low, fits, round, neg, unlike, sum, add, mul, div}
@@ -189,22 +190,6 @@ mul-neg f (inf s) (fin t n d) = cond-neg (eqb n 0) (unlike s (not t)) (unlike s 
 mul-neg f (fin s m e) nan = refl
 mul-neg f (fin s m e) (inf t) = cond-neg (eqb m 0) (unlike s (not t)) (unlike s t) (unlike-not s t)
 mul-neg f (fin s m e) (fin t n d) = round-not f s t (m * up e * (n * up d)) (down e * down d)
-
-pub div-neg : (f : Format) (x y : Float) → div f x (neg y) ≡ neg (div f x y)
-unfolding div neg
-div-neg f nan y = refl
-div-neg f (inf s) nan = refl
-div-neg f (inf s) (inf t) = refl
-div-neg f (inf s) (fin t n d) = ap inf (unlike-not s t)
-div-neg f (fin s m e) nan = refl
-div-neg f (fin s m e) (inf t) = ap (λ (b : Bool). fin b 0 (pos 0)) (unlike-not s t)
-div-neg f (fin s m e) (fin t n d) = go (eqb n 0)
-  where
-    go : (b : Bool)
-        → cond b (cond (eqb m 0) nan (inf (unlike s (not t)))) (round f (unlike s (not t)) (m * up e * down d) (n * up d * down e))
-        ≡ neg (cond b (cond (eqb m 0) nan (inf (unlike s t))) (round f (unlike s t) (m * up e * down d) (n * up d * down e)))
-    go true = cond-neg (eqb m 0) (unlike s (not t)) (unlike s t) (unlike-not s t)
-    go false = round-not f s t (m * up e * down d) (n * up d * down e)
 
 -- of the dividend
 pub neg-div : (f : Format) (x y : Float) → T (real f x) → T (real f y) → 0 < mag f y → div f (neg x) y ≡ neg (div f x y)

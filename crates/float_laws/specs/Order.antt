@@ -1,5 +1,6 @@
--- The order of numbers, a NaN left out: a total order up to `eq`, which puts the two zeros in one place. `larger` and `smaller` are of two numbers;
--- `maximum`, `minimum` and `clamp` are document 01's, and agree with them on numbers. Each law is one on keys, and `omega` proves it. Assumes nothing.
+-- The order of numbers, a NaN left out: a total order up to `eq`, which puts the two zeros in one
+-- place. `larger` and `smaller` are of two numbers; `maximum` and `clamp` are document 01's, and
+-- agree with them on numbers. Each law is one on keys, and `omega` proves it. Assumes nothing.
 use mathlib.Core.Path.{_≡_, refl, sym, ap, _∙_}
 use mathlib.Core.Logic.{_⊎_, inl, inr}
 use mathlib.Core.Bool.{Bool, true, false, not, cond, true≢false}
@@ -79,9 +80,6 @@ module _ (f : Format) where
 
     pub le→not-lt-f : T (le x y) → T (not (lt y x))
     le→not-lt-f h = not-T (lt y x) (λ (l : T (lt y x)). not-le-of-lt (lt→key f y x q p l) (le→key f x y p q h))
-
-    pub lt→not-le-f : T (lt x y) → T (not (le y x))
-    lt→not-le-f h = not-T (le y x) (λ (l : T (le y x)). not-le-of-lt (lt→key f x y p q h) (le→key f y x q p l))
 
   module _ (x y z : Float) (p : T (number f x)) (q : T (number f y)) (r : T (number f z)) where
     pub le-trans-f : T (le x y) → T (le y z) → T (le x z)
@@ -172,7 +170,8 @@ pub larger-comm : (f : Format) (x y : Float) → T (number f x) → T (number f 
 larger-comm f x y p q =
     key→eq f (larger x y) (larger y x) (larger-number f x y p q) (larger-number f y x q p) (omega (arith, key-larger f x y p q, key-larger f y x q p))
 
--- ---- document 01: a clamp gives the low end below it, the high end above it, else the number itself
+-- ---- document 01: a clamp gives the low end below it, the high end above it, else the number
+-- itself
 abbrev pub clamp : Float → Float → Float → Float
 clamp lo hi x = cond (lt x lo) lo (cond (lt hi x) hi x)
 
@@ -216,30 +215,16 @@ module _ (f : Format) (lo hi : Float) (p : T (number f lo)) (q : T (number f hi)
       ap (λ (b : Bool). cond b lo (cond (lt hi x) hi x)) (is-false (lt x lo) (le→not-lt-f f lo x p r h))
       ∙ ap (λ (b : Bool). cond b hi x) (is-false (lt hi x) (le→not-lt-f f x hi r q k))
 
-pub clamp-nan : (lo hi : Float) → clamp lo hi nan ≡ nan
-unfolding lt
-clamp-nan lo nan = refl
-clamp-nan lo (inf s) = refl
-clamp-nan lo (fin s m e) = refl
-
--- ---- document 01: the maximum of a and b is b if a < b, else a; the minimum is b if b < a, else a; where one of the two is NaN, both give the other, as Rust's do
+-- ---- document 01: the maximum of a and b is b if a < b, else a; where one of the two is NaN, the
+-- other, as Rust's is
 abbrev pub maximum : Float → Float → Float
 maximum a b = cond (lt a b) b (cond (isNan a) b a)
-
-abbrev pub minimum : Float → Float → Float
-minimum a b = cond (lt b a) b (cond (isNan a) b a)
 
 pub maximum-number : (f : Format) (x y : Float) → T (number f x) → maximum x y ≡ larger x y
 unfolding isNan
 maximum-number f nan y p = absurd p
 maximum-number f (inf s) y p = refl
 maximum-number f (fin s m e) y p = refl
-
-pub minimum-number : (f : Format) (x y : Float) → T (number f x) → minimum x y ≡ smaller x y
-unfolding isNan
-minimum-number f nan y p = absurd p
-minimum-number f (inf s) y p = refl
-minimum-number f (fin s m e) y p = refl
 
 pub maximum-nan-left : (y : Float) → maximum nan y ≡ y
 unfolding isNan lt
@@ -250,15 +235,3 @@ unfolding isNan lt
 maximum-nan-right nan = refl
 maximum-nan-right (inf s) = refl
 maximum-nan-right (fin s m e) = refl
-
-pub minimum-nan-left : (y : Float) → minimum nan y ≡ y
-unfolding isNan lt
-minimum-nan-left nan = refl
-minimum-nan-left (inf s) = refl
-minimum-nan-left (fin s m e) = refl
-
-pub minimum-nan-right : (x : Float) → minimum x nan ≡ x
-unfolding isNan lt
-minimum-nan-right nan = refl
-minimum-nan-right (inf s) = refl
-minimum-nan-right (fin s m e) = refl

@@ -1,6 +1,8 @@
--- A value moved part of the way to another, as envelopes and the Gaussian lookup have it: `toward f a b t` is a + (b - a) * t, rounded at each operation, with t in 0..1.
--- Toward a lower b it stays in 0..a, and above b where a is at most twice b, since b - a is then exact. (In general it can pass below b: from 1 toward 2 ^ -30 it comes to 0.)
--- Toward 1 it stays between the level and 1: 1 - l is off by half a last place at most, so the sum is at most 1 + 2 ^ -24, which rounds to 1. Assumes nothing.
+-- A value moved part of the way to another, as envelopes and the Gaussian lookup have it: `toward f
+-- a b t` is a + (b - a) * t, rounded at each operation, with t in 0..1. Toward a lower b it stays
+-- in 0..a. (It can pass below b: from 1 toward 2 ^ -30 it comes to 0.) Toward 1 it stays between
+-- the level and 1: 1 - l is off by half a last place at most, so the sum is at most 1 + 2 ^ -24,
+-- which rounds to 1. Assumes nothing.
 use mathlib.Core.Path.{_≡_, refl, sym, ap, _∙_, subst}
 use mathlib.Core.Bool.{Bool, true, false}
 use Prim.Native.Nat.{ℕ, _+_, _-_, _*_, _^_, _≤_, _<_}
@@ -13,7 +15,6 @@ use Rattle.float_laws.specs.Units.{mag, sign, number, real, key, keyed, 
 use Rattle.float_laws.specs.Round.{plus-zero, key-zero, rnd, rnd-real, real-zero}
 use Rattle.float_laws.specs.Mono.{rndU, rndU-mono, rndU-zero, center-up, center-down, add-key, sub-key, add-number, sub-number, mul-number, mul-nonneg, nonneg-key, key-nonneg, size-nonneg, sizes, real-neg, key-neg, rndM, mul-key, center-mono}
 use Rattle.float_laws.specs.Bounds.{one, real-one, mag-one, real-between, sub-nonneg, mul-le-left, mul-real, rndM-le}
-use Rattle.float_laws.specs.Exact.{sub-near}
 use Rattle.float_laws.specs.Error.{Close, rnd-close}
 
 abbrev pub toward : Format → Float → Float → Float → Float
@@ -99,13 +100,6 @@ module _ (f : Format) (a b t : Float) (p : T (real f a)) (q : T (real f b)) (r :
 
   pub toward-lower-real : T (real f (toward f a b t))
   toward-lower-real = real-between f plus-zero (toward f a b t) a result-number (real-zero f false) p toward-lower-nonneg toward-lower-most
-
-  pub toward-lower-least : mag f a ≤ mag f b * 2 → T (le b (toward f a b t))
-  toward-lower-least l =
-      let s = sizes-ba in
-      let a0 : T (le plus-zero a) = key-nonneg f a (real-number f a p) (omega arith) in
-      let e = sub-near f b a q p b0 a0 (omega arith) l in
-      key→le f b (toward f a b t) (real-number f b q) result-number (omega (arith, at-least b q (omega (arith, step-key))))
 
 -- ---- toward 1
 -- 1 + 2 ^ -24, halfway to the next value, rounds to 1, which is even

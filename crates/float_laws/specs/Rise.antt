@@ -1,5 +1,7 @@
--- Chains of operations on values that are not negative. `Upto f k x` says that x is finite, not negative and at most 2 ^ k. `Rise f k x y` says that of x and y, and that x is at most y.
--- Each operation has one law: what its operands' relations give for its result. A chain's law is these laws applied in the chain's order. Assumes nothing.
+-- Chains of operations on values that are not negative. `Upto f k x` says that x is finite, not
+-- negative and at most 2 ^ k. `Rise f k x y` says that of x and y, and that x is at most y. Each
+-- operation has one law: what its operands' relations give for its result. A chain's law is these
+-- laws applied in the chain's order. Assumes nothing.
 use mathlib.Core.Path.{_≡_, sym, ap, _∙_, subst, subst₂}
 use mathlib.Core.Bool.{false}
 use Prim.Native.Nat.{ℕ, suc, _+_, _*_, _-_, _^_, _≤_, max}
@@ -7,13 +9,13 @@ use native.Mathlib.Nat.{le-trans, le-of-eq, mul-le-mul, mul-le-mul-right, mul-mu
 use native.Mathlib.Omega.{arith}
 use lib.Pow.{pow-pos, pow-add, pow-mono}
 use lib.Dec.{T}
-use lib.Ieee.{Float, Format, emax, low, le, add, sub, mul}
+use lib.Ieee.{Float, Format, emax, low, le, add, mul}
 use lib.Ieee.Scale.{overflow}
-use Rattle.float_laws.specs.Units.{mag, number, real, key, key→le, real-number, mag-below}
+use Rattle.float_laws.specs.Units.{mag, number, real, key, key→le, real-number}
 use Rattle.float_laws.specs.Order.{larger, larger-number, key-larger, larger-mono, clamp, clamp-number, clamp-low, clamp-high, clamp-mono, le-refl-f, maximum, maximum-number}
 use Rattle.float_laws.specs.Round.{plus-zero, real-zero, squared-pos}
 use Rattle.float_laws.specs.Ops.{mul-comm-f}
-use Rattle.float_laws.specs.Mono.{rndU, rndM, center-up, add-key, add-number, mul-number, add-mono, mul-mono, mul-nonneg, mul-key-nonneg, key-nonneg, size-nonneg, sizes, sub-key, sub-number}
+use Rattle.float_laws.specs.Mono.{rndU, rndM, center-up, add-key, add-number, mul-number, add-mono, mul-mono, mul-nonneg, mul-key-nonneg, key-nonneg, size-nonneg, sizes}
 use Rattle.float_laws.specs.Bounds.{one, real-one, mag-one, one-nonneg, real-between, mul-real}
 use Rattle.float_laws.specs.Power.{power, mag-power, real-power, rnd-power}
 
@@ -88,17 +90,6 @@ module _ (f : Format) where
         up = add-mono f x x' y y' (r .from .is-real) (r .to .is-real) (s .from .is-real) (s .to .is-real) (r .up) (s .up);
       }
 
-  -- the difference of two, the larger first, as a factor that does not change
-  pub upto-sub : (a : ℕ) (x y : Float) → a ≤ emax f → Upto f a x → Upto f a y → T (le y x) → Upto f a (sub f x y)
-  upto-sub a x y h u v l =
-      let K = overflow f in
-      let s = sizes f y x (v .is-real) (u .is-real) (v .low) l in
-      let n = mag f x - mag f y in
-      let top = mag-below f y (v .is-real) in
-      sized a h (sub f x y) (rndU f n) (sub-number f x y (u .is-real) (v .is-real))
-      (sub-key f x y (u .is-real) (v .is-real) ∙ center-up K (rndU f) (key f x + (K + K - key f y)) n (omega arith))
-      (rnd-power f a n (2 ^ low f) h (pow-pos (low f)) (mul-le-mul-right (2 ^ low f) (le-trans (omega arith) (u .high))))
-
   -- ---- what does not change, and the maximum of two
   num : {k : ℕ} {x : Float} → Upto f k x → T (number f x)
   num {k} {x} u = real-number f x (u .is-real)
@@ -140,16 +131,6 @@ module _ (f : Format) where
       let b = clamp-high f plus-zero one z w one-nonneg x p in
       upto-level (clamp plus-zero one x) (real-between f plus-zero (clamp plus-zero one x) one n (real-zero f false) (real-one f) a b) a b
 
-  pub rise-clamp : {k : ℕ} {x y : Float} → Rise f k x y → Rise f 0 (clamp plus-zero one x) (clamp plus-zero one y)
-  rise-clamp {k} {x} {y} r =
-      record {
-        from = upto-clamp x (num (r .from));
-        to = upto-clamp y (num (r .to));
-        up =
-            clamp-mono f plus-zero one (real-number f plus-zero (real-zero f false)) (real-number f one (real-one f)) one-nonneg x y (num (r .from))
-            (num (r .to)) (r .up);
-      }
-
 -- ---- with no bound but that both are finite: a product with what is at most 1, on either side
 pub record Up (f : Format) (x y : Float) : Type 0 where
   pub from-real : T (real f x)
@@ -159,9 +140,6 @@ pub record Up (f : Format) (x y : Float) : Type 0 where
   pub up : T (le x y)
 
 module _ (f : Format) where
-  pub rise-up : {k : ℕ} {x y : Float} → Rise f k x y → Up f x y
-  rise-up r = record { from-real = r .from .is-real; to-real = r .to .is-real; from-low = r .from .low; to-low = r .to .low; up = r .up }
-
   below-one : (x : Float) → Upto f 0 x → T (le x one)
   below-one x u =
       key→le f x one (real-number f x (u .is-real)) (real-number f one (real-one f))

@@ -1,5 +1,7 @@
--- Two floats that differ at most in the sign of a zero. What equals as f32 is such a pair, and each operation gives such a pair of two: so a run of operations on equal numbers ends with
--- equal numbers, also where infinities and NaN are met, and a function that gives both zeros one result gives one result for both (`through`). Assumes nothing.
+-- Two floats that differ at most in the sign of a zero. What equals as f32 is such a pair, and each
+-- operation gives such a pair of two: so a run of operations on equal numbers ends with equal
+-- numbers, also where infinities and NaN are met, and a function that gives both zeros one result
+-- gives one result for both (`through`). Assumes nothing.
 use mathlib.Core.Path.{_≡_, refl, sym, ap, _∙_, subst, subst₂}
 use mathlib.Core.Bool.{Bool, true, false, not, _&&_}
 use Prim.Native.Nat.{ℕ, zero, suc, _*_, _≤_, _<_}
@@ -26,10 +28,6 @@ pub data Same : Float → Float → Type 0 where
 
 pub same-of : {x y : Float} → x ≡ y → Same x y
 same-of {x} e = subst (Same x) e same
-
-pub same-sym : {x y : Float} → Same x y → Same y x
-same-sym same = same
-same-sym (noughts s t) = noughts t s
 
 pub same-trans : {x y z : Float} → Same x y → Same y z → Same x z
 same-trans same b = b

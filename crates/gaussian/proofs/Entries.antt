@@ -1,4 +1,5 @@
--- The Gaussian table by its rule: entry 0 is 1, every entry is in 0..1, and none is above the one before it, as exp never falls. Assumes nothing.
+-- The Gaussian table by its rule: entry 0 is 1, every entry is in 0..1, and none is above the one
+-- before it, as exp never falls. Assumes nothing.
 use mathlib.Core.Path.{_≡_, refl, sym, subst}
 use mathlib.Core.Bool.{not}
 use Prim.Native.Nat.{ℕ, _+_, _≤_, min, zero-le}
@@ -15,7 +16,8 @@ use Rattle.float_laws.specs.Rise.{Upto, upto-level}
 use Rattle.float_laws.specs.Exact.{real-whole}
 use Rattle.power.proofs.Bases.{exp-mono, exp-real, exp-nonneg}
 use Rattle.gaussian.specs.Table.{GAUSSIAN-LUT-STEPS, gaussianBits, gaussianTable, G}
-use Rattle.gaussian.specs.Rule.{STEPS-TO-ONE, entryOf, G-rule}
+use Rattle.gaussian.specs.Rule.{STEPS-TO-ONE, entryOf}
+use Rattle.gaussian.proofs.Rule.{G-rule}
 use Rattle.gaussian.proofs.Fraction.{whole-mono}
 
 -- ---- i/128

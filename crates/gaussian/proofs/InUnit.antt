@@ -1,5 +1,6 @@
--- The bell lies in 0..1: the place of a number in the table lies in 0..1,024, the part of a step past its left entry in 0..1, and a line from an entry toward one that is not above
--- it stays between 0 and that entry, also rounded. Assumes nothing.
+-- The bell lies in 0..1: the place of a number in the table lies in 0..1,024, the part of a step
+-- past its left entry in 0..1, and a line from an entry toward one that is not above it stays
+-- between 0 and that entry, also rounded. Assumes nothing.
 use mathlib.Core.Path.{_≡_, refl, sym, subst}
 use mathlib.Core.Bool.{false}
 use Prim.Native.Nat.{ℕ, suc, _+_, _*_, _^_, _≤_, min}
@@ -9,7 +10,7 @@ use lib.Dec.{T, lit≤}
 use lib.IntN.{pos}
 use lib.Count.{trailingZeros}
 use lib.Ieee.{Float, binary32, prec, low, ofBits, ofInt, mul, sub, le, lt, eq, fits, round, size, span, climb, units, odd}
-use Rattle.float_laws.specs.Units.{mag, number, real}
+use Rattle.float_laws.specs.Units.{mag, number}
 use Rattle.float_laws.specs.Order as order
 use Rattle.float_laws.specs.Round.{plus-zero}
 use Rattle.float_laws.specs.Mono.{sizes}

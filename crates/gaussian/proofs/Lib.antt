@@ -1,3 +1,4 @@
+pub mod Rule
 pub mod Fraction
 pub mod Entries
 pub mod InUnit

@@ -1,24 +1,10 @@
--- The rule of the Gaussian table: "entry i being exp(-i/128)", with document 01's exp. It is shown by one test that runs over the whole table. The Rust writes
--- -0.5 * (i * 16 / 1024) for -i/128: each of its steps is exact, so it is the same number. Assumes nothing.
-use mathlib.Core.Path.{_≡_, refl, sym, ap, _∙_}
-use mathlib.Core.Bool.{Bool}
-use Prim.Native.Nat.{ℕ, suc, _≤_}
-use native.Mathlib.Omega.{arith}
-use lib.Dec.{T, eqb, eqb→eq}
+-- The rule of the Gaussian table: "entry i being exp(-i/128)", with document 01's exp. The Rust
+-- writes -0.5 * (i * 16 / 1024) for -i/128: each of its steps is exact, so it is the same number.
+-- That the table has these entries is shown in proofs/Rule.antt. Assumes nothing.
+use Prim.Native.Nat.{ℕ}
 use lib.IntN.{pos}
-use lib.Count.{trailingZeros}
-use lib.ListN.{length, getD, List·getD-map}
-use lib.Ieee.{Float, nan, inf, fin, binary32, fits, ofBits, toBits, ofInt, neg, div, mul, isNan, round, size, span, climb, units, odd, ofFields}
-use lib.Ieee.Bits.{ofBits-toBits}
-use Rattle.float_laws.specs.Units.{real}
-use Rattle.lists.specs.Tested.{every, every-at}
-use Rattle.lists.specs.Interpolation.{interp}
-use Rattle.float32.specs.Value.{moved}
-use Rattle.power.specs.Table.{powerTable}
-use Rattle.power.specs.Power.{powerAt, powerOf, E2}
+use lib.Ieee.{Float, binary32, ofBits, ofInt, neg, div}
 use Rattle.power.specs.Decimal.{exp}
-use Rattle.power.proofs.Bases.{exp-real}
-use Rattle.gaussian.specs.Table.{GAUSSIAN-LUT-STEPS, gaussianBits, gaussianTable, G}
 
 -- entries to an exponent of 1
 abbrev pub STEPS-TO-ONE : Float
@@ -27,32 +13,3 @@ STEPS-TO-ONE = ofBits binary32 0x4300_0000
 -- exp(-i/128)
 abbrev pub entryOf : ℕ → Float
 entryOf i = exp (neg (div binary32 (ofInt binary32 (pos i)) STEPS-TO-ONE))
-
-abbrev isEntry : ℕ → ℕ → Bool
-isEntry i bits = eqb (toBits binary32 (entryOf i)) bits
-
-all-entries : T (every isEntry 0 gaussianBits)
-unfolding gaussianBits E2 powerOf powerAt moved interp powerTable isNan toBits ofBits ofFields ofInt neg div mul round size span climb units odd trailingZeros
-all-entries = tt
-
-long : length gaussianBits ≡ suc GAUSSIAN-LUT-STEPS
-unfolding gaussianBits
-long = refl
-
--- past the end of the table there are the bits of a NaN
-abbrev noBits : ℕ
-noBits = 0x7fc0_0000
-
-of-bits : (i : ℕ) → G i ≡ ofBits binary32 (getD gaussianBits i noBits)
-unfolding gaussianTable ofBits
-of-bits i = List·getD-map (ofBits binary32) gaussianBits i noBits
-
-real-fits : (x : Float) → T (real binary32 x) → T (fits binary32 x)
-real-fits nan p = absurd p
-real-fits (inf s) p = absurd p
-real-fits (fin s m e) p = p
-
-pub G-rule : (i : ℕ) → i ≤ GAUSSIAN-LUT-STEPS → G i ≡ entryOf i
-G-rule i h =
-    let t = every-at noBits isEntry gaussianBits all-entries i (rw long (omega arith)) in
-    of-bits i ∙ ap (ofBits binary32) (sym (eqb→eq (toBits binary32 (entryOf i)) (getD gaussianBits i noBits) t)) ∙ ofBits-toBits binary32 (entryOf i) (real-fits (entryOf i) (exp-real _))

@@ -1,5 +1,6 @@
--- The Gaussian table of document 01: "The Gaussian table has 1,025 entries, entry i being exp(-i/128)", by the bits of its entries. That each entry is that is shown in
--- `Rule.antt`. Assumes nothing.
+-- The Gaussian table of document 01: "The Gaussian table has 1,025 entries, entry i being
+-- exp(-i/128)", by the bits of its entries. That each entry is that, and that there are so many, is
+-- shown in proofs/Rule.antt. Assumes nothing.
 use Prim.Native.Nat.{ℕ}
 use mathlib.Core.List.{List, [], _∷_, map}
 use lib.ListN.{getD}

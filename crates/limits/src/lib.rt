@@ -1,7 +1,7 @@
 // Document 01's limits, ends included: one test for each, false of NaN. A limit's two ends are
 // constants.
 ghost use mathlib.Core.Path.{_≡_};
-ghost use Rattle.limits.specs.Limits.{decibels, frequency, noteDepth, width, rolloff, motionDepth, motionSize, elapsed, fade, rate, level, tuning, tableEntry, gain, windowValue, note, partials, bin, size, overlap};
+ghost use Rattle.limits.specs.Limits.{decibels, frequency, noteDepth, width, rolloff, motionDepth, motionSize, elapsed, fade, rate, level, tuning, tableEntry, gain, note, partials, bin, size, overlap};
 use float32::order::in_range;
 
 pub mod lengths;
@@ -152,12 +152,6 @@ pub fn gain(x: f32) -> bool
     ensures { λ r. ⌜ r ≡ gain x ⌝ }
 {
     in_range(x, LEAST_GAIN, MOST_GAIN)
-}
-
-pub fn window_value(x: f32) -> bool
-    ensures { λ r. ⌜ r ≡ windowValue x ⌝ }
-{
-    in_range(x, LEAST_WINDOW_VALUE, MOST_WINDOW_VALUE)
 }
 
 pub fn note(n: u8) -> bool

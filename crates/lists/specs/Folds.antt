@@ -1,6 +1,9 @@
--- Runs over a list from its front: `fold step s xs` steps through every entry, `takeUntil stop xs` ends before the first entry that stops, `firstBad ok xs` is the place of the first entry that fails a test.
--- A loop over an index keeps 'the rest of the run from here is the whole run'. The rest is `drop i (take n xs)` of a list and `range i (n - i)` of the numbers below n: it is an entry and the rest after it, or nothing.
--- The step, stop and end laws take that as their first fact. Assumes nothing.
+-- Runs over a list from its front: `fold step s xs` steps through every entry, `takeUntil stop xs`
+-- ends before the first entry that stops, `firstBad ok xs` is the place of the first entry that
+-- fails a test. A loop over an index keeps 'the rest of the run from here is the whole run'. The
+-- rest is `drop i (take n xs)` of a list and `range i (n - i)` of the numbers below n: it is an
+-- entry and the rest after it, or nothing. The step, stop and end laws take that as their first
+-- fact. Assumes nothing.
 use mathlib.Core.Path.{_≡_, refl, sym, ap, _∙_, subst}
 use mathlib.Core.Bool.{Bool, true, false, cond}
 use mathlib.Core.List.{List, [], _∷_, _++_}
@@ -26,11 +29,6 @@ range-next i n h = let e : n - i ≡ suc (n - (i + 1)) = omega arith in rw (e, a
 pub range-none : (i n : ℕ) → n ≤ i → range i (n - i) ≡ []
 unfolding range
 range-none i n h = let e : n - i ≡ 0 = omega arith in rw e
-
-pub length-range : (i n : ℕ) → length (range i n) ≡ n
-unfolding range
-length-range i zero = refl
-length-range i (suc n) = ap suc (length-range (suc i) n)
 
 -- ---- what is left of the first n entries of a list, from place i on
 module _ {A : Type 0} (xs : List A) (n i : ℕ) where
@@ -72,14 +70,6 @@ unfolding fold range tabFrom
 fold-tab step g s i zero = refl
 fold-tab step g s i (suc n) = fold-tab step g (step s (g i)) (suc i) n
 
--- a part h of the state that each step turns by its own old value alone is a run of its own: so an entry of a list that a run writes is a run over that entry
-pub fold-part : {A S U : Type 0} (h : S → U) (P : S → Type 0) (step : S → A → S) (own : U → A → U)
-    → ((s : S) (x : A) → P s → P (step s x)) → ((s : S) (x : A) → P s → h (step s x) ≡ own (h s) x)
-    → (s : S) (xs : List A) → P s → h (fold step s xs) ≡ fold own (h s) xs
-unfolding fold
-fold-part h P step own k e s [] p = refl
-fold-part h P step own k e s (x ∷ xs) p = fold-part h P step own k e (step s x) xs (k s x p) ∙ ap (λ u. fold own u xs) (e s x p)
-
 -- ---- the entries before the first that stops
 module _ {A : Type 0} where
   unfoldable pub takeUntil : (A → Bool) → List A → List A
@@ -98,7 +88,8 @@ module _ {A : Type 0} where
   unfolding takeUntil
   until-end stop e = ap (takeUntil stop) e
 
-  -- ---- the place of the first entry that fails a test of entry and place, the places counted from i; the place after the last entry where none fails
+  -- ---- the place of the first entry that fails a test of entry and place, the places counted from
+  -- i; the place after the last entry where none fails
   unfoldable pub firstBadFrom : (ℕ → A → Bool) → ℕ → List A → ℕ
   firstBadFrom ok i [] = i
   firstBadFrom ok i (x ∷ xs) = cond (ok i x) (firstBadFrom ok (suc i) xs) i
@@ -119,7 +110,8 @@ module _ {A : Type 0} where
   unfolding firstBadFrom
   bad-end ok i e = ap (firstBadFrom ok i) e
 
-  -- what the place says: it is at most the length; every entry before it passes; the entry at it, if there is one, fails
+  -- what the place says: it is at most the length; every entry before it passes; the entry at it,
+  -- if there is one, fails
   bad-bounds : (ok : ℕ → A → Bool) (i : ℕ) (xs : List A) → (i ≤ firstBadFrom ok i xs) × (firstBadFrom ok i xs ≤ i + length xs)
   unfolding firstBadFrom
   bad-bounds ok i [] = (le-refl i, omega arith)

@@ -1,5 +1,7 @@
--- Rules of tables by tests that antt computes: a test at every entry of a list and its place, and a test at every number below n. One law each carries the test to an entry,
--- and one each joins two pieces, since antt ends a declaration at 50 million steps: a long table is tested in pieces, a declaration each. Assumes nothing.
+-- Rules of tables by tests that antt computes: a test at every entry of a list and its place, and a
+-- test at every number below n. One law each carries the test to an entry, and one joins two pieces
+-- of a list, since antt ends a declaration at 50 million steps: a long table is tested in pieces, a
+-- declaration each. Assumes nothing.
 use mathlib.Core.Path.{sym, _∙_, subst}
 use mathlib.Core.Bool.{Bool, true, _&&_}
 use mathlib.Core.List.{List, [], _∷_}
@@ -49,11 +51,3 @@ from-at i (suc n) f t (suc k) h =
 
 pub below-at : (n : ℕ) (f : ℕ → Bool) → T (allBelow n f) → (k : ℕ) → k < n → T (f k)
 below-at n f t k h = subst (λ (m : ℕ). T (f m)) (zero-add k) (from-at 0 n f t k h)
-
--- m numbers from i on, and n more
-pub below-join : (i m n : ℕ) (f : ℕ → Bool) → T (allFrom i m f) → T (allFrom (i + m) n f) → T (allFrom i (m + n) f)
-below-join i zero n f t u = rw zero-add (rw add-zero at u)
-below-join i (suc m) n f t u =
-    rw suc-add
-    (and-i (f i) (allFrom (suc i) (m + n) f) (and-l (f i) (allFrom (suc i) m f) t)
-    (below-join (suc i) m n f (and-r (f i) (allFrom (suc i) m f) t) (subst (λ (k : ℕ). T (allFrom k n f)) (add-suc i m ∙ sym (suc-add i m)) u)))

@@ -1,5 +1,7 @@
--- What a lobe opens at a bin is never above its bound over a block that has the bin. No bin of the block is nearer than the least distance; squares, the difference from the peak's square, the
--- maximum with 0 and the place in the table keep the order; the bell is never above the entry on its left, and the table never rises; the product with a strength that is not negative and the
+-- What a lobe opens at a bin is never above its bound over a block that has the bin. No bin of the
+-- block is nearer than the least distance; squares, the difference from the peak's square, the
+-- maximum with 0 and the place in the table keep the order; the bell is never above the entry on
+-- its left, and the table never rises; the product with a strength that is not negative and the
 -- clamp keep the order. Assumes nothing.
 use mathlib.Core.Path.{_≡_, refl, ap, _∙_, subst}
 use mathlib.Core.Bool.{Bool, true, false, cond}
@@ -34,14 +36,14 @@ use Rattle.gaussian.proofs.Entries.{G-falls, G-upto}
 use Rattle.gaussian.proofs.InUnit.{place-of, left-most, between-at-most, gaussian-in-unit}
 use Rattle.scene.specs.declared.MaskConfig.{MaskConfig}
 use Rattle.scene.specs.declared.MaskVoice.{MaskVoice}
-use Rattle.scene.proofs.Voices.{RealVoice}
+use Rattle.scene.specs.Voices.{RealVoice}
 use Rattle.lobes.specs.declared.Grid.{Grid}
 use Rattle.lobes.specs.declared.Lobe.{Lobe}
 use Rattle.lobes.specs.Grid.{gridOf}
 use Rattle.lobes.specs.Tone.{timbreRolloff, toneOf}
 use Rattle.lobes.specs.Distance.{Logs, lent, inWidths, distance, bell}
 use Rattle.lobes.specs.Lobe.{lobeOf, relativeSquare, opening}
-use Rattle.lobe_bounds.specs.Bound.{leastDistance, boundOf}
+use Rattle.lobe_bounds.specs.Bound.{leastDistance, boundOf, Measured}
 use Rattle.lobes.proofs.NoteLevels.{zero-is, one-is, note-level-rises}
 use Rattle.lobes.proofs.Harmonics.{rolloff-low, rolloff-real, harmonic-gain-unit}
 use Rattle.lobe_bounds.proofs.Nearest.{InBlock, zero-number, max-zero, least-distance-number, least-distance-low, distance-number, none-nearer}
@@ -76,7 +78,8 @@ square-low x p l =
     none : T (le plus-zero plus-zero)
     none = le-refl-f binary32 plus-zero zero-number
 
--- ---- less the peak's square, whatever that is: where the difference is NaN or below 0, it counts as 0
+-- ---- less the peak's square, whatever that is: where the difference is NaN or below 0, it counts
+-- as 0
 abbrev less : Float → Float → Float
 less peak x = maximum (sub binary32 x peak) zero
 
@@ -173,15 +176,7 @@ pub bound-in-unit : (width strength center peak low high : Float) → T (real bi
 unfolding boundOf
 bound-in-unit width strength center peak low high r l = entry-in-unit strength _ r l
 
--- what the bound asks of the width that all lobes share, and of the lobe
-pub record Measured (grid : Grid) (lobe : Lobe) : Type 0 where
-  pub width-real : T (real binary32 (grid .width))
-  pub width-above : T (lt plus-zero (grid .width))
-  pub strength-real : T (real binary32 (lobe .strength))
-  pub strength-low : T (le plus-zero (lobe .strength))
-  pub peak-fits : T (fits binary32 (lobe .«peak_squared»))
-
--- what such a lobe opens is in 0..1
+-- what a measured lobe opens is in 0..1
 pub opening-in-unit : (grid : Grid) (lobe : Lobe) → Measured grid lobe → (table : List Float) (bin : ℕ) → Upto binary32 0 (opening grid (lent table) lobe bin)
 unfolding opening bell relativeSquare
 opening-in-unit grid lobe m table bin =

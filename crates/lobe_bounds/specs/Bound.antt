@@ -1,20 +1,25 @@
--- The bound under which a lobe stays over a whole block of bins, of which no more is known than that their logarithms lie from `low` to `high`: its strength times an entry of the Gaussian
+-- The bound under which a lobe stays over a whole block of bins, of which no more is known than
+-- that their logarithms lie from `low` to `high`: its strength times an entry of the Gaussian
 -- table, the one on the left of the least distance that such a bin can have. Assumes nothing.
 use mathlib.Core.List.{List}
 use Prim.Native.Nat.{ℕ, _<_, min}
 use lib.Dec.{T}
 use lib.ListN.{getD}
-use lib.Ieee.{Float, nan, binary32, le, sub, mul}
-use Rattle.float_laws.specs.Units.{number}
+use lib.Ieee.{Float, nan, binary32, fits, lt, le, sub, mul}
+use Rattle.float_laws.specs.Units.{number, real}
+use Rattle.float_laws.specs.Round.{plus-zero}
 use Rattle.counts.specs.Counts.{floorCount}
 use Rattle.float32.specs.Order.{maximum, clamp}
 use Rattle.float32.specs.Powers.{square}
 use Rattle.float32.specs.Remainder.{zero, one}
 use Rattle.gaussian.specs.Table.{GAUSSIAN-LUT-STEPS, G}
 use Rattle.gaussian.specs.Bell.{position}
+use Rattle.lobes.specs.declared.Grid.{Grid}
+use Rattle.lobes.specs.declared.Lobe.{Lobe}
 use Rattle.lobes.specs.Distance.{inWidths}
 
--- the least distance in widths, rounded, that a bin of the block can have from a centre, which is given as its logarithm
+-- the least distance in widths, rounded, that a bin of the block can have from a centre, which is
+-- given as its logarithm
 abbrev pub leastDistance : Float → Float → Float → Float → Float
 leastDistance width center low high = inWidths width (maximum (maximum (sub binary32 low center) (sub binary32 center high)) zero)
 
@@ -28,6 +33,14 @@ boundAt strength place = clamp zero one (mul binary32 strength (G (min (floorCou
 
 unfoldable pub boundOf : Float → Float → Float → Float → Float → Float → Float
 boundOf width strength center peak low high = boundAt strength (nearestPlace width center peak low high)
+
+-- what the law of the bound asks of the width that all lobes share, and of the lobe
+pub record Measured (grid : Grid) (lobe : Lobe) : Type 0 where
+  pub width-real : T (real binary32 (grid .width))
+  pub width-above : T (lt plus-zero (grid .width))
+  pub strength-real : T (real binary32 (lobe .strength))
+  pub strength-low : T (le plus-zero (lobe .strength))
+  pub peak-fits : T (fits binary32 (lobe .«peak_squared»))
 
 -- none of the first `count` is NaN
 abbrev pub Numbers : List Float → ℕ → Type 0

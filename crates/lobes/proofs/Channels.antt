@@ -1,4 +1,5 @@
--- The gain of what a voice opens never falls as its expression rises, and is from 0 to 8: the expression is at most 4 and a balance, never negative, at most 2. Assumes nothing.
+-- The gain of what a voice opens never falls as its expression rises, and is from 0 to 8: the
+-- expression is at most 4 and a balance, never negative, at most 2. Assumes nothing.
 use mathlib.Core.Path.{_≡_, refl}
 use mathlib.Core.Bool.{true}
 use native.Mathlib.Nat.{le-trans, le-of-eq}
@@ -15,7 +16,7 @@ use Rattle.float_laws.specs.Rise.{Upto, Rise, rise-refl, rise-mul}
 use Rattle.float32.specs.Order.{clamp, finite}
 use Rattle.float32.proofs.OrderAgrees.{clamp-agrees}
 use Rattle.scene.specs.declared.MaskVoice.{MaskVoice}
-use Rattle.scene.proofs.Voices.{RealVoice}
+use Rattle.scene.specs.Voices.{RealVoice}
 use Rattle.lobes.specs.Pan.{Side, HARD-LEFT, HARD-RIGHT, MAX-EXPRESSION-GAIN, balance, panOf, expressionOf, channelGain}
 use Rattle.lobes.proofs.NoteLevels.{zero-is}
 use Rattle.lobes.proofs.Balances.{balance-upto}

@@ -1,4 +1,5 @@
--- A voice's level never falls as its own level, its volume or its pressure rises: each operation keeps the order. It is finite and not negative. Assumes nothing.
+-- A voice's level never falls as its own level, its volume or its pressure rises: each operation
+-- keeps the order. It is finite and not negative. Assumes nothing.
 use mathlib.Core.Path.{_≡_, refl}
 use mathlib.Core.Bool.{Bool, true, false, cond}
 use native.Mathlib.Omega.{arith}
@@ -17,7 +18,7 @@ use Rattle.float32.specs.Order.{maximum, clamp}
 use Rattle.float32.specs.Remainder.{zero, one}
 use Rattle.float32.proofs.OrderAgrees.{clamp-agrees, maximum-larger}
 use Rattle.scene.specs.declared.MaskVoice.{MaskVoice}
-use Rattle.scene.proofs.Voices.{RealVoice}
+use Rattle.scene.specs.Voices.{RealVoice}
 use Rattle.lobes.specs.Tone.{LEAST-PRESSURE-GAIN, PRESSURE-GAIN-RANGE, pressureGain, noteLevel}
 
 pub zero-is : zero ≡ plus-zero

@@ -1,4 +1,5 @@
--- A bin of a mask never falls as its curve point rises and as voices are raised: the manual gain and the gate never fall, the motion is the same, and all three are finite and not negative, so
+-- A bin of a mask never falls as its curve point rises and as voices are raised: the manual gain
+-- and the gate never fall, the motion is the same, and all three are finite and not negative, so
 -- the product of the three rises. Assumes nothing.
 use mathlib.Core.Bool.{Bool, true, false, cond}
 use mathlib.Core.List.{List}
@@ -13,7 +14,7 @@ use Rattle.float32.specs.Remainder.{zero}
 use Rattle.scene.specs.declared.MaskVoice.{MaskVoice}
 use Rattle.scene.specs.declared.MaskConfig.{MaskConfig}
 use Rattle.scene.specs.Accepted.{noVoice}
-use Rattle.scene.proofs.Voices.{RealVoice}
+use Rattle.scene.specs.Voices.{RealVoice}
 use Rattle.masks.specs.Manual.{manualGain}
 use Rattle.bin_gains.specs.Gains.{ceilingAt}
 use Rattle.bin_gains.proofs.Rising.{RealSettings, motion-upto, gate-rises}

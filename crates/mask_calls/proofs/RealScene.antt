@@ -1,5 +1,6 @@
--- What is known of the numbers of a scene that a mask builder goes on to build: the voices that count are real, the table's entries from 1 on are numbers within their limits, the size is a power of
--- two in 64..16,384, and the settings are real. The tests were passed, and the types of the parameters say that each number is an f32. Assumes nothing.
+-- What is known of the numbers of a scene that a mask builder goes on to build: the voices that
+-- count are real, the settings are real, and the table's entries from 1 on are finite. The tests
+-- were passed, and the types of the parameters say that each number is an f32. Assumes nothing.
 use mathlib.Core.Path.{_≡_, sym, subst}
 use mathlib.Core.Bool.{Bool, _&&_}
 use mathlib.Core.List.{List}
@@ -18,35 +19,29 @@ use Rattle.float32.proofs.Limits.{within-number, within-real}
 use Rattle.answer.specs.Reply.{Reply}
 use Rattle.limits.specs.Limits as limits
 use Rattle.limits.specs.Limits.{LEAST-TABLE-ENTRY, MOST-TABLE-ENTRY}
-use Rattle.frequencies.proofs.Sizes.{PowerOfTwo, size-power}
 use Rattle.limits.specs.Lengths.{MANUAL-MASK-POINTS}
 use Rattle.scene.specs.declared.MaskVoice.{MaskVoice}
 use Rattle.scene.specs.declared.MaskConfig.{MaskConfig}
-use Rattle.scene.specs.Accepted.{noVoice, sizeAccepted, settingsAccepted}
-use Rattle.scene.proofs.Voices.{RealVoice, accepted-real}
+use Rattle.scene.specs.Accepted.{noVoice}
+use Rattle.scene.specs.Voices.{RealVoice}
+use Rattle.scene.proofs.Voices.{accepted-real}
 use Rattle.lobes.specs.Grid.{gridOf}
 use Rattle.lobe_bounds.proofs.Bounded.{grid-width}
 use Rattle.openness.specs.Scene.{SoundScene}
 use Rattle.bin_gains.proofs.Rising.{RealSettings}
 use Rattle.mask_builder.proofs.Built.{grid-partials}
-use Rattle.limits.specs.Lengths.{MOST-VOICES}
 use Rattle.refusals.specs.Masks.{bins, first, settingsReply, voicesReply, tableReply, voicesMaskReply, tabledMaskReply, stereoReply}
 use Rattle.refusals.proofs.MaskAccepted.{Done, both-done, settings-done, voices-done, voice-done, entry-done}
 use Rattle.mask_calls.specs.F32.{F32Voice, F32Settings, F32Voices, F32List}
 use Rattle.mask_calls.proofs.SettingsNumbers as numbers
 
 pub record RealScene (voices : List MaskVoice) (count : ℕ) (config : MaskConfig) : Type 0 where
-  pub count-most : count ≤ MOST-VOICES
   pub voices-real : All RealVoice (take count voices)
-  pub size-accepted : T (sizeAccepted config)
-  pub settings-accepted : T (settingsAccepted config)
-  pub size-is-power : PowerOfTwo 6 15 (config .«fft_size»)
   pub settings-real : RealSettings config
   pub width-real : T (real binary32 (config .«width_cents»))
 
 pub record RealTable (config : MaskConfig) (table : List Float) : Type 0 where
   pub entries : length table ≡ bins config
-  pub entry-within : (i : ℕ) → 0 < i → i < length table → T (limits.tableEntry (getD table i nan))
   pub entry-number : (i : ℕ) → 0 < i → i < length table → T (number binary32 (getD table i nan))
   pub entry-real : (i : ℕ) → 0 < i → i < length table → T (real binary32 (getD table i nan))
 
@@ -69,11 +64,7 @@ module _ (curve : List Float) (voices : List MaskVoice) (count : ℕ) (config : 
   scene lengths d e f g =
       let s = settings-done config d in
       record {
-        count-most = voices-done voices count lengths e .0;
         voices-real = all-places RealVoice noVoice (take count voices) (voice-real lengths e f);
-        size-accepted = s .0;
-        settings-accepted = s .1;
-        size-is-power = size-power (config .«fft_size») (numbers.size-within config (s .0) (s .1) g);
         settings-real = numbers.real-settings config (s .0) (s .1) g;
         width-real = numbers.width-real config (s .0) (s .1) g;
       }
@@ -110,7 +101,6 @@ module _ (curve : List Float) (voices : List MaskVoice) (count : ℕ) (config : 
         let within = entry-done table (p .2) in
         record {
           entries = eqb→eq (length table) (bins config) (and-r (eqb (length curve) MANUAL-MASK-POINTS) (eqb (length table) (bins config)) g);
-          entry-within = within;
           entry-real = λ i l h. entry-finite (getD table i nan) (within i l h) (f i h);
           entry-number = λ i l h. within-number LEAST-TABLE-ENTRY MOST-TABLE-ENTRY (getD table i nan) (within i l h) binary32 (f i h);
         }

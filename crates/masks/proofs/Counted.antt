@@ -1,8 +1,9 @@
--- The gain of a curve value is the gain of the decibels that it counts as: -1,000 dB are a gain of 0. Assumes nothing.
+-- The gain of a curve value is the gain of the decibels that it counts as: -1,000 dB are a gain of
+-- 0. Assumes nothing.
 use mathlib.Core.Path.{_≡_, refl}
 use mathlib.Core.Bool.{Bool, true, false, cond}
 use lib.Count.{trailingZeros}
-use lib.Ieee.{Float, le, ofBits, isNan, mul, div, round, size, span, climb, units, odd}
+use lib.Ieee.{Float, ofBits, isNan, mul, div, round, size, span, climb, units, odd}
 use Rattle.float32.specs.Order.{minimum}
 use Rattle.float32.specs.Remainder.{zero}
 use Rattle.float32.specs.Value.{moved}
@@ -10,7 +11,7 @@ use Rattle.lists.specs.Interpolation.{interp}
 use Rattle.power.specs.Table.{powerTable}
 use Rattle.power.specs.Power.{powerAt, powerOf, E2}
 use Rattle.decibels.specs.Gain.{gainOf}
-use Rattle.masks.specs.Manual.{MANUAL-CURVE-MUTE-DB, curveGain}
+use Rattle.masks.specs.Manual.{muted, curveGain}
 use Rattle.masks.specs.Counted.{SILENT-DB, countedAs}
 
 silent-is-zero : gainOf SILENT-DB ≡ zero
@@ -23,4 +24,4 @@ chosen false db = refl
 
 pub counted-gain : (db : Float) → gainOf (countedAs db) ≡ curveGain db
 unfolding countedAs curveGain
-counted-gain db = chosen (le db MANUAL-CURVE-MUTE-DB) (minimum db zero)
+counted-gain db = chosen (muted db) (minimum db zero)

@@ -1,5 +1,6 @@
--- The gain of a curve value: it is in 0..1 whatever the value, NaN too, and never falls as the value rises; and document 01's two proved cases. At -144 and below it is 0, which is
--- the least gain there is, and above that gains of at most 0 dB never fall. Assumes nothing.
+-- The gain of a curve value: it is in 0..1 whatever the value, NaN too, and never falls as the
+-- value rises; and document 01's two proved cases. At -144 and below it is 0, which is the least
+-- gain there is, and above that gains of at most 0 dB never fall. Assumes nothing.
 use mathlib.Core.Path.{_≡_, refl}
 use mathlib.Core.Bool.{Bool, true, false, cond}
 use lib.Dec.{T}
@@ -20,8 +21,8 @@ use Rattle.power.specs.Table.{powerTable}
 use Rattle.power.specs.Power.{powerAt, powerOf, E2}
 use Rattle.decibels.specs.Gain.{gainOf}
 use Rattle.decibels.proofs.Gains.{gain-nonneg, gain-number, gain-at-most-one, gain-never-falls}
-use Rattle.masks.specs.Manual.{MANUAL-CURVE-MUTE-DB, curveGain}
-use Rattle.masks.proofs.InUnit.{InUnit, in-unit, zero-in-unit, zero-is}
+use Rattle.masks.specs.Manual.{MANUAL-CURVE-MUTE-DB, muted, curveGain}
+use Rattle.float32.proofs.InUnit.{InUnit, in-unit, zero-in-unit, zero-is}
 
 -- ---- "curve -144 gives 0, +6 gives 1"
 pub curve-mute : curveGain MANUAL-CURVE-MUTE-DB ≡ plus-zero
@@ -51,7 +52,7 @@ chosen false g p l h = in-unit g p l h
 
 pub curve-gain-in-unit : (db : Float) → T (fits binary32 db) → InUnit (curveGain db)
 unfolding curveGain
-curve-gain-in-unit db h = chosen (le db MANUAL-CURVE-MUTE-DB) (gainOf (minimum db zero)) (gain-number _) (gain-nonneg _) (gain-at-most-one _ (at-most-zero db h))
+curve-gain-in-unit db h = chosen (muted db) (gainOf (minimum db zero)) (gain-number _) (gain-nonneg _) (gain-at-most-one _ (at-most-zero db h))
 
 -- ---- the order, of two numbers
 mute-number : T (number binary32 MANUAL-CURVE-MUTE-DB)
@@ -73,7 +74,7 @@ ordered false false g k i l h = h
 pub curve-gain-never-falls : (a b : Float) → T (number binary32 a) → T (number binary32 b) → T (le a b) → T (le (curveGain a) (curveGain b))
 unfolding curveGain
 curve-gain-never-falls a b p q h =
-    ordered (le a MANUAL-CURVE-MUTE-DB) (le b MANUAL-CURVE-MUTE-DB) (gainOf (minimum a zero)) (gainOf (minimum b zero))
-    (λ (m : T (le b MANUAL-CURVE-MUTE-DB)). le-trans-f binary32 a b MANUAL-CURVE-MUTE-DB p q mute-number h m)
+    ordered (muted a) (muted b) (gainOf (minimum a zero)) (gainOf (minimum b zero))
+    (λ (m : T (muted b)). le-trans-f binary32 a b MANUAL-CURVE-MUTE-DB p q mute-number h m)
     (gain-nonneg _)
     (gain-never-falls _ _ (limited-mono a b p q h))

@@ -1,5 +1,7 @@
--- The emphasis is from 1 to 2 and the floor from 0 to 1, so that the emphasis less the floor is never negative. The position of a width is a clamp and lies in 0..1; smoothstep keeps it
--- there; so the decibels are from 0 to 6 and those of the floor at most 0, and gains never fall. Assumes nothing.
+-- The emphasis is from 1 to 2 and the floor from 0 to 1, so that the emphasis less the floor is
+-- never negative. The position of a width is a clamp and lies in 0..1; smoothstep keeps it there;
+-- so the decibels are from 0 to 6 and those of the floor at most 0, and gains never fall. Assumes
+-- nothing.
 use mathlib.Core.Path.{_≡_, refl}
 use mathlib.Core.Bool.{Bool, true, false, not, cond}
 use lib.Dec.{T, lit≤}
@@ -25,8 +27,8 @@ use Rattle.power.proofs.LogRange.{L2-of-power, L2-number, L2-real}
 use Rattle.decibels.proofs.Gains.{six, two, gain-at-least-one, gain-at-most-one, gain-at-most-two, gain-nonneg, gain-real}
 use Rattle.float32.specs.Smoothstep.{smoothstep}
 use Rattle.masks.specs.Gates.{NARROW-CENTS, WIDE-RATIO, widthPosition, emphasisGain, floorGain}
-use Rattle.masks.proofs.InUnit.{InUnit, zero-is, clamp-in-unit, one-less}
-use Rattle.masks.proofs.Smoothstep.{smoothstep-in-unit}
+use Rattle.float32.proofs.InUnit.{InUnit, zero-is, clamp-in-unit, one-less}
+use Rattle.float32.proofs.Smoothstep.{smoothstep-in-unit}
 
 -- ---- log2 of 12 is at least that of 8, which is 3
 eight : Float

@@ -1,5 +1,7 @@
--- The gate: it never falls as the openness rises, is never below the floor and never negative, and is at most 3 up to an openness of 1. Each step keeps the order, the factor of the
--- openness being never negative. Openness is taken up to 2 ^ 100, far beyond what any voice reaches, so that nothing overflows. Assumes nothing.
+-- The gate: it never falls as the openness rises, is never below the floor and never negative, and
+-- is at most 3 up to an openness of 1. Each step keeps the order, the factor of the openness being
+-- never negative. Openness is taken up to 2 ^ 100, far beyond what any voice reaches, so that
+-- nothing overflows. Assumes nothing.
 use mathlib.Core.Bool.{false}
 use lib.Dec.{T}
 use lib.IntN.{pos}
@@ -14,7 +16,7 @@ use Rattle.float32.specs.Order.{clamp}
 use Rattle.float32.specs.Remainder as rem
 use Rattle.decibels.proofs.Gains.{two}
 use Rattle.masks.specs.Gates.{emphasisGain, floorGain, gateGain, limitedGateGain}
-use Rattle.masks.proofs.InUnit.{InUnit, clamp-in-unit}
+use Rattle.float32.proofs.InUnit.{InUnit, clamp-in-unit}
 use Rattle.masks.proofs.Emphasis.{floor-nonneg, floor-real, floor-at-most-one, lift-nonneg, lift-at-most-two, lift-real}
 
 abbrev far : Float

@@ -1,6 +1,3 @@
-pub mod InUnit
-pub mod LastStretch
-pub mod Smoothstep
 pub mod Emphasis
 pub mod Gated
 pub mod Points

@@ -1,5 +1,6 @@
--- The gain that the drawn curve gives a bin: the curve point that the bin reads, and the gain of a curve value. Assumes nothing.
-use mathlib.Core.Bool.{cond}
+-- The gain that the drawn curve gives a bin: the curve point that the bin reads, and the gain of a
+-- curve value. Assumes nothing.
+use mathlib.Core.Bool.{Bool, cond}
 use mathlib.Core.List.{List}
 use Prim.Native.Nat.{ℕ, _+_, _*_, _/_, min}
 use lib.ListN.{getD}
@@ -9,7 +10,8 @@ use Rattle.float32.specs.Remainder.{zero}
 use Rattle.limits.specs.Lengths.{LAST-POINT}
 use Rattle.decibels.specs.Gain.{gainOf}
 
--- "Bin b reads curve point floor((b * 8192 + size / 4) / (size / 2)), at most 8,192." A bin is at most 8,192; one above it would count as that.
+-- "Bin b reads curve point floor((b * 8192 + size / 4) / (size / 2)), at most 8,192." A bin is at
+-- most 8,192; one above it would count as that.
 unfoldable pub curvePoint : ℕ → ℕ → ℕ
 curvePoint bin size = min ((min bin LAST-POINT * LAST-POINT + size / 4) / (size / 2)) LAST-POINT
 
@@ -17,8 +19,11 @@ curvePoint bin size = min ((min bin LAST-POINT * LAST-POINT + size / 4) / (size 
 abbrev pub MANUAL-CURVE-MUTE-DB : Float
 MANUAL-CURVE-MUTE-DB = ofBits binary32 0xc3100000
 
+abbrev pub muted : Float → Bool
+muted db = le db MANUAL-CURVE-MUTE-DB
+
 unfoldable pub curveGain : Float → Float
-curveGain db = cond (le db MANUAL-CURVE-MUTE-DB) zero (gainOf (minimum db zero))
+curveGain db = cond (muted db) zero (gainOf (minimum db zero))
 
 unfoldable pub manualGain : List Float → ℕ → ℕ → Float
 manualGain curve bin size = curveGain (getD curve (curvePoint bin size) nan)

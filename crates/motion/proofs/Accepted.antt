@@ -1,5 +1,6 @@
--- In accepted settings the openness is a finite number from -2 to 1 at every frequency, Saw's too: the logarithm lies in -126..128, the size is at least 0.05 and the phase is taken from 0 to 1,
--- so the place in the cycle is finite. Assumes nothing.
+-- In accepted settings the openness is a finite number in 0..1 at every frequency, Saw's too: the
+-- logarithm lies in -126..128, the size is at least 0.05 and the phase is taken from 0 to 1, so the
+-- place in the cycle is finite. Assumes nothing.
 use mathlib.Core.Path.{_≡_}
 use mathlib.Core.Bool.{Bool, true, false, cond}
 use lib.Dec.{T}
@@ -21,11 +22,10 @@ use Rattle.power.proofs.LogRange.{L2-range, L2-real}
 use Rattle.scene.specs.declared.MotionShape.{MotionShape}
 use Rattle.scene.specs.declared.MotionShape.the-variants.{Ripple, Harmonic, Drift, Scan, Notch, Saw, Sprinkle, Cloud}
 use Rattle.scene.specs.declared.MotionConfig.{MotionConfig}
-use Rattle.float32.specs.Smoothstep.{two}
 use Rattle.motion.specs.Shapes.{saw}
 use Rattle.motion.specs.Field.{MIN-SIZE-OCTAVES, shapeAt, resting, openness}
 use Rattle.motion.proofs.Between.{Between, between, between-sub}
-use Rattle.motion.proofs.Openings.{Opened, opened, zero-number, one-is, one-level, ripple-level, harmonic-level, drift-level, window-level, notch-level, in-unit, saw-opened}
+use Rattle.motion.proofs.Openings.{Level, zero-number, one-is, one-level, ripple-level, harmonic-level, drift-level, window-level, notch-level, in-unit, saw-level}
 
 -- ---- the size
 record SizeEnds : Type 0 where
@@ -93,24 +93,24 @@ module _ (octaves : Float) (p : T (real binary32 octaves)) where
     place-real =
         between-sub (quotient-between v) (in-unit phase q (number-fits binary32 phase (real-number binary32 phase q))) (size-ends .low-left) (size-ends .high-left) .is-real
 
-    saw-finite : Opened (saw (L2 v) taken (remEuclidOne phase))
+    saw-finite : Level (saw (L2 v) taken (remEuclidOne phase))
     unfolding saw
-    saw-finite = saw-opened (remEuclidOne place) (in-unit place place-real (sub-fits binary32 (across (L2 v)) (remEuclidOne phase)))
+    saw-finite = saw-level (remEuclidOne place) (in-unit place place-real (sub-fits binary32 (across (L2 v)) (remEuclidOne phase)))
 
-    shape-finite : (shape : MotionShape) → Opened (shapeAt shape (L2 v) taken (remEuclidOne phase))
-    shape-finite Ripple = opened (ripple-level (L2 v) taken (remEuclidOne phase))
-    shape-finite Harmonic = opened (harmonic-level (L2 v) taken (remEuclidOne phase))
-    shape-finite Drift = opened (drift-level (L2 v) taken (remEuclidOne phase))
-    shape-finite Scan = opened (window-level (L2 v) taken (remEuclidOne phase))
-    shape-finite Notch = opened (notch-level (L2 v) taken (remEuclidOne phase))
+    shape-finite : (shape : MotionShape) → Level (shapeAt shape (L2 v) taken (remEuclidOne phase))
+    shape-finite Ripple = ripple-level (L2 v) taken (remEuclidOne phase)
+    shape-finite Harmonic = harmonic-level (L2 v) taken (remEuclidOne phase)
+    shape-finite Drift = drift-level (L2 v) taken (remEuclidOne phase)
+    shape-finite Scan = window-level (L2 v) taken (remEuclidOne phase)
+    shape-finite Notch = notch-level (L2 v) taken (remEuclidOne phase)
     shape-finite Saw = saw-finite
-    shape-finite Sprinkle = rw one-is (opened one-level)
-    shape-finite Cloud = rw one-is (opened one-level)
+    shape-finite Sprinkle = rw one-is one-level
+    shape-finite Cloud = rw one-is one-level
 
-pub openness-finite : (frequency : Float) (config : MotionConfig) → T (real binary32 (config .phase)) → T (real binary32 (config .«size_octaves»)) → Between (neg two) one (openness frequency config)
+pub openness-in-unit : (frequency : Float) (config : MotionConfig) → T (real binary32 (config .phase)) → T (real binary32 (config .«size_octaves»)) → Level (openness frequency config)
 unfolding openness
-openness-finite frequency config q p = go (resting frequency config) (shape-finite (config .«size_octaves») p (config .phase) q _ (config .shape))
+openness-in-unit frequency config q p = go (resting frequency config) (shape-finite (config .«size_octaves») p (config .phase) q _ (config .shape))
   where
-    go : (b : Bool) {o : Float} → Opened o → Opened (cond b remainder.one o)
-    go true w = rw one-is (opened one-level)
+    go : (b : Bool) {o : Float} → Level o → Level (cond b remainder.one o)
+    go true w = rw one-is one-level
     go false w = w

@@ -1,5 +1,7 @@
--- What the field leaves of a frequency lies between 0 and 1, for every setting of a finite depth: the openness is at most 1, so the attenuation is not below 0 (or NaN, whose power is 0),
--- and 10 to a power that is not above 0 is at most 1. Where the field is wholly open the attenuation is 0. Assumes nothing.
+-- What the field leaves of a frequency lies between 0 and 1, for every setting of a finite depth:
+-- the openness is at most 1, so the attenuation is not below 0 (or NaN, whose power is 0), and 10
+-- to a power that is not above 0 is at most 1. Where the field is wholly open the attenuation is 0.
+-- Assumes nothing.
 use mathlib.Core.Path.{_≡_, refl, sym, ap, _∙_, subst}
 use mathlib.Core.Logic.{_⊎_, inl, inr}
 use mathlib.Core.Bool.{Bool, true, false, cond}
@@ -30,7 +32,6 @@ use Rattle.power.proofs.Ends.{E2-nan}
 use Rattle.power.proofs.Range.{E2-number, E2-nonneg}
 use Rattle.power.proofs.Bases.{pow10-at-most-one}
 use Rattle.scene.specs.declared.MotionConfig.{MotionConfig}
-use Rattle.float32.specs.Smoothstep.{two}
 use Rattle.decibels.specs.Gain.{gainOf}
 use Rattle.motion.specs.Field.{openness, attenuation, motionGain}
 use Rattle.motion.proofs.Between.{Between, between, between-sub, level}
@@ -54,7 +55,7 @@ module _ (depth : Float) (p : T (real binary32 depth)) where
 -- ---- the attenuation
 record ShutEnds : Type 0 where
   low : T (real binary32 (sub binary32 one one))
-  high : T (real binary32 (sub binary32 one (neg two)))
+  high : T (real binary32 (sub binary32 one plus-zero))
   from : T (le plus-zero (sub binary32 one one))
 
 shut-ends : ShutEnds

@@ -1,5 +1,8 @@
--- How open each shape is. Ripple, Harmonic, Drift, Scan and Notch lie between 0 and 1 whatever they are given, since sine and cosine lie in -1..1, a clamp ends in 0..1, and exp of what is not
--- above 0 is at most 1. Saw is at most 1 and at least -2 where its cycle has a place, and NaN where it has none. Sprinkle and Cloud are 1. Assumes nothing.
+-- How open each shape is. Every shape lies between 0 and 1: sine and cosine lie in -1..1, a clamp
+-- ends in 0..1, exp of what is not above 0 is at most 1, and smoothstep keeps 0..1, so that Saw's
+-- fall, 1 less smoothstep, lies there too. Ripple, Harmonic, Drift, Scan and Notch do so whatever
+-- they are given. Saw is NaN where its cycle has no place. Sprinkle and Cloud are 1. Assumes
+-- nothing.
 use mathlib.Core.Path.{_≡_, refl, sym, ap, _∙_, subst}
 use mathlib.Core.Logic.{_⊎_, inl, inr}
 use mathlib.Core.Bool.{Bool, true, false, not, cond}
@@ -24,6 +27,7 @@ use Rattle.float32.specs.Remainder.{half, remEuclidOne}
 use Rattle.float32.proofs.OrderAgrees.{clamp-agrees}
 use Rattle.float32.proofs.Limits.{within-low, within-high, within-number}
 use Rattle.float32.proofs.RemainderInUnit.{remainder-in-unit}
+use Rattle.float32.proofs.Smoothstep.{smoothstep-in-unit}
 use Rattle.power.specs.Power.{E2}
 use Rattle.power.specs.Decimal.{exp}
 use Rattle.power.proofs.Ends.{E2-nan}
@@ -34,7 +38,7 @@ use Rattle.sine.proofs.Range.{sin-within-one, cos-within-one}
 use Rattle.scene.specs.declared.MotionShape.{MotionShape}
 use Rattle.scene.specs.declared.MotionShape.the-variants.{Ripple, Harmonic, Drift, Scan, Notch, Saw, Sprinkle, Cloud}
 use Rattle.scene.specs.declared.MotionConfig.{MotionConfig}
-use Rattle.float32.specs.Smoothstep.{two, three, smoothstep}
+use Rattle.float32.specs.Smoothstep.{smoothstep}
 use Rattle.motion.specs.Shapes.{RESET-START, ripple, harmonic, broad, middle, detail, drift, window, sawAt, saw}
 use Rattle.motion.specs.Field.{shapeAt, resting, openness}
 use Rattle.motion.proofs.Between.{Between, between, wider, between-add, between-sub, between-mul, between-times, between-over}
@@ -250,11 +254,13 @@ pub window-level : (x size phase : Float) → Level (window x size phase)
 unfolding window
 window-level x size phase = bell-level _
 
+one-less-level : {x : Float} → Level x → Level (sub binary32 one x)
+one-less-level a =
+    wider plus-zero one zero-real (real-one binary32) (difference-ends .0) (difference-ends .1)
+    (between-sub one-between a (difference-real .0) (difference-real .1))
+
 pub notch-level : (x size phase : Float) → Level (sub binary32 remainder.one (window x size phase))
-notch-level x size phase =
-    rw one-is
-    (wider plus-zero one zero-real (real-one binary32) (difference-ends .0) (difference-ends .1)
-    (between-sub one-between (window-level x size phase) (difference-real .0) (difference-real .1)))
+notch-level x size phase = rw one-is (one-less-level (window-level x size phase))
 
 -- ---- Saw
 remainder-fits : (v : Float) → T (fits binary32 v) → T (fits binary32 (remEuclidOne v))
@@ -316,71 +322,14 @@ saw-ends =
       fall-to = tt;
     }
 
-record StepEnds : Type 0 where
-  two-above : T (positive two)
-  three-real : T (real binary32 three)
-  three-same : T (le three three)
-  twice-low : T (real binary32 (mul binary32 plus-zero two))
-  twice-high : T (real binary32 (mul binary32 one two))
-  slope-low : T (real binary32 (sub binary32 three (mul binary32 one two)))
-  slope-high : T (real binary32 (sub binary32 three (mul binary32 plus-zero two)))
-  slope-from : T (le plus-zero (sub binary32 three (mul binary32 one two)))
-  slope-to : T (le (sub binary32 three (mul binary32 plus-zero two)) three)
-  step-low : T (real binary32 (mul binary32 plus-zero plus-zero))
-  step-high : T (real binary32 (mul binary32 one three))
-  step-from : T (le plus-zero (mul binary32 plus-zero plus-zero))
-  step-to : T (le (mul binary32 one three) three)
-  left-low : T (real binary32 (sub binary32 one three))
-  left-high : T (real binary32 (sub binary32 one plus-zero))
-  left-from : T (le (neg two) (sub binary32 one three))
-  left-to : T (le (sub binary32 one plus-zero) one)
-  minus-two-real : T (real binary32 (neg two))
-  minus-two-low : T (le (neg two) plus-zero)
+smoothed : (p : Float) → Level p → Level (smoothstep p)
+smoothed p a =
+    let s = smoothstep-in-unit p (record { finite = a .is-real; low = a .low; high = a .high }) in
+    record { from = zero-real; to = real-one binary32; is-real = s .finite; low = s .low; high = s .high }
 
-step-ends : StepEnds
-unfolding ofBits ofFields odd trailingZeros fits neg add sub sum mul round size span climb units le
-step-ends =
-    record {
-      two-above = tt;
-      three-real = tt;
-      three-same = tt;
-      twice-low = tt;
-      twice-high = tt;
-      slope-low = tt;
-      slope-high = tt;
-      slope-from = tt;
-      slope-to = tt;
-      step-low = tt;
-      step-high = tt;
-      step-from = tt;
-      step-to = tt;
-      left-low = tt;
-      left-high = tt;
-      left-from = tt;
-      left-to = tt;
-      minus-two-real = tt;
-      minus-two-low = tt;
-    }
-
--- at most 3; that it is at most 1 is not needed here
-step-between : (p : Float) → Level p → Between plus-zero three (smoothstep p)
-unfolding smoothstep
-step-between p a =
-    let e = step-ends in
-    let t = between three three three (real-number binary32 three (e .three-real)) (e .three-real) (e .three-real) (e .three-same) (e .three-same) in
-    let slope = between-sub t (between-times two (e .two-above) a (e .twice-low) (e .twice-high)) (e .slope-low) (e .slope-high) in
-    wider plus-zero three zero-real (e .three-real) (e .step-from) (e .step-to)
-    (between-mul (product a a) (wider plus-zero three zero-real (e .three-real) (e .slope-from) (e .slope-to) slope) zero-nonneg zero-nonneg (e .step-low) (e .step-high))
-
-abbrev pub Opened : Float → Type 0
-Opened o = Between (neg two) one o
-
-pub opened : {o : Float} → Level o → Opened o
-opened a = let e = step-ends in wider (neg two) one (e .minus-two-real) (real-one binary32) (e .minus-two-low) one-same a
-
-pub saw-opened : (cycle : Float) → Level cycle → Opened (sawAt cycle)
+pub saw-level : (cycle : Float) → Level cycle → Level (sawAt cycle)
 unfolding sawAt
-saw-opened cycle a =
+saw-level cycle a =
     rw one-is
     (go (lt cycle RESET-START) (lt→le-f binary32 cycle RESET-START n r) (not-lt-f binary32 cycle RESET-START n r))
   where
@@ -390,25 +339,23 @@ saw-opened cycle a =
     r : T (number binary32 RESET-START)
     r = real-number binary32 RESET-START (saw-ends .reset-real)
 
-    rising : T (le cycle RESET-START) → Opened (div binary32 cycle RESET-START)
+    rising : T (le cycle RESET-START) → Level (div binary32 cycle RESET-START)
     rising h =
         let e = saw-ends in
-        opened
-        (wider plus-zero one zero-real (real-one binary32) (e .rise-from) (e .rise-to)
-        (between-over RESET-START (e .reset-above) (between plus-zero RESET-START cycle n zero-real (e .reset-real) (a .low) h) (e .rise-low) (e .rise-high)))
+        wider plus-zero one zero-real (real-one binary32) (e .rise-from) (e .rise-to)
+        (between-over RESET-START (e .reset-above) (between plus-zero RESET-START cycle n zero-real (e .reset-real) (a .low) h) (e .rise-low) (e .rise-high))
 
-    falling : T (le RESET-START cycle) → Opened (sub binary32 one (smoothstep (div binary32 (sub binary32 cycle RESET-START) fall)))
+    falling : T (le RESET-START cycle) → Level (sub binary32 one (smoothstep (div binary32 (sub binary32 cycle RESET-START) fall)))
     falling h =
         let e = saw-ends in
-        let d = step-ends in
         let from = between RESET-START one cycle n (e .reset-real) (real-one binary32) h (a .high) in
         let start = between RESET-START RESET-START RESET-START r (e .reset-real) (e .reset-real) (e .reset-same) (e .reset-same) in
         let p = between-over fall (e .fall-above) (between-sub from start (e .fall-zero) (e .fall-real)) (e .fall-low) (e .fall-high) in
-        wider (neg two) one (d .minus-two-real) (real-one binary32) (d .left-from) (d .left-to)
-        (between-sub one-between (step-between _ (wider plus-zero one zero-real (real-one binary32) (e .fall-from) (e .fall-to) p)) (d .left-low) (d .left-high))
+        let step = smoothed _ (wider plus-zero one zero-real (real-one binary32) (e .fall-from) (e .fall-to) p) in
+        one-less-level step
 
     go : (b : Bool) → (T b → T (le cycle RESET-START)) → (T (not b) → T (le RESET-START cycle))
-        → Opened (cond b (div binary32 cycle RESET-START) (sub binary32 one (smoothstep (div binary32 (sub binary32 cycle RESET-START) fall))))
+        → Level (cond b (div binary32 cycle RESET-START) (sub binary32 one (smoothstep (div binary32 (sub binary32 cycle RESET-START) fall))))
     go true h k = rising (h tt)
     go false h k = falling (k tt)
 
@@ -418,7 +365,7 @@ saw-of-nan = refl
 
 -- ---- every shape, and the resting states
 abbrev pub Opening : Float → Type 0
-Opening o = (o ≡ nan) ⊎ Between (neg two) one o
+Opening o = (o ≡ nan) ⊎ Level o
 
 saw-open : (x size phase : Float) → Opening (saw x size phase)
 unfolding saw
@@ -426,17 +373,17 @@ saw-open x size phase = let v = sub binary32 (div binary32 x size) phase in go (
   where
     go : (cycle : Float) → (cycle ≡ nan) ⊎ Level cycle → Opening (sawAt cycle)
     go cycle (inl e) = inl (ap sawAt e ∙ saw-of-nan)
-    go cycle (inr a) = inr (saw-opened cycle a)
+    go cycle (inr a) = inr (saw-level cycle a)
 
 rests-open : Opening remainder.one
-rests-open = inr (rw one-is (opened one-level))
+rests-open = inr (rw one-is one-level)
 
 pub shape-open : (shape : MotionShape) (x size phase : Float) → Opening (shapeAt shape x size phase)
-shape-open Ripple x size phase = inr (opened (ripple-level x size phase))
-shape-open Harmonic x size phase = inr (opened (harmonic-level x size phase))
-shape-open Drift x size phase = inr (opened (drift-level x size phase))
-shape-open Scan x size phase = inr (opened (window-level x size phase))
-shape-open Notch x size phase = inr (opened (notch-level x size phase))
+shape-open Ripple x size phase = inr (ripple-level x size phase)
+shape-open Harmonic x size phase = inr (harmonic-level x size phase)
+shape-open Drift x size phase = inr (drift-level x size phase)
+shape-open Scan x size phase = inr (window-level x size phase)
+shape-open Notch x size phase = inr (notch-level x size phase)
 shape-open Saw x size phase = saw-open x size phase
 shape-open Sprinkle x size phase = rests-open
 shape-open Cloud x size phase = rests-open

@@ -13,7 +13,7 @@ use Rattle.lists.specs.Folds.{fold}
 use Rattle.float_laws.specs.Units.{real}
 use Rattle.float_laws.specs.Round.{plus-zero}
 use Rattle.scene.specs.declared.MaskVoice.{MaskVoice}
-use Rattle.scene.proofs.Voices.{RealVoice}
+use Rattle.scene.specs.Voices.{RealVoice}
 use Rattle.lobes.specs.declared.Grid.{Grid}
 use Rattle.lobes.specs.declared.Tone.{Tone}
 use Rattle.lobes.specs.declared.Lobe.{Lobe}

@@ -13,7 +13,7 @@ use Rattle.sine.specs.Table.{sineTable}
 use Rattle.gaussian.specs.Table.{gaussianTable}
 use Rattle.limits.specs.Lengths.{MOST-VOICES, MAX-PARTIALS, MOST-BIN}
 use Rattle.scene.specs.declared.MaskVoice.{MaskVoice}
-use Rattle.scene.proofs.Voices.{RealVoice}
+use Rattle.scene.specs.Voices.{RealVoice}
 use Rattle.lobes.specs.declared.Grid.{Grid}
 use Rattle.lobes.specs.declared.Tone.{Tone}
 use Rattle.lobes.specs.declared.Lobe.{Lobe}

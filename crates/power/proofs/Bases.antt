@@ -1,5 +1,6 @@
--- pow10 and exp never fall and have E2's range, and log10 never falls: each is E2 or L2 with a product by a positive constant before or after it, which keeps the order
--- and leaves 0 as it is. Assumes nothing.
+-- pow10 and exp never fall and have E2's range, and log10 never falls: each is E2 or L2 with a
+-- product by a positive constant before or after it, which keeps the order and leaves 0 as it is.
+-- Assumes nothing.
 use mathlib.Core.Path.{_≡_, refl}
 use lib.Dec.{T}
 use lib.Count.{trailingZeros}
@@ -67,9 +68,6 @@ exp-mono = power-mono factor-e
 
 pub exp-at-most-one : (y : Float) → T (le y positiveZero) → T (le (exp y) one)
 exp-at-most-one = at-most-one factor-e
-
-pub exp-at-least-one : (y : Float) → T (le positiveZero y) → T (le one (exp y))
-exp-at-least-one = at-least-one factor-e
 
 pub exp-real : (y : Float) → T (real binary32 (exp y))
 exp-real y = E2-real _

@@ -1,9 +1,10 @@
--- Where log2's search begins: for the ten leading digits m of t's fraction a polynomial in whole numbers gives the step that t lies in, or the one before. It never falls, by a
--- test at every m, so that a test at each entry of the table, where t passes from one step to the next, settles the rest. Assumes nothing.
+-- Where log2's search begins: for the ten leading digits m of t's fraction `guessed` gives the step
+-- that t lies in, or the one before. It never falls, by a test at every m, so that a test at each
+-- entry of the table, where t passes from one step to the next, settles the rest. Assumes nothing.
 use mathlib.Core.Path.{_≡_, subst}
 use mathlib.Core.Logic.{inl, inr}
 use mathlib.Core.Bool.{Bool, true, false, not, _&&_}
-use Prim.Native.Nat.{ℕ, zero, suc, _+_, _-_, _*_, _/_, _^_, _≤_, _<_, min}
+use Prim.Native.Nat.{ℕ, zero, suc, _+_, _-_, _/_, _^_, _≤_, _<_, min}
 use native.Mathlib.Nat.{add-zero, le-refl, le-trans, le-of-eq, le-of-lt, le-of-suc-le-suc, eq-or-lt-of-le, lt-of-le-of-lt}
 use native.Mathlib.Omega.{arith}
 use mir.Val.{boolByte}
@@ -14,11 +15,9 @@ use Rattle.lists.specs.Interpolation.{here-or-on}
 use Rattle.power.specs.Table.{highBits, powerTable, P}
 use Rattle.power.specs.Rules.{P-rule}
 use Rattle.power.specs.Log.{greatest}
+use Rattle.power.specs.Stages.{guessed}
 use Rattle.power.proofs.Interpolated.{p-mono}
 use Rattle.power.proofs.Search.{P-last, not-first, not-last, step-greatest}
-
-abbrev pub guessed : ℕ → ℕ
-guessed m = m * (1506459779 - m * (555745 - m * 128)) / 2 ^ 32
 
 -- ---- it never falls
 steps-up : T (allBelow 1023 (λ m. leb (guessed m) (guessed (suc m))))
@@ -37,7 +36,8 @@ up-to m (suc n) h l =
           (leb→le (guessed n) (guessed (suc n)) (below-at 1023 (λ k. leb (guessed k) (guessed (suc k))) steps-up n (omega arith)))
     ]
 
--- ---- at the entry x of the place h: what lies below it has a guess of h - 1 at the most, and what begins with it one of h - 1 at the least
+-- ---- at the entry x of the place h: what lies below it has a guess of h - 1 at the most, and what
+-- begins with it one of h - 1 at the least
 abbrev digits : ℕ → ℕ
 digits t = (t - 2 ^ 30) / 2 ^ 20
 

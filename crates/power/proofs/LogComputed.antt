@@ -1,4 +1,5 @@
--- L2 of a positive normal number in a form that a test can compute: F by the guess and the test that `log2` has and one division, where the definition tries every F. Assumes nothing.
+-- L2 of a positive normal number in a form that a test can compute: F by the guess and the test
+-- that `log2` has and one division, where the definition tries every F. Assumes nothing.
 use mathlib.Core.Path.{_≡_, sym, ap, _∙_}
 use Prim.Native.Nat.{ℕ, _+_, _-_, _*_, _/_, _^_, _≤_, _<_}
 use native.Mathlib.Nat.{div-lt-iff-lt-mul, lt-of-lt-of-le, le-of-eq}
@@ -12,9 +13,10 @@ use lib.Ieee.Digits.{size-lt}
 use Rattle.power.specs.Table.{lowBits, P, I}
 use Rattle.power.specs.Rules.{P-rule}
 use Rattle.power.specs.Log.{greatest, positiveNormal, unitsOf, rounded, logAt, logOf, L2}
+use Rattle.power.specs.Stages.{guessed}
 use Rattle.power.proofs.Division.{found-by-division}
 use Rattle.power.proofs.Search.{step-is}
-use Rattle.power.proofs.Guess.{guessed, guess-within, guess-from, guess-to, step-from}
+use Rattle.power.proofs.Guess.{guess-within, guess-from, guess-to, step-from}
 use Rattle.power.proofs.Normal.{units-low}
 use Rattle.power.proofs.LogRising.{size-high, M-low}
 

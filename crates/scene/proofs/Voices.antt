@@ -1,7 +1,7 @@
--- What is known of an accepted voice: each number within its limits, and so a finite f32. Assumes nothing.
+-- The numbers of an accepted voice are real (`RealVoice`): each is within its limits, and so a
+-- finite f32. Assumes nothing.
 use mathlib.Core.Bool.{Bool, _&&_}
-use Prim.Native.Nat.{_≤_}
-use lib.Dec.{T, leb→le}
+use lib.Dec.{T}
 use lib.Count.{trailingZeros}
 use lib.Ieee.{Float, binary32, fits, odd, ofBits, ofFields}
 use lib.Ieee.Fits.{and-l, and-r}
@@ -12,18 +12,7 @@ use Rattle.float32.proofs.Limits.{within-low, within-high, within-real, finite-
 use Rattle.limits.specs.Limits.{LEAST-LEVEL, MOST-LEVEL, LEAST-TUNING, MOST-TUNING, note, tuning, level}
 use Rattle.scene.specs.declared.MaskVoice.{MaskVoice}
 use Rattle.scene.specs.Accepted.{voiceAccepted}
-
--- a voice's numbers, as the laws above this crate take them
-pub record RealVoice (voice : MaskVoice) : Type 0 where
-  pub note-low : voice .note ≤ 127
-  pub level-unit : Upto binary32 0 (voice .level)
-  pub tuning-real : T (real binary32 (voice .«tuning_semitones»))
-  pub tuning-within : T (tuning (voice .«tuning_semitones»))
-  pub pressure-real : T (real binary32 (voice .pressure))
-  pub timbre-real : T (real binary32 (voice .timbre))
-  pub volume-real : T (real binary32 (voice .«volume_gain»))
-  pub expression-real : T (real binary32 (voice .«expression_gain»))
-  pub pan-real : T (real binary32 (voice .pan))
+use Rattle.scene.specs.Voices.{RealVoice}
 
 ends : T (real binary32 LEAST-LEVEL) × T (real binary32 MOST-LEVEL) × T (real binary32 LEAST-TUNING) × T (real binary32 MOST-TUNING)
 unfolding ofBits ofFields odd trailingZeros fits
@@ -66,10 +55,8 @@ module _ (voice : MaskVoice) (t : T (voiceAccepted voice)) where
   accepted-real l tu p ti v e pa =
       let within-tuning = and-r (note (voice .note)) (tuning (voice .«tuning_semitones»)) pitch in
       record {
-        note-low = leb→le (voice .note) 127 (and-l (note (voice .note)) (tuning (voice .«tuning_semitones»)) pitch);
         level-unit = unit (voice .level) l (and-l (level (voice .level)) rest sound);
         tuning-real = within-real LEAST-TUNING MOST-TUNING (voice .«tuning_semitones») within-tuning binary32 tu (ends .2) (ends .3);
-        tuning-within = within-tuning;
         pressure-real = finite-real binary32 (voice .pressure) p (and-l (finite (voice .pressure)) (finite (voice .timbre)) (and-l touch gains four));
         timbre-real = finite-real binary32 (voice .timbre) ti (and-r (finite (voice .pressure)) (finite (voice .timbre)) (and-l touch gains four));
         volume-real = finite-real binary32 (voice .«volume_gain») v (and-l (finite (voice .«volume_gain»)) (finite (voice .«expression_gain»)) (and-r touch gains four));

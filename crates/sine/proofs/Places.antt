@@ -1,4 +1,6 @@
--- The place of an angle in its turn: floor(u * 2 ^ 24) mod 2 ^ 24 is what is left of the steps with whole turns added, since whole turns do not count; and from 2 ^ 23 turns on it is 0. Assumes nothing.
+-- The place of an angle in its turn: floor(u * 2 ^ 24) mod 2 ^ 24 is what is left of the steps with
+-- whole turns added, since whole turns do not count; and from 2 ^ 23 turns on it is 0. Assumes
+-- nothing.
 use mathlib.Core.Path.{_≡_, refl, sym, ap, _∙_}
 use mathlib.Core.Bool.{Bool, true, false, not}
 use Prim.Native.Nat.{ℕ, _+_, _-_, _*_, _%_, _^_, _≤_, _<_}
@@ -12,7 +14,7 @@ use lib.Bits.{bitAnd, and-mask}
 use lib.Ieee.{Float, nan, inf, fin, binary32, up, down, le, neg, fits}
 use lib.Ieee.Fits.{and-i, down-pos}
 use lib.Ieee.Scale.{overflow}
-use Rattle.float_laws.specs.Units.{mag, number, keyed, mag-exact, key→le}
+use Rattle.float_laws.specs.Units.{mag, keyed, mag-exact, key→le}
 use Rattle.float_laws.specs.Round.{held-real}
 use Rattle.float_laws.specs.Signs.{sub-mul}
 use Rattle.float_laws.specs.Exact.{held-multiple}

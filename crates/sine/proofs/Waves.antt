@@ -1,4 +1,5 @@
--- The wave at a place of the turn, as the code makes it, and its value: floor(v / 64) / 2 ^ 24, exactly, since that is a whole number up to 2 ^ 24 over 2 ^ 24. Assumes nothing.
+-- The wave at a place of the turn, as the code makes it, and its value: floor(v / 64) / 2 ^ 24,
+-- exactly, since that is a whole number up to 2 ^ 24 over 2 ^ 24. Assumes nothing.
 use mathlib.Core.Path.{_≡_, refl, sym, ap, _∙_, subst}
 use mathlib.Core.Logic.{inl, inr}
 use mathlib.Core.Bool.{Bool, true, false, cond, _&&_}
@@ -8,11 +9,10 @@ use native.Mathlib.Omega.{arith}
 use lib.Dec.{leb, ltb, eqb, lit<, lit≤}
 use lib.Bits.{bitAnd, and-mask}
 use lib.Pow.{pow-pos, shl-lt}
-use lib.Ieee.{Float, binary32, round, neg}
+use lib.Ieee.{Float, binary32, round}
 use lib.Ieee.Exact.{HasValue, round-exact}
-use borrow.Author.Tests.{lt-leb, le-leb, eq-eqb, ne-eqb, lt-ltb}
+use borrow.Author.Tests.{lt-leb, eq-eqb, ne-eqb}
 use Rattle.lists.specs.Interpolation.{interp, interp-is, part-le, between, here-or-on}
-use Rattle.float_laws.specs.Signs.{neg-round}
 use Rattle.sine.specs.Table.{sineTable, R}
 use Rattle.sine.specs.Sine.{q, p, v, turned, wave}
 use Rattle.sine.proofs.Entries.{R-rises}
@@ -73,9 +73,6 @@ module _ (U w : ℕ) (e : w ≡ v U / 64) where
       never : (b : Bool) → (b && false) ≡ false
       never true = refl
       never false = refl
-
-  pub wave-down : 2 ≤ q U → (w ≡ 0 → ⊥) → neg (round binary32 false w 16777216) ≡ wave U
-  wave-down h z = neg-round binary32 w 16777216 ∙ sym (wave-is ∙ rw (le-leb 2 (q U) h, lt-ltb 0 w (omega arith)))
 
 -- ---- its value
 exact : (n : ℕ) (s : Bool) → n ≤ 16777216 → HasValue (round binary32 s n 16777216) s n 16777216

@@ -1,11 +1,9 @@
--- `differs` has seen no other number: each entry below k is the number, as floats compare. Assumes nothing.
+-- `differs` has seen no other number: each entry below k is the number, as floats compare. Assumes
+-- nothing.
 use mathlib.Core.Path.{_≡_}
 use mathlib.Core.Bool.{false}
-use Prim.Native.Nat.{ℕ, _-_, _≤_, _<_}
+use Prim.Native.Nat.{_-_, _≤_}
 use native.Mathlib.Omega.{arith}
-use lib.Dec.{T}
-use lib.ListN.{getD}
-use lib.Ieee.{nan, eq}
 use borrow.Author.Needs.{needs}
 use Rattle.decibels.proofs.Level.{AllEqual, equal-more}
 use Rattle.decibels.proofs.rows.differs.Statement.{statement}

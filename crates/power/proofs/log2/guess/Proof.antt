@@ -1,8 +1,10 @@
--- `guess` meets its contract: nothing wraps, m being below 2 ^ 10, and proofs/Guess.antt says the rest. Assumes nothing.
+-- `guess` meets its contract: nothing wraps, m being below 2 ^ 10, and proofs/Guess.antt says the
+-- rest. Assumes nothing.
 use borrow.Author.Needs.{needs}
 use native.Mathlib.Omega.{arith}
 use native.Mathlib.Nat.{mul-le-mul}
 use Prim.Native.Nat.{ℕ, _<_, _≤_, _-_, _*_, _/_, _^_}
+use Rattle.power.specs.Stages.{SLOPE}
 use Rattle.power.proofs.Guess.{guess-within, guess-from, guess-to}
 use Rattle.power.proofs.log2.guess.Statement.{statement}
 use Rattle.power.proofs.log2.guess.Tie as tie
@@ -10,8 +12,8 @@ use Rattle.power.proofs.log2.guess.Tie as tie
 bend : (m : ℕ) → m < 1024 → m * (555745 - m * 128) ≤ 1024 * 555745
 bend m h = mul-le-mul {n₁ = m} {m₁ = 555745 - m * 128} {n₂ = 1024} {m₂ = 555745} (omega arith) (omega arith)
 
-whole : (m : ℕ) → m < 1024 → m * (1506459779 - m * (555745 - m * 128)) ≤ 1024 * 1506459779
-whole m h = mul-le-mul {n₁ = m} {m₁ = 1506459779 - m * (555745 - m * 128)} {n₂ = 1024} {m₂ = 1506459779} (omega arith) (omega arith)
+whole : (m : ℕ) → m < 1024 → m * (SLOPE - m * (555745 - m * 128)) ≤ 1024 * SLOPE
+whole m h = mul-le-mul {n₁ = m} {m₁ = SLOPE - m * (555745 - m * 128)} {n₂ = 1024} {m₂ = SLOPE} (omega arith) (omega arith)
 
 abbrev m-of : tie.Start → ℕ
 m-of c = (c .args .t - 2 ^ 30) / 2 ^ 20

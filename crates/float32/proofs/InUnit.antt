@@ -1,8 +1,10 @@
--- The f32 values in 0..1: 0 and 1 are two, a clamp to 0..1 gives one, and so does 1 less one. Assumes nothing.
+-- The f32 values in 0..1: 0 and 1 are two, a clamp to 0..1 gives one, and so does 1 less one. The
+-- test of the limits 0..1 passes them. Assumes nothing.
 use mathlib.Core.Path.{_≡_, refl}
 use lib.Dec.{T}
 use lib.Count.{trailingZeros}
 use lib.Ieee.{Float, binary32, le, ofBits, fits, sub, neg, add, sum, round, size, span, climb, units, odd}
+use lib.Ieee.Fits.{and-i}
 use Rattle.float_laws.specs.Units.{number, real}
 use Rattle.float_laws.specs.Order as order
 use Rattle.float_laws.specs.Order.{le-refl-f}
@@ -10,9 +12,9 @@ use Rattle.float_laws.specs.Round.{plus-zero}
 use Rattle.float_laws.specs.Mono.{sub-mono, sub-number}
 use Rattle.float_laws.specs.Bounds as bounds
 use Rattle.float_laws.specs.Bounds.{real-one, real-between, sub-nonneg}
-use Rattle.float32.specs.Order.{clamp}
+use Rattle.float32.specs.Order.{clamp, within}
 use Rattle.float32.specs.Remainder.{zero, one}
 use Rattle.float32.proofs.OrderAgrees.{clamp-agrees}
 
 pub record InUnit (p : Float) : Type 0 where
   pub finite : T (real binary32 p)
@@ -31,6 +33,10 @@ zero-in-unit = record { finite = tt; low = tt; high = tt }
 pub one-in-unit : InUnit bounds.one
 unfolding fits le
 one-in-unit = record { finite = tt; low = tt; high = tt }
+
+pub unit-within : (x : Float) → InUnit x → T (within zero one x)
+unfolding ofBits within
+unit-within x u = and-i (le zero x) (le x one) (u .low) (u .high)
 
 -- ---- a clamp
 pub zero-is : zero ≡ plus-zero

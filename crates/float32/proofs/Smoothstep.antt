@@ -1,5 +1,7 @@
--- Smoothstep, p * p * (3 - 2 * p) rounded at each operation, stays in 0..1 for p in 0..1. Up to 3/4 it is below 1 by monotone rounding, in three stretches. From 3/4 up 3 - 2 * p
--- is exact and p * p is off by at most one part in 2 ^ 24; the exact product is at most 1, so what is rounded last is at most 1 + 2 ^ -24, and that rounds to 1. Assumes nothing.
+-- Smoothstep, p * p * (3 - 2 * p) rounded at each operation, stays in 0..1 for p in 0..1. Up to 3/4
+-- it is below 1 by monotone rounding, in three stretches. From 3/4 up 3 - 2 * p is exact and p * p
+-- is off by at most one part in 2 ^ 24; the exact product is at most 1, so what is rounded last is
+-- at most 1 + 2 ^ -24, and that rounds to 1. Assumes nothing.
 use mathlib.Core.Path.{_≡_, refl, sym, ap, _∙_, subst}
 use mathlib.Core.Logic.{inl, inr}
 use mathlib.Core.Bool.{false}
@@ -18,9 +20,9 @@ use Rattle.float_laws.specs.Ops.{mul-comm-f}
 use Rattle.float_laws.specs.Mono.{rndU, sub-mono, sub-number, mul-mono, mul-number, mul-nonneg, size-nonneg, sizes}
 use Rattle.float_laws.specs.Bounds.{one, real-one, mag-one, real-between, mul-real}
 use Rattle.float_laws.specs.Exact.{mul-two, sub-near}
 use Rattle.float32.specs.Smoothstep.{two, three, smoothstep}
-use Rattle.masks.proofs.InUnit.{InUnit, in-unit, zero-in-unit, one-in-unit}
-use Rattle.masks.proofs.LastStretch.{last-stretch}
+use Rattle.float32.proofs.InUnit.{InUnit, in-unit, zero-in-unit, one-in-unit}
+use Rattle.float32.proofs.LastStretch.{last-stretch}
 
 two-real : T (real binary32 two)
 unfolding ofBits fits

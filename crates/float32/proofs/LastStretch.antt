@@ -1,5 +1,7 @@
--- p * p * t, rounded twice, is at most 1 where p is from 1/2 to 1 and t is 3 - 2 * p exactly: p * p is off by at most one part in 2 ^ 24, and the exact product is at most 1, so what is
--- rounded last is at most 1 + 2 ^ -24. Where that rounds to 1, so does the product. For any format; `Smoothstep` has it for f32. Assumes nothing.
+-- p * p * t, rounded twice, is at most 1 where p is from 1/2 to 1 and t is 3 - 2 * p exactly: p * p
+-- is off by at most one part in 2 ^ 24, and the exact product is at most 1, so what is rounded last
+-- is at most 1 + 2 ^ -24. Where that rounds to 1, so does the product. For any format; `Smoothstep`
+-- has it for f32. Assumes nothing.
 use mathlib.Core.Path.{_≡_, sym, ap, subst}
 use Prim.Native.Nat.{ℕ, _+_, _-_, _*_, _^_, _≤_, _<_}
 use native.Mathlib.Nat.{mul-add, add-mul, mul-comm, mul-assoc, mul-left-comm, mul-right-comm, mul-le-mul, mul-le-mul-left, mul-le-mul-right, le-of-mul-le-mul-right, le-trans, le-of-eq}
