@@ -2,16 +2,17 @@
  * Dovetable: the mask builder of a spectral note gate. Link libspectral_dsp_c.a, which needs
  * nothing but the C library; x86-64, C11 or C++.
  *
- * An open call answers 0 where it is done, else the number of a refusal (DovetableRefusal). Its
- * tests run in the order of the numbers, and of several bad entries the lowest is named. Where it
- * is done it writes what was asked for and leaves *place alone; where it is refused it writes
- * *place and nothing else: an index where the refusal has one, else 0. NaN is outside every limit,
- * and the ends of a limit are inside.
+ * An open call returns 0 when it is done, else the number of a refusal (DovetableRefusal). When
+ * done it writes its results and leaves *place alone; when refused it writes *place and nothing
+ * else: an index where the refusal has one, else 0. The comment of a call lists its tests under the
+ * number of the refusal that a failed test gives. They run in the order of the numbers, and of
+ * several bad entries the lowest is named. NaN is outside every limit; the ends of a limit are
+ * inside.
  *
- * A slice crosses as a pointer and the number of its entries, which must be there. A null pointer
- * with 0 entries is an empty slice. What a call writes may overlap nothing else that it is lent.
- * Pointers to a single value or place are never null. No call allocates or keeps a pointer, and
- * calls on different memory may run at the same time.
+ * A slice is passed as a pointer and the number of its entries, all of which must exist. A null
+ * pointer with 0 entries is an empty slice. Memory that a call writes must not overlap anything
+ * else passed to it. Pointers to a single value or place must not be null. No call allocates or
+ * keeps a pointer, and calls on different memory may run at the same time.
  */
 #ifndef DOVETABLE_H
 #define DOVETABLE_H
@@ -51,7 +52,7 @@ enum {
     DOVETABLE_MOST_VOICES = 128
 };
 
-/* The moving field's shapes. A number that is none of them is refusal 2. */
+/* The moving field's shapes. Any other number is refusal 2. */
 enum DovetableShape {
     DOVETABLE_RIPPLE = 0,
     DOVETABLE_HARMONIC = 1,
@@ -63,92 +64,93 @@ enum DovetableShape {
     DOVETABLE_CLOUD = 7
 };
 
-/* A note that is held, with its expression. The last five are any finite numbers. */
+/* A held note with its expression. The last five take any finite number. */
 struct DovetableVoice {
     uint8_t note;           /* 0..127 */
-    float level;            /* 0..1, of the note's envelope: at 0 the note does nothing */
-    float tuning_semitones; /* -48..48, above the equal-tempered pitch of the note */
-    float pressure;         /* used as 0..1 */
-    float timbre;           /* used as 0..1: at 0.5 the settings' rolloff, below darker, above brighter */
-    float volume_gain;      /* the base strength, velocity included */
-    float expression_gain;  /* of what the note opens, apart from the background */
-    float pan;              /* used as -1, left, to 1, right; a mono mask does not use it */
+    float level;            /* 0..1, note envelope level; 0 contributes nothing */
+    float tuning_semitones; /* -48..48, offset from the equal-tempered pitch of the note */
+    float pressure;         /* clamped to 0..1 */
+    float timbre;           /* clamped to 0..1; 0.5 keeps the rolloff, lower values darken the
+                             * partials, higher values brighten them */
+    float volume_gain;      /* base strength, including velocity */
+    float expression_gain;  /* linear gain of the note-opened component, not of the background */
+    float pan;              /* clamped: -1 left through 0 center to +1 right; ignored in mono */
 };
 
-/* A mask's settings. All are tested, also those that a call will not use. */
+/* A mask's settings. All are tested, including those that a call does not use. */
 struct DovetableSettings {
     float sample_rate;   /* 8,000..192,000 Hz */
     size_t fft_size;     /* a power of two in 64..16,384 */
-    float note_depth_db; /* 0..144: how far the spectrum is lowered away from held notes */
+    float note_depth_db; /* 0..144: attenuation away from held notes */
     bool note_layer_enabled;
     float width_cents;                    /* 1..1,200 */
     size_t partials;                      /* 1..24 */
     float harmonic_rolloff_db_per_octave; /* 0..48 */
     uint32_t motion_shape;                /* a DovetableShape */
-    float motion_depth_db;                /* 0..96: how far the field attenuates where it is shut */
-    float motion_phase;                   /* any finite: where the field stands in its cycle of length 1 */
+    float motion_depth_db;                /* 0..96: attenuation where the field is closed */
+    float motion_phase;                   /* any finite: position in a cycle of length 1 */
     float motion_size_octaves;            /* 0..100 */
 };
 
-/* ---- Single numbers: where one of these is done it writes its value. ---- */
+/* ---- Single numbers: when done, each writes its value. ---- */
 
-/* The gain of a number of decibels. Refused: 2, db in -700..700. */
+/* Amplitude decibels to a linear gain. Tests: 2, db in -700..700. */
 uint32_t dovetable_db_to_gain(float db, float *gain, size_t *place);
 
-/* The frequency of a note. Refused: 2, note at most 127. */
+/* The frequency of a MIDI note, at A4 = 440 Hz. Tests: 2, note at most 127. */
 uint32_t dovetable_note_frequency(uint8_t note, float *hertz, size_t *place);
 
-/* The same, so many semitones above. Refused: 2, note at most 127, tuning in -48..48. */
+/* The same with an offset in semitones. Tests: 2, note at most 127, tuning in -48..48. */
 uint32_t dovetable_note_frequency_with_tuning(uint8_t note, float tuning_semitones, float *hertz,
                                               size_t *place);
 
-/* The lift of a fully open note centre. Refused: 2, width in 1..1,200. */
+/* The gain of a fully open note centre. Tests: 2, width in 1..1,200. */
 uint32_t dovetable_note_emphasis_gain(float width_cents, float *gain, size_t *place);
 
-/* The note layer's gain at an openness. Refused: 2, depth in 0..144, width in 1..1,200, openness
+/* The note layer's gain at an openness. Tests: 2, depth in 0..144, width in 1..1,200, openness
  * finite. */
 uint32_t dovetable_note_gate_gain(float note_depth_db, float width_cents, float openness,
                                   float *gain, size_t *place);
 
-/* The drawn curve's gain at a bin. Refused: 1, size; 2, bin at most 8,192; 4, the curve has 8,193
+/* The drawn curve's gain at a bin. Tests: 1, size; 2, bin at most 8,192; 4, a curve of 8,193
  * points. */
 uint32_t dovetable_manual_gain_at_bin(const float *mask_db, size_t points, size_t bin,
                                       size_t fft_size, float *gain, size_t *place);
 
-/* The moving field's openness at a frequency, 0..1. Refused: 2, the shape, frequency in 0..192,000,
+/* The moving field's openness at a frequency, 0..1. Tests: 2, the shape, frequency in 0..192,000,
  * depth in 0..96, phase finite, size in 0..100. */
 uint32_t dovetable_motion_openness(float frequency, uint32_t shape, float depth_db, float phase,
                                    float size_octaves, float *openness, size_t *place);
 
-/* The moving field's attenuation at a frequency. Refused: as dovetable_motion_openness. */
+/* The moving field's attenuation at a frequency. Tests: as dovetable_motion_openness. */
 uint32_t dovetable_motion_attenuation_db(float frequency, uint32_t shape, float depth_db,
                                          float phase, float size_octaves, float *attenuation_db,
                                          size_t *place);
 
-/* The gain that makes up for what the moving field takes away. Refused: 2, the shape, depth, phase,
+/* The gain that compensates for the moving field's attenuation. Tests: 2, the shape, depth, phase,
  * size. */
 uint32_t dovetable_motion_compensation_gain(uint32_t shape, float depth_db, float phase,
                                             float size_octaves, float *gain, size_t *place);
 
 /* ---- Envelopes and the frequency table ---- */
 
-/* Moves 128 note levels on by one frame. Held notes are 16 bytes, note 0 the top bit of byte 0.
- * Refused: 2, elapsed in 0..10, fade in 0..60,000; 4, 128 levels and 16 bytes; 7, a level not in
- * 0..1. Done: levels. */
+/* Advances 128 note envelopes by one frame. Held notes are 16 bytes, note 0 the top bit of byte 0.
+ * Tests: 2, elapsed in 0..10, fade in 0..60,000; 4, 128 levels and 16 bytes; 7, levels in 0..1.
+ * Writes: levels. */
 uint32_t dovetable_advance_note_envelopes(float *levels, size_t notes, const uint8_t *held,
                                           size_t bytes, float elapsed_seconds, float fade_ms,
                                           size_t *place);
 
-/* Fills a frequency table: the logarithm to base 2 of each bin's frequency, 0 at bin 0. Refused: 1,
- * size, rate; 4, the table has size/2 + 1 entries. Done: table. */
+/* Fills a frequency table: the logarithm to base 2 of each bin's frequency, 0 at bin 0. Tests: 1,
+ * size, rate; 4, a table of size/2 + 1 entries. Writes: table. */
 uint32_t dovetable_prepare(float *table, size_t entries, float sample_rate, size_t fft_size,
                            size_t *place);
 
 /* ---- Masks: a gain for each of size/2 + 1 bins ----
  *
- * Refused, over what the call has: 1, size, rate; 2, every other setting; 3, at most 128 voices; 4,
- * the masks and the table have size/2 + 1 entries, the curve 8,193 and the levels 128; 5, a voice;
- * 6, a table entry; 7, a level not in 0..1. Done: every entry of each mask.
+ * Tests, of what the call is given: 1, size, rate; 2, every other setting; 3, at most 128 voices;
+ * 4, masks and table of size/2 + 1 entries, curve of 8,193, levels of 128; 5, the voices; 6, the
+ * table's entries; 7, levels in 0..1. Writes: every entry of each mask.
  */
 
 /* From 128 note levels, of default voices. */
@@ -162,7 +164,7 @@ uint32_t dovetable_build_mask_with_voices(float *output, size_t output_bins,
                                           const struct DovetableVoice *voices, size_t count,
                                           struct DovetableSettings settings, size_t *place);
 
-/* From voices, by a frequency table. */
+/* From voices, with a frequency table. */
 uint32_t dovetable_build_mask_with_voices_precomputed(
     float *output, size_t output_bins, const float *manual_mask_db, size_t points,
     const struct DovetableVoice *voices, size_t count, struct DovetableSettings settings,
@@ -174,9 +176,9 @@ uint32_t dovetable_build_stereo_masks_with_voices_precomputed(
     size_t points, const struct DovetableVoice *voices, size_t count,
     struct DovetableSettings settings, const float *table, size_t entries, size_t *place);
 
-/* The same by the table in the block of dovetable_prepared_spectrum_new, after its four windows.
- * Refused: 4 also where the block has not 4*size + size/2 + 1 entries. An entry's place is counted
- * from the table's start. */
+/* The same with the table in the block of dovetable_prepared_spectrum_new, after its four windows.
+ * Tests: also 4, a block of 4*size + size/2 + 1 entries. An entry's place is counted from the
+ * table's start. */
 uint32_t dovetable_build_stereo_masks_with_prepared_spectrum(
     float *left, size_t left_bins, float *right, size_t right_bins, const float *manual_mask_db,
     size_t points, const struct DovetableVoice *voices, size_t count,
@@ -184,35 +186,35 @@ uint32_t dovetable_build_stereo_masks_with_prepared_spectrum(
 
 /* ---- Windows and gain lists ---- */
 
-/* The dual of an analysis window. Refused: 4, lengths in 1..16,384 and equal; 7, a value of analysis
- * not in -16..16; 8, overlap in 1..16, dividing the length. Done: synthesis. */
+/* The dual of an analysis window. Tests: 4, lengths in 1..16,384 and equal; 7, values of analysis
+ * in -16..16; 8, overlap in 1..16, dividing the length. Writes: synthesis. */
 uint32_t dovetable_build_dual_synthesis_window(const float *analysis, size_t analysis_length,
                                                float *synthesis, size_t synthesis_length,
                                                size_t overlap, size_t *place);
 
-/* Smooths neighbouring gains in decibels. Refused: 4, lengths at most 8,193 and equal; 7, a gain of
- * source not in 0..64. Done: output. */
+/* Smooths neighbouring gains in decibels. Tests: 4, lengths at most 8,193 and equal; 7, gains of
+ * source in 0..64. Writes: output. */
 uint32_t dovetable_soften_spectral_edges(const float *source, size_t source_length, float *output,
                                          size_t output_length, size_t *place);
 
-/* Moves gains towards a target, with a time constant of 30 ms. Refused: 2, elapsed in 0..10; 4,
- * lengths at most 8,193 and equal; 7, a gain of either not in 0..64. Done: current. */
+/* Moves gains towards a target, with a time constant of 30 ms. Tests: 2, elapsed in 0..10; 4,
+ * lengths at most 8,193 and equal; 7, gains of both in 0..64. Writes: current. */
 uint32_t dovetable_smooth_mask_in_db(float *current, size_t current_length, const float *target,
                                      size_t target_length, float elapsed_seconds, size_t *place);
 
 /* Fills a block of 4*size + size/2 + 1 entries, size being the window's length: window, its dual,
- * smooth window, its dual, frequency table. Refused: 1, size, rate; 4, the smooth window's length,
- * the block's; 7, a value of either window not in -16..16; 8, overlap in 1..16, dividing the size.
- * Done: block and both coherent gains. */
+ * smooth window, its dual, frequency table. Tests: 1, size, rate; 4, the smooth window's length and
+ * the block's; 7, values of both windows in -16..16; 8, overlap in 1..16, dividing the size.
+ * Writes: block and both coherent gains. */
 uint32_t dovetable_prepared_spectrum_new(float sample_rate, const float *window,
                                          size_t window_length, const float *smooth_analysis_window,
                                          size_t smooth_length, size_t overlap, float *block,
                                          size_t block_length, float *window_coherent_gain,
                                          float *smooth_window_coherent_gain, size_t *place);
 
-/* ---- The functions below the calls: defined for every argument, nothing is refused ---- */
+/* ---- The functions below the calls: defined for every argument, never refused ---- */
 
-/* Each entry's value in its place. */
+/* Each entry is replaced by the value there. */
 void dovetable_exp2_all(float *xs, size_t n);
 void dovetable_log2_all(float *xs, size_t n);
 void dovetable_sin_all(float *xs, size_t n);
@@ -226,16 +228,16 @@ void dovetable_powi2_all(float *xs, size_t n);
 void dovetable_powi5_all(float *xs, size_t n);
 void dovetable_abs_all(float *xs, size_t n);
 
-/* Where one of two is NaN, both give the other. */
+/* If one of two arguments is NaN, max and min give the other. */
 float dovetable_max(float a, float b);
 float dovetable_min(float a, float b);
 float dovetable_clamp(float x, float lo, float hi);
 
-/* Rounded down or up to a whole number: 0 below 0 and for NaN, the greatest size_t from there up. */
+/* Rounded down or up to a whole number: 0 below 0 and for NaN, at most the greatest size_t. */
 size_t dovetable_floor_to_count(float x);
 size_t dovetable_ceil_to_count(float x);
 
-/* A number's bit pattern, and back. */
+/* From a number to its bit pattern, and back. */
 uint32_t dovetable_bits_of(float x);
 float dovetable_of_bits(uint32_t n);
 

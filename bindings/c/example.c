@@ -1,10 +1,11 @@
 /*
  * A chord as stereo masks, and a refusal. From the repository's root, once the library is there:
  *
- *     cc -std=c11 -I include bindings/c/example.c target/staticlib/libspectral_dsp_c.a -o target/example
+ *     cc -std=c11 -I include bindings/c/example.c \
+ *         target/staticlib/libspectral_dsp_c.a -o target/example
  *
  * Prints a line for each of a few bins: the bin, its left and its right gain, with the nine digits
- * that name a float. Exits 1 where a call does not answer what it should.
+ * that identify a float. Exits 1 if a call does not answer as it should.
  */
 #include "dovetable.h"
 
@@ -21,7 +22,7 @@ static struct DovetableVoice voice(uint8_t note, float pan) {
     return made;
 }
 
-/* Fills left and right with the masks of a chord; answers 0, or the number of a refusal. */
+/* Fills left and right with the masks of a chord; returns 0 or the number of a refusal. */
 static uint32_t masks_of(const struct DovetableVoice *chord, struct DovetableSettings settings,
                          size_t *place) {
     uint32_t refused = dovetable_prepare(table, BINS, settings.sample_rate, SIZE, place);

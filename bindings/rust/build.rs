@@ -1,5 +1,5 @@
-//! Links the static library that the port is built as. `DOVETABLE_STATICLIB` names another file
-//! than the one that the repository builds; it is called libspectral_dsp_c.a too.
+//! Links the port's static library. `DOVETABLE_STATICLIB` names a file to use in place of the one
+//! that the repository builds; it must be called libspectral_dsp_c.a too.
 
 use std::path::{Path, PathBuf};
 

@@ -1,5 +1,6 @@
 //! The mask builder of a spectral note gate, over the proved static library, under the names of
-//! the Rust that was ported. A call is done or [`Refused`]; a refused call has changed nothing.
+//! the Rust that was ported. A call is done or [`Refused`]; a refused call has changed nothing. The
+//! text of a call lists its tests under the number of the refusal that a failed test gives.
 //!
 //! A chord, left and right:
 //!

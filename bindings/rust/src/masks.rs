@@ -1,4 +1,4 @@
-//! The mask builders. Each tests, over what it is given: 1, size, rate; 2, every other setting; 3,
+//! The mask builders. Each tests, of what it is given: 1, size, rate; 2, every other setting; 3,
 //! at most 128 voices; 4, masks and table of size/2 + 1 entries, curve of 8,193, levels of 128; 5,
 //! the voices; 6, the table's entries; 7, levels in 0..1. In each unsafe block a pointer and a
 //! length are those of one slice.
@@ -8,7 +8,7 @@ use crate::refused::{Refused, outcome};
 use crate::scene::{MaskConfig, MaskVoice};
 use crate::sys;
 
-/// A mask from 128 note levels, of default voices. Refused: 1, 2, 4, 7.
+/// A mask from 128 note levels, of default voices. Tests: 1, 2, 4, 7.
 pub fn build_mask(
     output: &mut [f32],
     manual_mask_db: &[f32],
@@ -24,7 +24,7 @@ pub fn build_mask(
     })
 }
 
-/// A mask from voices, without a table. Refused: 1, 2, 3, 4, 5.
+/// A mask from voices, without a table. Tests: 1, 2, 3, 4, 5.
 pub fn build_mask_with_voices(
     output: &mut [f32],
     manual_mask_db: &[f32],
@@ -42,7 +42,7 @@ pub fn build_mask_with_voices(
     })
 }
 
-/// A mask from voices, by a frequency table. Refused: 1, 2, 3, 4, 5, 6.
+/// A mask from voices, with a frequency table. Tests: 1, 2, 3, 4, 5, 6.
 pub fn build_mask_with_voices_precomputed(
     output: &mut [f32],
     manual_mask_db: &[f32],
@@ -62,7 +62,7 @@ pub fn build_mask_with_voices_precomputed(
     })
 }
 
-/// A mask for each side, each voice at its pan. Refused: 1, 2, 3, 4, 5, 6.
+/// A mask for each side, each voice at its pan. Tests: 1, 2, 3, 4, 5, 6.
 pub fn build_stereo_masks_with_voices_precomputed(
     left: &mut [f32],
     right: &mut [f32],
@@ -85,8 +85,8 @@ pub fn build_stereo_masks_with_voices_precomputed(
     })
 }
 
-/// The same by the table of a prepared spectrum. Refused: 1, 2, 3, 4 (also a spectrum of another
-/// size), 5, 6.
+/// The same with the table of a prepared spectrum. Tests: 1, 2, 3, 4 (also the spectrum's size), 5,
+/// 6.
 pub fn build_stereo_masks_with_prepared_spectrum(
     left: &mut [f32],
     right: &mut [f32],

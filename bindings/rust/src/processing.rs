@@ -3,8 +3,8 @@
 use crate::refused::{Refused, outcome};
 use crate::sys;
 
-/// The dual of an analysis window. Refused: 4, lengths in 1..16,384 and equal; 7, a value not in
-/// -16..16; 8, overlap in 1..16, dividing the length.
+/// The dual of an analysis window. Tests: 4, lengths in 1..16,384 and equal; 7, values in -16..16;
+/// 8, overlap in 1..16, dividing the length.
 pub fn build_dual_synthesis_window(
     analysis: &[f32],
     synthesis: &mut [f32],
@@ -17,8 +17,8 @@ pub fn build_dual_synthesis_window(
     })
 }
 
-/// Smooths neighbouring gains in decibels. Refused: 4, lengths at most 8,193 and equal; 7, a gain
-/// not in 0..64.
+/// Smooths neighbouring gains in decibels. Tests: 4, lengths at most 8,193 and equal; 7, gains in
+/// 0..64.
 pub fn soften_spectral_edges(source: &[f32], output: &mut [f32]) -> Result<(), Refused> {
     let (read, length) = (source.as_ptr(), source.len());
     let (written, n) = (output.as_mut_ptr(), output.len());
@@ -27,8 +27,8 @@ pub fn soften_spectral_edges(source: &[f32], output: &mut [f32]) -> Result<(), R
     })
 }
 
-/// Moves gains towards a target, with a time constant of 30 ms. Refused: 2, elapsed in 0..10; 4,
-/// lengths at most 8,193 and equal; 7, a gain of either not in 0..64.
+/// Moves gains towards a target, with a time constant of 30 ms. Tests: 2, elapsed in 0..10; 4,
+/// lengths at most 8,193 and equal; 7, gains of both in 0..64.
 pub fn smooth_mask_in_db(
     current: &mut [f32],
     target: &[f32],
@@ -41,7 +41,7 @@ pub fn smooth_mask_in_db(
     })
 }
 
-/// The longest window that is accepted.
+/// The longest accepted window.
 const MAX_SIZE: usize = 16_384;
 
 /// Both windows of a size, their duals and the frequency table, in one block, and the coherent
@@ -55,15 +55,15 @@ pub struct PreparedSpectrum {
 }
 
 impl PreparedSpectrum {
-    /// Allocates. Refused: 1, the window's length as size, rate; 4, the smooth window's length; 7, a
-    /// value of either window not in -16..16; 8, overlap in 1..16, dividing the size.
+    /// Allocates. Tests: 1, the window's length as size, rate; 4, the smooth window's length; 7,
+    /// values of both windows in -16..16; 8, overlap in 1..16, dividing the size.
     pub fn new(
         sample_rate: f32,
         window: &[f32],
         smooth_analysis_window: &[f32],
         overlap: usize,
     ) -> Result<Self, Refused> {
-        // A longer window is refused before the block is looked at.
+        // A longer window is refused before the block's length is tested.
         let size = window.len().min(MAX_SIZE);
         let mut prepared = Self {
             size,
@@ -90,7 +90,7 @@ impl PreparedSpectrum {
         Ok(prepared)
     }
 
-    /// All parts, one after the other.
+    /// The whole block.
     pub(crate) fn block(&self) -> &[f32] {
         &self.block
     }
@@ -118,7 +118,7 @@ impl PreparedSpectrum {
         self.part(3)
     }
 
-    /// The frequency table, as the mask builders are lent it.
+    /// The frequency table, for the mask builders.
     pub fn bin_log2_hz(&self) -> &[f32] {
         &self.block[4 * self.size..]
     }

@@ -1,4 +1,4 @@
-//! What a call answers where it is not done.
+//! What a call answers when it is refused.
 
 use std::fmt;
 
@@ -40,7 +40,7 @@ impl fmt::Display for Refused {
 
 impl std::error::Error for Refused {}
 
-/// Makes a call that is lent a place.
+/// Makes a call that takes a place.
 pub(crate) fn outcome(call: impl FnOnce(&mut usize) -> u32) -> Result<(), Refused> {
     let mut place = 0;
     match call(&mut place) {
@@ -49,7 +49,7 @@ pub(crate) fn outcome(call: impl FnOnce(&mut usize) -> u32) -> Result<(), Refuse
     }
 }
 
-/// Makes a call that is lent a value and a place.
+/// Makes a call that takes a value and a place.
 pub(crate) fn value(call: impl FnOnce(&mut f32, &mut usize) -> u32) -> Result<f32, Refused> {
     let mut value = 0.0;
     outcome(|place| call(&mut value, place))?;

@@ -1,4 +1,4 @@
-//! What a scene is made of, under the Rust's names and with its defaults.
+//! Voices and settings, under the Rust's names and with its defaults.
 
 use crate::sys;
 pub use sys::MaskVoice;
@@ -25,7 +25,7 @@ impl Default for MaskVoice {
     }
 }
 
-/// The moving field's shapes; they cross as 0 to 7.
+/// The moving field's shapes; they are passed as 0 to 7.
 #[derive(Clone, Copy, Debug, Default, Eq, PartialEq)]
 pub enum MotionShape {
     #[default]
@@ -42,9 +42,9 @@ pub enum MotionShape {
 #[derive(Clone, Copy, Debug, PartialEq)]
 pub struct MotionConfig {
     pub shape: MotionShape,
-    /// 0..96: how far the field attenuates where it is shut.
+    /// 0..96: attenuation where the field is closed.
     pub depth_db: f32,
-    /// Any finite: where the field stands in its cycle of length 1.
+    /// Any finite: position in a cycle of length 1.
     pub phase: f32,
     /// 0..100.
     pub size_octaves: f32,
@@ -67,7 +67,7 @@ pub struct MaskConfig {
     pub sample_rate: f32,
     /// A power of two in 64..16,384.
     pub fft_size: usize,
-    /// 0..144: how far the spectrum is lowered away from held notes.
+    /// 0..144: attenuation below the drawn ceiling away from held notes.
     pub note_depth_db: f32,
     pub note_layer_enabled: bool,
     /// 1..1,200.

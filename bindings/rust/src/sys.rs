@@ -1,32 +1,34 @@
-//! The exported functions and records of the static library: every declaration stands here.
-//! include/dovetable.h says what each call does and what a caller owes it.
+//! The declarations of all exported functions and records of the static library.
+//! include/dovetable.h says what each call does and what it requires of the caller.
 
 /// Works on `n` numbers in place.
 pub type All = unsafe extern "C" fn(xs: *mut f32, n: usize);
 
-/// A note that is held, with its expression. The last five are any finite numbers.
+/// A held note with its expression. The last five take any finite number.
 #[repr(C)]
 #[derive(Clone, Copy, Debug, PartialEq)]
 pub struct MaskVoice {
     /// 0..127.
     pub note: u8,
-    /// 0..1, of the note's envelope: at 0 the note does nothing.
+    /// 0..1, note envelope level; 0 contributes nothing.
     pub level: f32,
-    /// -48..48, above the equal-tempered pitch of the note.
+    /// -48..48, offset in semitones from the equal-tempered pitch of the note.
     pub tuning_semitones: f32,
-    /// Used as 0..1.
+    /// Clamped to 0..1.
     pub pressure: f32,
-    /// Used as 0..1: at 0.5 the settings' rolloff, below darker, above brighter.
+    /// Harmonic tilt, clamped to 0..1. 0.5 keeps the configured rolloff; lower values darken the
+    /// partials and higher values brighten them.
     pub timbre: f32,
-    /// The base strength, velocity included.
+    /// Base strength (including velocity), bounded to openness before expression.
     pub volume_gain: f32,
-    /// The gain of what the note opens, apart from the background.
+    /// Linear gain of the note-opened component, independent of the background floor.
     pub expression_gain: f32,
-    /// Used as -1, left, to 1, right; a mono mask does not use it.
+    /// Stereo placement, clamped: -1 left through 0 center to +1 right. Ignored in mono.
     pub pan: f32,
 }
 
-/// The settings of a mask as they cross, the shape as a number, which may be none of the eight.
+/// The settings of a mask as they are passed. The shape is a number, which may be none of the
+/// eight.
 #[repr(C)]
 #[derive(Clone, Copy, Debug)]
 pub struct Settings {

@@ -1,5 +1,5 @@
 //! bindings/c/example.c, where there is a C compiler: what it prints is what the safe calls give on
-//! the same scene, bit by bit. The header is also put before a C++ compiler, where there is one.
+//! the same scene, bit by bit. The header is also compiled as C++, where there is a compiler.
 
 use dovetable::*;
 use std::path::{Path, PathBuf};
@@ -11,7 +11,7 @@ fn root() -> PathBuf {
     Path::new(env!("CARGO_MANIFEST_DIR")).join("../..")
 }
 
-/// A compiler with the strict flags and the header's folder; none where it is not there.
+/// A compiler with the strict flags and the header's folder; none if it is not installed.
 fn compiler(name: &str, standard: &str) -> Option<Command> {
     let quiet = Command::new(name)
         .arg("--version")

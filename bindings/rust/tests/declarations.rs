@@ -7,7 +7,7 @@ use std::path::{Path, PathBuf};
 
 /// Names with their types. The length of a slice may have any name: it is left empty.
 type Named = Vec<(String, String)>;
-/// Functions by name: parameters, and what comes back.
+/// Functions by name: parameters, and the return type.
 type Functions = BTreeMap<String, (Named, String)>;
 
 /// A Rattle type, as it is written in C and in Rust.
@@ -136,7 +136,7 @@ fn exported(language: Language) -> Functions {
         .collect()
 }
 
-/// Takes away the names of lengths, which stand behind a slice.
+/// Removes the names of lengths, each of which follows a slice.
 fn same_names(declared: &mut Functions, expected: &Functions) {
     for (name, (parameters, _)) in declared {
         let Some((others, _)) = expected.get(name) else {

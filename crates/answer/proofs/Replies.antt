@@ -1,4 +1,5 @@
--- Two answers with one reply are the same answer, so a contract on the reply says all of what a call returns. Assumes nothing.
+-- Two answers with one reply are the same answer, so a contract on the reply says all of what a
+-- call returns. Assumes nothing.
 use mathlib.Core.Path.{_≡_}
 use Rattle.answer.specs.declared.Answer.{Answer}
 use Rattle.answer.specs.declared.Answer.the-variants as answer

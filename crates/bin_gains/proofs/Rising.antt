@@ -1,4 +1,5 @@
--- A bin's gain never falls as its curve point and its openness rise: the manual gain and the gate never fall, the motion is the same, and all three are finite and not negative. Assumes nothing.
+-- A bin's gain never falls as its curve point and its openness rise: the manual gain and the gate
+-- never fall, the motion is the same, and all three are finite and not negative. Assumes nothing.
 use mathlib.Core.Bool.{Bool, true, false, cond}
 use mathlib.Core.List.{List}
 use Prim.Native.Nat.{ℕ}

@@ -1,4 +1,5 @@
--- The ceilings of a row of bins: the drawn curve's gains are the ceilings where the moving field rests, and else times what the field leaves, made up for. Assumes nothing.
+-- The ceilings of a row of bins: the drawn curve's gains are the ceilings where the moving field
+-- rests, otherwise times the field's compensated gain. Assumes nothing.
 use mathlib.Core.Path.{_≡_, sym, ap, _∙_}
 use mathlib.Core.Bool.{true, false}
 use mathlib.Core.List.{List}
@@ -41,7 +42,7 @@ module _ (curve : List Float) (config : MaskConfig) (start count : ℕ) (xs : Li
   abbrev ceiling : ℕ → Float → Float
   ceiling k held = ceilingAt curve config (start + k)
 
-  -- what the field leaves of an entry's bin
+  -- the field's gain at an entry's bin
   abbrev left : ℕ → Float
   left k = gainLeft (settled (config .motion)) (hertz (binHz (config .«sample_rate») (config .«fft_size»)) (start + k))
 

@@ -1,4 +1,4 @@
--- What all bins of a mask share, worked out once from its settings. Assumes nothing.
+-- What all bins of a mask share, computed once from its settings. Assumes nothing.
 use Rattle.scene.specs.declared.MaskConfig.{MaskConfig}
 use Rattle.frequencies.specs.Frequency.{binHz}
 use Rattle.masks.specs.Gates.{emphasisGain, floorGain}

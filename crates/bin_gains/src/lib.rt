@@ -1,7 +1,7 @@
-// From the openness that the voices leave in each bin to the bin's gain.
+// From a bin's openness to its gain: manual · motion · gate.
 //
-// Method. A few bins at a time: what the bins get where the gate is 1 is worked out in a row, and
-// each side is then finished from that row.
+// Method. The bins are done in rows: first the ceilings, that is the gains where the gate is 1, and
+// then each side from that one row of ceilings.
 ghost use mathlib.Core.Path.{_≡_};
 ghost use Prim.Native.Nat.{_+_, _-_, _^_, _≤_};
 ghost use lib.ListN.{length, getD};
@@ -19,17 +19,17 @@ use scene::MaskConfig;
 use scene::MotionConfig;
 use sine::table::SineTable;
 
-// So many bins are finished at a time: each stage that looks numbers up copies its table of 1 KB,
-// which a long row makes up for, and the row still stays close at hand.
+// How many bins are computed at a time. Each stage with a table lookup copies its table of 1 KB,
+// which a long row amortizes; the row still fits in the first-level cache.
 const ROW: usize = 256;
 
-// What all bins of a mask share, worked out once from its settings.
+// What all bins of a mask share, computed once from its settings.
 pub struct Shared {
     pub bin_hz: f32,
-    // The moving field's settings as its shape takes them.
+    // The moving field's settings as `motion_rows::settled` gives them.
     pub field: MotionConfig,
     pub compensation: f32,
-    // The gate of a closed region, and of a note at its centre.
+    // The gate's gain in a closed region, and at a fully open note centre.
     pub floor: f32,
     pub emphasis: f32,
 }
@@ -50,7 +50,7 @@ fn shared_of(powers: &PowerTable, sines: &SineTable, config: MaskConfig) -> Shar
     }
 }
 
-// A row of the drawn curve's gains times the moving field's, made up for.
+// Multiplies a row of the drawn curve's gains by the moving field's compensated gains.
 fn move_row(row: &mut [f32], field: &[f32], compensation: f32, count: usize)
     requires { ⌜ (count ≤ length (now row)) × (count ≤ length (now field)) ⌝ }
     ensures { λ _. ⌜ now (row .exit) ≡ mapRange
@@ -64,8 +64,8 @@ fn move_row(row: &mut [f32], field: &[f32], compensation: f32, count: usize)
     }
 }
 
-// What the bins from `start` on get where the gate is 1: the drawn curve's gain times the moving
-// field's.
+// The ceilings of the bins from `start` on, their gains where the gate is 1: the drawn curve's gain
+// times the moving field's compensated gain.
 fn ceilings(
     row: &mut [f32],
     field: &mut [f32],
@@ -113,8 +113,8 @@ fn gate_at(config: MaskConfig, shared: Shared, opened: f32) -> f32
     1.0
 }
 
-// The bins from `start` on and below `end`, from openness to gain, by the ceilings that the row has
-// for them.
+// Turns the openness of the bins from `start` on and below `end` into their gains: ceiling times
+// gate.
 fn finish_row(
     out: &mut [f32],
     ceilings: &[f32],
@@ -177,7 +177,7 @@ pub fn finish_one(
     }
 }
 
-// The same for both sides, which have one ceiling.
+// The same for both sides: the drawn curve, motion and closed-note floor are shared.
 pub fn finish_two(
     powers: &PowerTable,
     sines: &SineTable,

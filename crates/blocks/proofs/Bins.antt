@@ -1,4 +1,5 @@
--- The ends of a bin's own block: its table entry lies between them, and what is known of every entry is known of them. Assumes nothing.
+-- The ends of a bin's own block: its table entry lies between them, and what is known of every
+-- entry is known of them. Assumes nothing.
 use mathlib.Core.Path.{sym, subst}
 use mathlib.Core.List.{List}
 use Prim.Native.Nat.{ℕ, _≤_, _<_}

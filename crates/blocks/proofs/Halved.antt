@@ -1,4 +1,6 @@
--- Halving a row keeps what lies below all of it: a number not above the first half of the halved row is not above any entry of the row, and each of the half is an entry of the row. Assumes nothing.
+-- Halving a row keeps what lies below all of it: a number not above the first half of the halved
+-- row is not above any entry of the row, and each of the half is an entry of the row. Assumes
+-- nothing.
 use mathlib.Core.Path.{_≡_, refl, sym, ap, subst, _∙_}
 use mathlib.Core.Bool.{Bool, true, false, cond}
 use mathlib.Core.List.{List}
@@ -20,7 +22,8 @@ pub unreached : {A : Type 0} (d : A) {g : ℕ → A → A} {lo : ℕ} {xs₀ xs 
 unreached d {g} {lo} {xs₀} {xs} {i} j t h b =
     ap (λ l. getD l j d) (t .is) ∙ getD-mapRange g lo i xs₀ j d b ∙ between-high g lo i j (getD xs₀ j d) h
 
--- the first n entries of ys are numbers and entries of xs, and what is not above any of them is not above any entry of xs
+-- the first n entries of ys are numbers and entries of xs, and what is not above any of them is not
+-- above any entry of xs
 pub record Covers (n : ℕ) (xs ys : List Float) : Type 0 where
   pub room : n ≤ length ys
   pub numbers : (k : ℕ) → k < n → T (number binary32 (getD ys k nan))

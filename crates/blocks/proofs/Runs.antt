@@ -1,4 +1,5 @@
--- From a row to the run that it has: the least and the greatest number of the row are those of the run. And by negation from a least number to a greatest. Assumes nothing.
+-- From a row to the run that it has: the least and the greatest number of the row are those of the
+-- run. And by negation from a least number to a greatest. Assumes nothing.
 use mathlib.Core.Path.{_≡_, sym, ap, subst, _∙_}
 use mathlib.Core.List.{List}
 use Prim.Native.Nat.{ℕ, _+_, _-_, _≤_, _<_, min}

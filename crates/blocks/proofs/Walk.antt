@@ -1,4 +1,5 @@
--- The walk over the blocks: the ends of the first n blocks stand, and after the last block those of all. Assumes nothing.
+-- The walk over the blocks: the ends of the first n blocks are written, and after the last block
+-- those of all. Assumes nothing.
 use mathlib.Core.Path.{_≡_, sym, subst, subst₂}
 use mathlib.Core.List.{List}
 use Prim.Native.Nat.{ℕ, _+_, _*_, _≤_, _<_}

@@ -1,4 +1,5 @@
--- A row of 64 numbers that has all of a run of a list and nothing else: where the list ends before the run does, some entry stands more than once. Assumes nothing.
+-- A row of 64 numbers that holds all of a run of a list and nothing else: where the list ends
+-- before the run does, an entry is repeated. Assumes nothing.
 use mathlib.Core.Path.{_≡_}
 use mathlib.Core.List.{List}
 use Prim.Native.Nat.{ℕ, _+_, _<_}

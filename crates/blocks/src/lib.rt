@@ -1,5 +1,4 @@
-// The least and the greatest number of each block of 64 bins, by which whole blocks can be passed
-// over.
+// The minimum and maximum of each block of 64 bins, so that whole blocks can be skipped.
 ghost use mathlib.Core.Path.{_≡_};
 ghost use Prim.Native.Nat.{_+_, _*_, _≤_, _<_};
 ghost use lib.ListN.{length};
@@ -19,8 +18,8 @@ const LARGEST: f32 = 3.4028235e38;
 
 const LOWEST: f32 = -3.4028235e38;
 
-// The numbers of the slice from `start` on, as far as it goes and the row has room; the first of
-// them again in what is left of the row.
+// Fills the row with the slice's numbers from `start` on. Where the slice ends first, the rest of
+// the row repeats the first of them.
 fn take_row(row: &mut [f32], from: &[f32], start: usize)
     requires { ⌜ (length (now row) ≡ 64) × (start < length (now from)) ⌝ }
     ensures { λ _. ⌜ RowOf start (now (from .entry)) (now (row .exit)) ⌝ }
@@ -29,8 +28,8 @@ fn take_row(row: &mut [f32], from: &[f32], start: usize)
     copy_row(row, from, start, lesser(BLOCK, from.len() - start));
 }
 
-// The least of the 64 numbers from `start` on, as far as the slice goes; the largest f32 where it
-// has none there.
+// The minimum of the 64 numbers from `start` on, or of as many as the slice has; the largest f32 if
+// there are none.
 pub fn least_from(row: &mut [f32], from: &[f32], start: usize) -> f32
     requires { ⌜ (length (now row) ≡ 64) × Numbers start (start + 64) (now from) ⌝ }
     ensures { λ r. ⌜ Least r start (start + 64) (now (from .entry))
@@ -43,7 +42,7 @@ pub fn least_from(row: &mut [f32], from: &[f32], start: usize) -> f32
     least_of(row)
 }
 
-// The greatest of them, which is the least of the negated numbers, negated.
+// Their maximum: the minimum of the negated numbers, negated.
 pub fn greatest_from(row: &mut [f32], from: &[f32], start: usize) -> f32
     requires { ⌜ (length (now row) ≡ 64) × Numbers start (start + 64) (now from) ⌝ }
     ensures { λ r. ⌜ Greatest r start (start + 64) (now (from .entry))
@@ -57,7 +56,7 @@ pub fn greatest_from(row: &mut [f32], from: &[f32], start: usize) -> f32
     -least_of(row)
 }
 
-// The least and the greatest number of each block of a table. Bin 0 is in no block.
+// The minimum and maximum of each block of a table. Bin 0 is in no block.
 pub fn block_ends(lows: &mut [f32], highs: &mut [f32], row: &mut [f32], table: &[f32])
     requires { ⌜ (length (now row) ≡ 64)
         × (length (now lows) ≡ length (now highs))

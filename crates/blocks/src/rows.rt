@@ -1,8 +1,8 @@
-// A row of 64 numbers, and the least of them.
+// The minimum of a row of 64 numbers.
 //
-// Method. One running minimum waits for itself at each step. So the second half of the row is
-// joined to the first, entry by entry, then the second quarter to the first, and so on:
-// the steps of one such loop do not wait for each other, and several are done at once.
+// Method. With one running minimum every step depends on the one before. Instead the second half of
+// the row is folded onto the first, entry by entry, then the second quarter onto the first, and so
+// on: the steps of one loop are independent, and it is vectorized.
 ghost use mathlib.Core.Path.{_≡_};
 ghost use Prim.Native.Nat.{_+_, _≤_};
 ghost use lib.ListN.{length, getD};
@@ -11,7 +11,7 @@ ghost use Rattle.lists.specs.Maps.{mapAt, mapRange};
 ghost use Rattle.float_laws.specs.Order.{smaller};
 ghost use Rattle.blocks.specs.Least.{Numbers, Least};
 
-// The first `count` numbers of the row become those of the slice from `start` on.
+// Copies `count` numbers of the slice, from `start` on, to the front of the row.
 pub(crate) fn copy_row(row: &mut [f32], from: &[f32], start: usize, count: usize)
     requires { ⌜ (count ≤ length (now row)) × (start + count ≤ length (now from)) ⌝ }
     ensures { λ _. ⌜ now (row .exit) ≡ mapRange (λ k held. getD (now (from .entry)) (start + k) nan)
@@ -41,7 +41,8 @@ fn lesser(a: f32, b: f32) -> f32
     if b < a { b } else { a }
 }
 
-// Each of the first `count` numbers becomes the lesser of itself and the one `count` places on.
+// Replaces each of the first `count` numbers by the lesser of itself and the one `count` entries
+// on.
 fn halve(row: &mut [f32], count: usize)
     requires { ⌜ count + count ≤ length (now row) ⌝ }
     ensures { λ _. ⌜ now (row .exit) ≡ mapRange
@@ -55,7 +56,7 @@ fn halve(row: &mut [f32], count: usize)
     }
 }
 
-// The least of a row of 64 numbers, which it overwrites.
+// The minimum of a row of 64 numbers, which it overwrites.
 pub fn least_of(row: &mut [f32]) -> f32
     requires { ⌜ (length (now row) ≡ 64) × Numbers 0 64 (now row) ⌝ }
     ensures { λ r. ⌜ Least r 0 64 (now (row .entry)) ⌝ }

@@ -1,5 +1,6 @@
--- As floats: floor(x) ≤ x < floor(x) + 1 for an x from 0 on whose floor is below 2 ^ 24, and the rounded difference x - floor(x) is in 0..1. In units of the smallest
--- float, floor(x) is a multiple of one's units, and rounding keeps the order. Assumes nothing.
+-- As floats: floor(x) ≤ x < floor(x) + 1 for an x from 0 on whose floor is below 2 ^ 24, and the
+-- rounded difference x - floor(x) is in 0..1. In units of the smallest float, floor(x) is a
+-- multiple of one's units, and rounding keeps the order. Assumes nothing.
 use mathlib.Core.Path.{_≡_, refl, sym, ap, _∙_, subst}
 use mathlib.Core.Bool.{true, false}
 use Prim.Native.Nat.{ℕ, suc, _+_, _-_, _*_, _/_, _^_, _≤_, _<_, min, zero-le}

@@ -1,4 +1,5 @@
--- What a caller may know of a count: it never falls as the float rises, it is at most 2 ^ 64 - 1, floor ≤ x < floor + 1 and ceil - 1 < x ≤ ceil. Assumes nothing.
+-- What a caller may know of a count: it never falls as the float rises, it is at most 2 ^ 64 - 1,
+-- floor ≤ x < floor + 1 and ceil - 1 < x ≤ ceil. Assumes nothing.
 use mathlib.Core.Path.{_≡_, refl, sym}
 use mathlib.Core.Bool.{Bool, true, false}
 use Prim.Native.Nat.{ℕ, suc, _*_, _/_, _≤_, _<_, zero-le}

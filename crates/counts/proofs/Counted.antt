@@ -1,4 +1,5 @@
--- A float's count from its sign, digits and exponent: the value is mant * 2 ^ (expo - 149), so that its whole part is a shift of the digits. Assumes nothing.
+-- A float's count from its sign, digits and exponent: the value is mant * 2 ^ (expo - 149), so that
+-- its whole part is a shift of the digits. Assumes nothing.
 use mathlib.Core.Path.{_≡_, refl, sym, ap, _∙_}
 use mathlib.Core.Bool.{Bool, true, false}
 use Prim.Native.Nat.{ℕ, _+_, _-_, _*_, _%_, _^_, _≤_, _<_, min}
@@ -36,7 +37,7 @@ module _ (up : Bool) (x : Float) (mant expo : ℕ) (D : Decoded x false mant exp
   unfolding countOf
   count-is n d z e = rw (D .sign) (ap (λ (k : ℕ). min k 18446744073709551615) (whole-same up (above x) (below x) n d (below-pos x) z e))
 
-  -- the point stands to the left of the last digit
+  -- the binary point is left of the last digit
   pub low-value : expo < 149 → above x * 2 ^ (149 - expo) ≡ mant * below x
   low-value h =
       let b : 149 - expo + expo ≡ 149 = omega arith in
@@ -50,7 +51,7 @@ module _ (up : Bool) (x : Float) (mant expo : ℕ) (D : Decoded x false mant exp
       ∙ ap (λ (k : ℕ). min k 18446744073709551615) (sym (whole-capped up mant (149 - expo) (let m = D .small in omega arith)))
       ∙ min-eq-left (let m = D .small in let w = whole-le up mant (2 ^ min (149 - expo) 31) (pow-pos (min (149 - expo) 31)) in omega arith)
 
-  -- the last digit stands to the left of the point
+  -- the last digit is left of the binary point
   pub high-value : 149 ≤ expo → above x * 1 ≡ mant * 2 ^ (expo - 149) * below x
   high-value h =
       let e : 2 ^ expo ≡ 2 ^ (expo - 149) * 2 ^ 149 = ap (λ (k : ℕ). 2 ^ k) (sym (back expo 149 h)) ∙ pow-add 2 (expo - 149) 149 in

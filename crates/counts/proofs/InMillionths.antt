@@ -1,5 +1,7 @@
--- A float in whole millionths. From its digits and exponent: the value is mant * 2 ^ (expo - 149), so that its millionths are a shift of mant * 1000000. For a caller:
--- millionths / 1000000 ≤ x < (millionths + 1) / 1000000, for every x from 0 up to 2 ^ 44. Assumes nothing.
+-- A float in whole millionths. From its digits and exponent: the value is mant * 2 ^ (expo - 149),
+-- so that its millionths are a shift of mant * 1000000. For a caller:
+-- millionths / 1000000 ≤ x < (millionths + 1) / 1000000, for every x from 0 up to 2 ^ 44. Assumes
+-- nothing.
 use mathlib.Core.Path.{_≡_, refl, sym, ap, _∙_}
 use mathlib.Core.Bool.{true, false}
 use Prim.Native.Nat.{ℕ, suc, _-_, _*_, _/_, _%_, _^_, _≤_, _<_, min}
@@ -31,7 +33,7 @@ module _ (x : Float) (mant expo : ℕ) (D : Decoded x false mant expo) where
       let same : above x * 1000000 * d ≡ n * 1000000 * below x = mul-right-comm (above x) 1000000 d ∙ ap (λ (k : ℕ). k * 1000000) e ∙ mul-right-comm n (below x) 1000000 in
       rw (D .sign) (ap (λ (k : ℕ). min k 17592186044416000000) (div-same (above x * 1000000) (below x) (n * 1000000) d (below-pos x) z same))
 
-  -- the point stands to the left of the last digit
+  -- the binary point is left of the last digit
   pub millionths-low : expo < 149 → millionths x ≡ mant * 1000000 / 2 ^ (149 - expo)
   millionths-low h =
       let w : mant * 1000000 / 2 ^ (149 - expo) ≤ mant * 1000000 = whole-le false (mant * 1000000) (2 ^ (149 - expo)) (pow-pos (149 - expo)) in
@@ -45,7 +47,7 @@ module _ (x : Float) (mant expo : ℕ) (D : Decoded x false mant expo) where
       let m = D .small in
       millionths-low (omega arith) ∙ div-eq-of-lt (omega arith)
 
-  -- the last digit stands to the left of the point
+  -- the last digit is left of the binary point
   millionths-shifted : 149 ≤ expo → millionths x ≡ min (mant * 1000000 * 2 ^ (expo - 149)) 17592186044416000000
   millionths-shifted h =
       millionths-is (mant * 2 ^ (expo - 149)) 1 (lit< tt) (high-value false x mant expo D h)

@@ -1,5 +1,7 @@
--- A fraction brought to a whole number, down or up: which whole number it is, that equal fractions give equal ones, that larger fractions give no smaller ones, and that of
--- digits below 2 ^ 31 a shift by 31 places leaves what one by more does. Each holds as the whole number is the greatest not above, or the least not below. Assumes nothing.
+-- A fraction rounded to a whole number, down or up: which whole number it is, that equal fractions
+-- give equal ones, that larger fractions give no smaller ones, and that for digits below 2 ^ 31 a
+-- shift by 31 bits gives what a longer one does. Each holds because the whole number is the
+-- greatest not above, or the least not below. Assumes nothing.
 use mathlib.Core.Path.{_≡_, sym, ap, _∙_}
 use mathlib.Core.Logic.{inl, inr}
 use mathlib.Core.Bool.{Bool, true, false}
@@ -50,7 +52,7 @@ whole-one true n = omega arith
 pub whole-le : (up : Bool) (n w : ℕ) → 0 < w → whole up n w ≤ n
 whole-le up n w z = le-trans (whole-mono up n w n 1 z (omega arith) (mul-le-mul-left n z)) (le-of-eq (whole-one up n))
 
--- ---- digits that all stand below the point
+-- ---- digits that are all below the binary point
 small : Bool → ℕ → ℕ
 small false n = 0
 small true zero = 0
@@ -74,7 +76,7 @@ whole-capped up n k h =
       | inr l ↦ ap (λ (t : ℕ). whole up n (2 ^ t)) (min-eq-right l) ∙ whole-small up n 2147483648 h ∙ sym (whole-small up n (2 ^ k) (lt-of-lt-of-le h (pow-mono l)))
     ]
 
--- the places that a shift drops, all filled
+-- the bits that a shift drops, all set
 pub one-shifted : (places : ℕ) → places ≤ 31 → (1 * 2 ^ places % 18446744073709551616 ≡ 2 ^ places) × (2 ^ places ≤ 2147483648)
 one-shifted k h =
     let w : 2 ^ k ≤ 2147483648 = pow-mono {i = k} {j = 31} h in

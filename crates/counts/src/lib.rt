@@ -1,7 +1,7 @@
 // Rust's `x.floor() as usize` and `x.ceil() as usize`, from the number's bits.
-// Method: x = mant * 2^(expo - 149) is shifted to its whole part, to the left from exponent 149 on,
-// else to the right. To round up, the places that the shift drops are filled first. From 2^64 on,
-// and for infinity, the answer is the largest count.
+// Method: x = mant * 2^(expo - 149), so its integer part is mant shifted left for an expo of 149 or
+// more, else right. To round up, 2^places - 1 is added before the right shift. From 2^64 up, and
+// for infinity, the result is the largest usize.
 ghost use mathlib.Core.Path.{_≡_};
 ghost use Prim.Native.Nat.{_≤_, _<_, _^_, min, max};
 ghost use Rattle.counts.specs.Counts.{whole, countOf, floorCount, ceilCount, millionths};
@@ -56,8 +56,7 @@ fn shifted(up: bool, mant: u64, places: u32) -> u64
 // 2^44 in millionths.
 const MOST_MILLIONTHS: u64 = 17_592_186_044_416_000_000;
 
-// x · 10^6 without its fraction, by the same shifts. 0 below 0 and for NaN; from 2^44 up as at
-// 2^44.
+// floor(x · 10^6), by the same shifts. 0 for negative numbers and NaN; from 2^44 up that of 2^44.
 pub fn millionths(x: f32) -> u64
     ensures { λ r. ⌜ r ≡ millionths x ⌝ }
 {

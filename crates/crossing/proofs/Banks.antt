@@ -1,4 +1,5 @@
--- The open call on a bank and bytes that are the lent slices: its reply is the one for slices of these lengths, and its bank is what the slice is to hold.
+-- The open call on a bank and bytes that are the lent slices: its reply is the one for slices of
+-- these lengths, and its bank is what the slice is to hold.
 -- Assumes nothing.
 use mathlib.Core.Path.{_≡_, sym, ap, subst, _∙_}
 use mathlib.Core.Bool.{false, not}

@@ -1,4 +1,5 @@
--- Settings with a shape of 0..7 go on to the call, and others are refused and leave every slice as it was. Assumes nothing.
+-- Settings with a shape of 0..7 go on to the call, and others are refused and leave every slice as
+-- it was. Assumes nothing.
 use mathlib.Core.Path.{_≡_, refl, ap, _∙_}
 use mathlib.Core.Bool.{Bool, true, false, cond}
 use mathlib.Core.List.{List}

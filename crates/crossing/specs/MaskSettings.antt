@@ -1,4 +1,5 @@
--- How the settings of a mask cross: as one record of numbers, the motion's shape one of 0..7 in the Rust's order. Assumes nothing.
+-- How a C caller passes the settings of a mask: as one record of numbers, the motion's shape being
+-- one of 0..7 in the Rust's order. Assumes nothing.
 use mathlib.Core.Bool.{cond}
 use lib.Dec.{leb}
 use Rattle.answer.specs.Refusal.{SIZE-OR-RATE, SETTING}
@@ -23,7 +24,7 @@ configOf settings =
           (settings .«motion_phase») (settings .«motion_size_octaves»);
     }
 
--- the reply of a call that is given the settings: another shape is refusal 2, after refusal 1
+-- the reply of a call that is given the settings: any other shape is refusal 2, after refusal 1
 unfoldable pub withSettings : Settings → (MaskConfig → Reply) → Reply
 withSettings settings reply =
     let config = configOf settings in

@@ -1,5 +1,6 @@
--- How the motion's settings and the envelope bank cross: the shape is a number, 0..7 in the Rust's order, and another is refusal 2; the bank is a slice of
--- 128 levels and the held notes one of 16 bytes, and other lengths are refusal 4. Assumes nothing.
+-- How a C caller passes the motion's settings and the envelope bank: the shape is a number, 0..7 in
+-- the Rust's order, and any other is refusal 2; the bank is a slice of 128 levels and the held
+-- notes one of 16 bytes, and other lengths are refusal 4. Assumes nothing.
 use mathlib.Core.Bool.{cond, not}
 use mathlib.Core.List.{List}
 use Prim.Native.Nat.{ℕ}

@@ -1,4 +1,4 @@
-// An open call's answer, given to a C caller: the number comes back, the values or the place are
+// An open call's answer, passed to a C caller: the number is returned, the values or the place are
 // written.
 ghost use Rattle.answer.specs.Reply.{ofAnswer, ofOutcome, ofPrepared};
 ghost use Rattle.crossing.specs.Given.{Given, GivenValue, GivenValues};

@@ -1,5 +1,5 @@
-// The envelope bank as a slice of 128 levels that is changed in place, and the held notes as a
-// slice of 16 bytes.
+// The envelope bank as a slice of 128 levels, changed in place, and the held notes as a slice of 16
+// bytes.
 ghost use mathlib.Core.Path.{_≡_};
 ghost use lib.ListN.{length};
 ghost use Rattle.answer.specs.Reply.{ofOutcome};

@@ -22,7 +22,7 @@ pub fn motion_of(shape: u32, depth_db: f32, phase: f32, size_octaves: f32) -> Mo
     }
 }
 
-// A mask's settings, its motion's among them. The shape is a number, 0..7 in the Rust's order.
+// A mask's settings, with those of its motion. The shape is a number, 0..7 in the Rust's order.
 #[repr(C)]
 pub struct Settings {
     pub sample_rate: f32,
@@ -59,7 +59,7 @@ pub fn config_of(settings: Settings) -> MaskConfig
     }
 }
 
-// Another shape than 0..7 is refusal 2, where there is no refusal 1.
+// A shape outside 0..7 is refusal 2, unless refusal 1 comes first.
 pub fn shape_refused(config: MaskConfig) -> Outcome
     ensures { λ r. ⌜ ofOutcome r ≡ cond (sizeAccepted config) (refused SETTING 0) (refused SIZE-OR-RATE 0) ⌝ }
 {

@@ -1,5 +1,7 @@
--- Gains of decibels: they never fall, are finite and never negative, at most 1 up to 0 dB and at least 1 from 0 dB up, and 6 and 12 dB have the bounds 2 and 4.
--- The quotient by 20 keeps the order and leaves 0 as it is; the rest is powf(10, y)'s and two values that antt computes. Assumes nothing.
+-- Gains of decibels: they never fall, are finite and never negative, at most 1 up to 0 dB and at
+-- least 1 from 0 dB up, and 6 and 12 dB have the bounds 2 and 4.
+-- The quotient by 20 keeps the order and leaves 0 as it is; the rest is powf(10, y)'s and two
+-- values that antt computes. Assumes nothing.
 use mathlib.Core.Path.{_≡_, refl}
 use mathlib.Core.Bool.{false}
 use lib.Dec.{T}

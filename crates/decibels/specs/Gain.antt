@@ -1,4 +1,5 @@
--- The gain that a number of decibels stands for: powf(10, db / 20) of document 01, the quotient rounded. Assumes nothing.
+-- Amplitude decibels as a linear gain: powf(10, db / 20) of document 01, the quotient rounded.
+-- Assumes nothing.
 use lib.Ieee.{Float, binary32, ofBits, div}
 use Rattle.power.specs.Decimal.{pow10}
 

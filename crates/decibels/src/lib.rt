@@ -1,4 +1,4 @@
-// Decibels as gains.
+// Decibels to linear gains.
 pub mod rows;
 
 ghost use mathlib.Core.Path.{_≡_};
@@ -8,7 +8,7 @@ use power::table::PowerTable;
 
 pub const DECIBELS_PER_DECADE: f32 = 20.0;
 
-// 10^(db / 20).
+// Converts amplitude decibels to a linear gain: 10^(db / 20).
 pub fn gain(powers: &PowerTable, db: f32) -> f32
     requires { ⌜ now powers ≡ powerTable ⌝ }
     ensures { λ r. ⌜ r ≡ gainOf db ⌝ }

@@ -1,5 +1,5 @@
-// The gains of a row of decibels: the quotients, and then the powers. A row that is level, as that
-// of a curve with nothing drawn or of a field that is open, has its gain worked out once.
+// The gains of a row of decibels: the divisions, then the powers. In a level row, where all entries
+// are equal, as with a flat curve or an open field, the gain is computed once.
 ghost use mathlib.Core.Path.{_≡_};
 ghost use mathlib.Core.Bool.{true, false};
 ghost use Prim.Native.Nat.{ℕ, _≤_, _<_};
@@ -27,7 +27,7 @@ fn decades(row: &mut [f32], count: usize)
     }
 }
 
-// Whether one of the first `count` entries is not the number at the start of the row.
+// Whether one of the first `count` entries differs from `first`.
 fn differs(row: &[f32], first: f32, count: usize) -> bool
     requires { ⌜ count ≤ length (now row) ⌝ }
     ensures { λ r. ⌜ (r ≡ false → (k : ℕ) → k < count →
@@ -42,7 +42,8 @@ fn differs(row: &[f32], first: f32, count: usize) -> bool
     other
 }
 
-// Whether the first `count` entries are one number. A drawn row is mostly told by its ends.
+// Whether the first `count` entries are equal. The ends are compared first: in most drawn rows they
+// already differ.
 fn is_level(row: &[f32], count: usize) -> bool
     requires { ⌜ count ≤ length (now row) ⌝ }
     ensures { λ r. ⌜ (r ≡ true →
@@ -59,7 +60,7 @@ fn is_level(row: &[f32], count: usize) -> bool
     !differs(row, row[0], count)
 }
 
-// The first `count` entries of the row, which are decibels, as gains.
+// Converts the first `count` entries of the row from decibels to gains.
 pub fn gains(row: &mut [f32], powers: &PowerTable, count: usize)
     requires { ⌜ (now powers ≡ powerTable) × (count ≤ length (now row)) ⌝ }
     ensures { λ _. ⌜ now (row .exit) ≡ mapRange (λ k db. gainOf db) 0 count (now (row .entry)) ⌝ }

@@ -1,5 +1,5 @@
-// The functions of one number by name, for what applies one of them to a whole list: the static
-// library and the replay program.
+// The functions of one number by name, for callers that apply one of them to a whole list: the
+// static library and the replay program.
 ghost use mathlib.Core.Path.{_≡_};
 ghost use Rattle.lists.specs.Maps.{mapAt};
 ghost use Rattle.power.specs.Table.{powerTable};
@@ -23,7 +23,7 @@ pub enum Function {
     Abs,
 }
 
-// The function's value, by the tables that are lent.
+// The function's value, from the lent tables.
 pub fn value(function: Function, powers: &PowerTable, sines: &SineTable, x: f32) -> f32
     requires { ⌜ (now powers ≡ powerTable) × (now sines ≡ sineTable) ⌝ }
     ensures { λ r. ⌜ r ≡ valueOf function x ⌝ }
@@ -55,7 +55,8 @@ fn apply_one_by_one(function: Function, powers: &PowerTable, sines: &SineTable, 
     }
 }
 
-// The function's value at each entry, in the entry's place: by rows, where the function has them.
+// Replaces each entry by the function's value there: a whole row at a time where the function has a
+// row version.
 pub fn apply(function: Function, xs: &mut [f32])
     ensures { λ _. ⌜ now (xs .exit) ≡ mapAt (λ k x. valueOf function x) (now (xs .entry)) ⌝ }
 {

@@ -38,7 +38,7 @@ module _ (f : Format) (elapsed time : Float) (p : T (real f elapsed)) (h : T (le
       key→le f (div f (neg elapsed) time) plus-zero dn nz
       (omega (arith, le→key f (div f (neg elapsed) time) (div f plus-zero time) dn zn (div-mono f (neg elapsed) plus-zero time n z q l below), key-zero f))
 
--- ---- the part of the way
+-- ---- the fraction of the distance
 exp-unit : (y : Float) → T (le y plus-zero) → InUnit (exp y)
 exp-unit y h = record { finite = E2-real (mul binary32 y LOG2-E); low = E2-nonneg (mul binary32 y LOG2-E); high = exp-at-most-one y h }
 

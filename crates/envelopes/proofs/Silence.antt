@@ -1,4 +1,5 @@
--- A level is silence where it is below the limit and above its negative: two tests that say what the one on the magnitude says, of a NaN too. Assumes nothing.
+-- A level is silence where it is below the limit and above its negative: two tests that say what
+-- the one on the magnitude says, of a NaN too. Assumes nothing.
 use mathlib.Core.Path.{_≡_, refl}
 use mathlib.Core.Bool.{Bool, true, false, _&&_}
 use Prim.Native.Nat.{ℕ, _+_, _*_, _<_}

@@ -1,4 +1,5 @@
--- The envelopes of `advance_note_envelopes`: the levels of 128 notes, each of which moves toward 1 while its note is held and toward 0 while it is not.
+-- The envelopes of `advance_note_envelopes`: the levels of 128 notes, each of which moves toward 1
+-- while its note is held and toward 0 while it is not.
 -- Every operation is rounded, in the order of the Rust. Assumes nothing.
 use mathlib.Core.Bool.{Bool, cond}
 use mathlib.Core.List.{List}
@@ -11,14 +12,16 @@ use Rattle.float32.specs.Order.{magnitude}
 use Rattle.float32.specs.Remainder.{zero, one}
 use Rattle.power.specs.Decimal.{exp}
 
--- "Held notes are 16 bytes, most significant bit first: note 0 is the top bit of byte 0." A note past the last byte is not held.
+-- "Held notes are 16 bytes, most significant bit first: note 0 is the top bit of byte 0." A note
+-- past the last byte is not held.
 abbrev pub heldBit : List ℕ → ℕ → ℕ
 heldBit held note = getD held (note / 8) 0 / 2 ^ (7 - note % 8) % 2
 
 abbrev pub isHeld : List ℕ → ℕ → Bool
 isHeld held note = eqb (heldBit held note) 1
 
--- The part of the way to its target that a level goes in the seconds elapsed: 1 - exp(-elapsed / time), and all of it where the time is not above 0.
+-- The fraction of the distance to its target that a level covers in the seconds elapsed:
+-- 1 - exp(-elapsed / time), and all of it where the time is 0 or less.
 unfoldable pub smoothingAlpha : Float → Float → Float
 smoothingAlpha elapsed time = cond (le time zero) one (sub binary32 one (exp (div binary32 (neg elapsed) time)))
 

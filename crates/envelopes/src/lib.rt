@@ -20,8 +20,8 @@ const SILENCE: f32 = 1.0e-6;
 
 const MINUS_SILENCE: f32 = -1.0e-6;
 
-// The part of the way to its target that a level goes in the seconds elapsed, where a time of 0 or
-// less is no time at all.
+// The fraction of the distance to its target that a level covers in the seconds elapsed; all of it
+// where the time constant is 0 or less.
 pub fn smoothing_alpha(powers: &PowerTable, elapsed_seconds: f32, time_seconds: f32) -> f32
     requires { ⌜ now powers ≡ powerTable ⌝ }
     ensures { λ r. ⌜ r ≡ smoothingAlpha «elapsed_seconds» «time_seconds» ⌝ }
@@ -32,8 +32,8 @@ pub fn smoothing_alpha(powers: &PowerTable, elapsed_seconds: f32, time_seconds: 
     1.0 - power::decimal::exp(powers, -elapsed_seconds / time_seconds)
 }
 
-// A bit of a byte as the target of its note; bit 0 is the top one. The bit itself is the number: a
-// choice by it would be a branch that no processor can foresee.
+// A note's target from its bit of the byte; bit 0 is the top one. The bit is converted to a number,
+// since a branch on it would be unpredictable.
 fn target_of(byte: u8, bit: usize) -> f32
     requires { ⌜ bit < 8 ⌝ }
     ensures { λ r. ⌜ r ≡ targetOf (eqb (byte / 2 ^ (7 - bit) % 2) 1) ⌝ }
@@ -76,7 +76,7 @@ fn byte_targets(all: &mut [f32], byte: u8, index: usize)
 }
 
 // The targets of all notes, read byte by byte before the loop over the levels, so that both loops
-// are done for several notes at once.
+// are vectorized.
 fn targets(held: [u8; HELD_BYTES]) -> [f32; MIDI_NOTES]
     ensures { λ r. ⌜ r ≡ tabulate MIDI-NOTES (λ note. targetOf (isHeld held note)) ⌝ }
 {
@@ -103,7 +103,7 @@ fn step(bank: &mut [f32], targets: &[f32], alpha: f32)
     }
 }
 
-// The bank after one frame.
+// Advances a bank of note envelopes by one STFT frame.
 pub fn advance(
     powers: &PowerTable,
     levels: [f32; MIDI_NOTES],

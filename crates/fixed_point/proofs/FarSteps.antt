@@ -1,4 +1,5 @@
--- The floor of an f32 up to 2 ^ 23 in size in steps of 2 ^ -24, by the sum with 2 ^ 28 + 2 ^ 23: between 2 ^ 28 and 2 ^ 29 a step is the last digit of an f64. Assumes nothing.
+-- The floor of an f32 up to 2 ^ 23 in size in steps of 2 ^ -24, by the sum with 2 ^ 28 + 2 ^ 23:
+-- between 2 ^ 28 and 2 ^ 29 a step is the last digit of an f64. Assumes nothing.
 use mathlib.Core.Path.{_≡_, refl, ap, sym, _∙_}
 use mathlib.Core.Bool.{Bool, true, false, not, cond}
 use Prim.Native.Nat.{ℕ, _+_, _-_, _*_, _/_, _^_, _≤_}

@@ -1,5 +1,6 @@
--- The floor of an f32 from 2 ^ -18 to 2 ^ 9 in size in steps of 2 ^ -24, by the sum with 2 ^ 11 + 2 ^ 10: between 2 ^ 11 and 2 ^ 12 the last digit of an f64 is 2 ^ -41, as is that of the least
--- of these, so that the sum is exact. Assumes nothing.
+-- The floor of an f32 from 2 ^ -18 to 2 ^ 9 in size in steps of 2 ^ -24, by the sum with
+-- 2 ^ 11 + 2 ^ 10: between 2 ^ 11 and 2 ^ 12 the last digit of an f64 is 2 ^ -41, as is that of the
+-- least of these, so that the sum is exact. Assumes nothing.
 use mathlib.Core.Path.{_≡_, refl, ap, sym, subst, _∙_}
 use mathlib.Core.Bool.{Bool, true, false, not}
 use Prim.Native.Nat.{ℕ, _+_, _-_, _*_, _/_, _^_, _≤_}

@@ -1,4 +1,5 @@
--- An f32 between two opposite powers of two as an f64: it is a finite value, of at most that size, and its floor in steps of 2 ^ -24 is one of whole numbers of f64's units. Assumes nothing.
+-- An f32 between two opposite powers of two as an f64: it is a finite value, of at most that size,
+-- and its floor in steps of 2 ^ -24 is one of whole numbers of f64's units. Assumes nothing.
 use mathlib.Core.Path.{_≡_, refl, sym, ap, _∙_}
 use mathlib.Core.Bool.{Bool, true, false, not}
 use Prim.Native.Nat.{ℕ, _+_, _-_, _*_, _/_, _^_, _≤_, _<_}

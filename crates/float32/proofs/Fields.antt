@@ -1,5 +1,6 @@
--- A float's sign, exponent and digits by shifts and masks of its bit pattern, tied to its value: an exponent field of 0 has no leading digit, any other has the digit 2 ^ 23, and
--- the infinities' field reads as 2 ^ 128. Assumes nothing.
+-- A float's sign, exponent and digits by shifts and masks of its bit pattern, tied to its value: an
+-- exponent field of 0 has no leading digit, any other has the digit 2 ^ 23, and the infinities'
+-- field reads as 2 ^ 128. Assumes nothing.
 use mathlib.Core.Path.{_≡_, refl, sym, ap, _∙_, subst}
 use Prim.Native.Nat.{ℕ, zero, suc, _+_, _-_, _*_, _/_, _%_, _^_, _≤_, _<_}
 use native.Mathlib.Nat.{mod-lt}

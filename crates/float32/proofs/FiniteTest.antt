@@ -1,4 +1,5 @@
--- The difference of a float with itself equals 0 exactly where the float is finite: of an infinity it is NaN, and else it is the exact difference 0, rounded. Assumes nothing.
+-- The difference of a float with itself equals 0 exactly where the float is finite: of an infinity
+-- it is NaN, otherwise it is the exact difference 0, rounded. Assumes nothing.
 use mathlib.Core.Path.{_≡_, refl, _∙_}
 use mathlib.Core.Bool.{Bool, true, false}
 use Prim.Native.Nat.{ℕ, _+_, _-_, _≤_}

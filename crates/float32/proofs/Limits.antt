@@ -1,4 +1,5 @@
--- What a passed test of limits says: the two comparisons, that the float is a number, and between finite ends or where it is finite that it is a real one. Assumes nothing.
+-- What a passed test of limits says: the two comparisons, that the float is a number, and between
+-- finite ends or where it is finite that it is a real one. Assumes nothing.
 use lib.Dec.{T}
 use lib.Ieee.{Float, nan, inf, fin, Format, le, fits}
 use lib.Ieee.Fits.{and-l, and-r}

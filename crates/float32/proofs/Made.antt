@@ -1,4 +1,5 @@
--- A float put together: the pattern k * 2 ^ 23 + q is that of q * 2 ^ (k - 149), for a q of 24 digits, since the leading digit of q adds one to the exponent's field. Assumes nothing.
+-- A float put together: the pattern k * 2 ^ 23 + q is that of q * 2 ^ (k - 149), for a q of 24
+-- digits, since the leading digit of q adds one to the exponent's field. Assumes nothing.
 use mathlib.Core.Path.{_≡_, sym, ap, _∙_, subst}
 use mathlib.Core.Bool.{Bool, false, not, cond}
 use Prim.Native.Nat.{ℕ, suc, _+_, _-_, _*_, _/_, _%_, _≤_, _<_}

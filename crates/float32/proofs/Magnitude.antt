@@ -1,4 +1,5 @@
--- The magnitude of a number is a number of the same size with its sign clear, so it is never below 0, and a number and its negation have the same one. Assumes nothing.
+-- The magnitude of a number is a number of the same size with its sign clear, so it is never below
+-- 0, and a number and its negation have the same one. Assumes nothing.
 use mathlib.Core.Path.{_≡_, refl}
 use mathlib.Core.Bool.{false}
 use Prim.Native.Nat.{zero, suc}

@@ -1,5 +1,6 @@
--- The constants that whole numbers can reach are the f32 nearest to what they are named after: a constant is m / 2 ^ k, with m of 24 digits, and the number named lies
--- between the midpoints to the two neighbours, (2 * m - 1) / 2 ^ (k + 1) and (2 * m + 1) / 2 ^ (k + 1). Assumes nothing.
+-- The constants that whole numbers can reach are the f32 nearest to what they are named after: a
+-- constant is m / 2 ^ k, with m of 24 digits, and the number named lies between the midpoints to
+-- the two neighbours, (2 * m - 1) / 2 ^ (k + 1) and (2 * m + 1) / 2 ^ (k + 1). Assumes nothing.
 use mathlib.Core.Path.{refl}
 use mathlib.Core.Bool.{false}
 use Prim.Native.Nat.{ℕ, _+_, _-_, _*_, _^_, _≤_, _<_}
@@ -19,7 +20,8 @@ pub sqrt-2-nearest : NearestRoot SQRT-2 11863283 23
 unfolding ofBits ofFields odd trailingZeros
 sqrt-2-nearest = record { value = (refl, refl); under = lit< tt; over = lit< tt }
 
--- The logarithm of b to base a, at least p / q where a ^ p < b ^ q and at most p' / q' where b ^ q' < a ^ p': both fractions lie between the midpoints.
+-- The logarithm of b to base a, at least p / q where a ^ p < b ^ q and at most p' / q' where
+-- b ^ q' < a ^ p': both fractions lie between the midpoints.
 pub record NearestLogarithm (x : Float) (m k a b p q p' q' : ℕ) : Type 0 where
   pub value : HasValue x false m (2 ^ k)
   pub midpoint-under : (2 * m - 1) * q ≤ p * 2 ^ (k + 1)

@@ -1,4 +1,5 @@
--- The parts of a float are determined: two decodings of one float are the same, since with 24 digits a larger exponent would need a leading digit too many. Assumes nothing.
+-- The parts of a float are determined: two decodings of one float are the same, since with 24
+-- digits a larger exponent would need a leading digit too many. Assumes nothing.
 use mathlib.Core.Path.{_≡_, sym, ap, _∙_}
 use mathlib.Core.Logic.{inl, inr}
 use mathlib.Core.Bool.{Bool}

@@ -1,5 +1,5 @@
--- Maximum, minimum and clamp in the words of others: "where one of the two is NaN, both give the other", and, of numbers, the `larger` and `smaller` whose laws of order
--- float_laws has. Assumes nothing.
+-- Other forms of maximum, minimum and clamp: "where one of the two is NaN, both give the other",
+-- and, of numbers, the `larger` and `smaller` whose laws of order float_laws has. Assumes nothing.
 use mathlib.Core.Path.{_≡_, refl}
 use lib.Dec.{T}
 use lib.Ieee.{Float, nan, inf, fin, Format, lt, isNan}

@@ -1,5 +1,6 @@
--- NaN and bit patterns: what `x != x` tests, which patterns are a NaN's, and the pattern of the magnitude. A pattern's top bit is the sign alone, and the patterns
--- above an infinity's are the NaNs'. Assumes nothing.
+-- NaN and bit patterns: what `x != x` tests, which patterns are a NaN's, and the pattern of the
+-- magnitude. A pattern's top bit is the sign alone, and the patterns above an infinity's are the
+-- NaNs'. Assumes nothing.
 use mathlib.Core.Path.{_≡_, refl, sym, ap, _∙_, subst}
 use mathlib.Core.Bool.{Bool, true, false, not, cond}
 use Prim.Native.Nat.{ℕ, zero, suc, _+_, _/_, _%_, _≤_, _<_}

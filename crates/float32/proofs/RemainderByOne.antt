@@ -1,4 +1,5 @@
--- `rem_euclid_one` is the definition, arm by arm: the laws of the whole part and of the remainder in units, for f32 and the code's own constants. Assumes nothing.
+-- `rem_euclid_one` is the definition, arm by arm: the laws of the whole part and of the remainder
+-- in units, for f32 and the code's own constants. Assumes nothing.
 use mathlib.Core.Path.{_≡_, refl, sym, ap, _∙_, subst}
 use mathlib.Core.Bool.{Bool, true, false}
 use Prim.Native.Nat.{ℕ, _+_, _-_, _*_, _/_, _^_, _≤_, _<_}

@@ -1,4 +1,5 @@
--- The remainder by 1 in units of the format's smallest value: what the whole part leaves of the size, with the sign. So it is 0 with the sign where nothing is left, as from 2 ^ (prec - 1) on.
+-- The remainder by 1 in units of the format's smallest value: what the whole part leaves of the
+-- size, with the sign. So it is 0 with the sign where nothing is left, as from 2 ^ (prec - 1) on.
 -- Assumes nothing.
 use mathlib.Core.Path.{_≡_, refl, sym, ap, _∙_, subst}
 use mathlib.Core.Logic.{inl, inr}

@@ -1,4 +1,5 @@
--- Sums, differences and quotients of floats by the fractions that they equal: each is the exact result, rounded once, whatever fraction it is written as. Assumes nothing.
+-- Sums, differences and quotients of floats by the fractions that they equal: each is the exact
+-- result, rounded once, whatever fraction it is written as. Assumes nothing.
 use mathlib.Core.Path.{_≡_, refl, sym, ap, _∙_}
 use mathlib.Core.Bool.{true, false, true≢false}
 use Prim.Native.Nat.{ℕ, _+_, _-_, _*_, _^_, _≤_, _<_}

@@ -1,5 +1,7 @@
--- A number from 0 up to 2 ^ (prec - 1), added to that power, is rounded to one of the two whole numbers beside it: there the values of the format are the whole numbers.
--- Without the power it is the whole part, or one more, and then it is above the number. Assumes nothing.
+-- A number from 0 up to 2 ^ (prec - 1), added to that power, is rounded to one of the two whole
+-- numbers beside it: there the values of the format are the whole numbers.
+-- Without the power it is the whole part, or one more, and then it is above the number. Assumes
+-- nothing.
 use mathlib.Core.Path.{_≡_, refl, sym, ap, _∙_, subst}
 use mathlib.Core.Bool.{Bool, false}
 use Prim.Native.Nat.{ℕ, suc, _+_, _-_, _*_, _/_, _^_, _≤_, _<_}

@@ -1,4 +1,5 @@
--- "Rust's f32 constants", each by its bits: the f32 nearest to the number that it is named after. Assumes nothing.
+-- "Rust's f32 constants", each by its bits: the f32 nearest to the number that it is named after.
+-- Assumes nothing.
 use lib.Ieee.{Float, binary32, ofBits}
 
 -- the logarithms to base 2 of 10 and of e, and the logarithm to base 10 of 2

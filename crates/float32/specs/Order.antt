@@ -1,8 +1,10 @@
--- Document 01's maximum, minimum and clamp, the magnitude, and the tests that limits are made of. Assumes nothing.
+-- Document 01's maximum, minimum and clamp, the absolute value, and the tests that the limits use.
+-- Assumes nothing.
 use mathlib.Core.Bool.{Bool, true, false, cond, _&&_}
 use lib.Ieee.{Float, nan, inf, fin, lt, le, isNan}
 
--- "The maximum of a and b is b if a < b, else a; .. where one of the two is NaN, .. the other." Where b alone is NaN, a < b is false.
+-- "The maximum of a and b is b if a < b, else a; .. where one of the two is NaN, .. the other."
+-- Where b alone is NaN, a < b is false.
 unfoldable pub maximum : Float → Float → Float
 maximum a b = cond (lt a b) b (cond (isNan a) b a)
 
@@ -14,7 +16,7 @@ minimum a b = cond (lt b a) b (cond (isNan a) b a)
 unfoldable pub clamp : Float → Float → Float → Float
 clamp lo hi x = cond (lt x lo) lo (cond (lt hi x) hi x)
 
--- The sign cleared, a zero's too.
+-- The absolute value: the sign is cleared, of a zero too.
 unfoldable pub magnitude : Float → Float
 magnitude nan = nan
 magnitude (inf s) = inf false

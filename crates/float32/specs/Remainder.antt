@@ -1,4 +1,5 @@
--- "rem_euclid(1) of v is v % 1, and where that is below 0 its rounded sum with 1." The sum can be 1. Assumes nothing.
+-- "rem_euclid(1) of v is v % 1, and where that is below 0 its rounded sum with 1." The sum can be
+-- 1. Assumes nothing.
 use mathlib.Core.Bool.{cond}
 use Prim.Native.Nat.{_/_, _^_}
 use lib.IntN.{pos}
@@ -17,7 +18,8 @@ half = ofBits binary32 0x3f00_0000
 unfoldable pub remEuclidOne : Float → Float
 remEuclidOne v = let r = rem binary32 v one in cond (lt r zero) (add binary32 r one) r
 
--- The size of a cut to a whole number, for a below 2 ^ 24: `mag` counts a in units of 2 ^ -149, f32's smallest value.
+-- The integer part of the size of `a`, for an `a` below 2 ^ 24: `mag` counts it in units of
+-- 2 ^ -149, f32's smallest value.
 unfoldable pub wholePart : Float → Float
 wholePart a = ofInt binary32 (pos (mag binary32 a / 2 ^ low binary32))
 

@@ -1,4 +1,5 @@
--- `smoothstep`, the Rust's step from 0 to 1 without corners: p * p * (3 - 2 * p), rounded at each operation. Assumes nothing.
+-- The Rust's `smoothstep`, a smooth step from 0 to 1: p * p * (3 - 2 * p), rounded at each
+-- operation. Assumes nothing.
 use lib.Ieee.{Float, binary32, ofBits, sub, mul}
 
 abbrev pub two : Float

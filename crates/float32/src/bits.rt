@@ -1,5 +1,5 @@
-// A float and its bit pattern: the sign is the top bit, then 8 bits of exponent, then 23 digits
-// below the leading one.
+// A float and its bit pattern: the sign bit, 8 exponent bits, and the 23 bits below the implicit
+// leading 1.
 ghost use mathlib.Core.Path.{_≡_};
 ghost use mathlib.Core.Bool.{false, not};
 ghost use Prim.Native.Nat.{_≤_, min};
@@ -7,14 +7,14 @@ ghost use lib.Dec.{T};
 ghost use lib.Ieee.{isNan, round, binary32, toBits, ofBits};
 ghost use Rattle.float32.specs.Value.{Decoded};
 
-// The bit pattern of a float; of a NaN the quiet one with its sign clear.
+// The bit pattern of a float. Every NaN gives the quiet NaN with its sign clear.
 pub fn bits_of(x: f32) -> u32
     ensures { λ r. ⌜ r ≡ toBits binary32 x ⌝ }
 {
     if x != x { 0x7fc0_0000 } else { f32::to_bits(x) }
 }
 
-// The float of a bit pattern. Every pattern above an infinity's, the sign apart, is a NaN's.
+// The float with a bit pattern. Apart from the sign bit, every pattern above infinity's is a NaN.
 pub fn of_bits(n: u32) -> f32
     ensures { λ r. ⌜ r ≡ ofBits binary32 n ⌝ }
 {
@@ -25,8 +25,8 @@ pub fn of_bits(n: u32) -> f32
     }
 }
 
-// A float that is no NaN, taken apart: mant * 2^(expo - 149), negative where neg is true. An
-// infinity counts as 2^128.
+// A float other than NaN as mant * 2^(expo - 149), negative where neg is true. Infinity counts as
+// 2^128.
 pub struct Parts {
     pub neg: bool,
     pub mant: u32,
@@ -63,7 +63,7 @@ pub fn fraction(f: u32) -> f32
     ((f as i32) as f32) / 16777216.0
 }
 
-// A shift by 31 places is as good as one by more, for digits below 2^31.
+// A shift count of at most 31: for numbers below 2^31 a longer right shift gives the same.
 pub fn capped_shift(places: u32) -> u32
     ensures { λ r. ⌜ r ≡ min places 31 ⌝ }
 {

@@ -15,7 +15,7 @@ pub const FRAC_PI_4: f32 = 0.785398163397448309615660845819875721;
 
 pub const SQRT_2: f32 = 1.41421356237309504880168872420969808;
 
-// All of them. A constant has no contract of its own; this one holds each to its bits.
+// All of them in one contract, which fixes the bits of each: a constant has no contract of its own.
 pub fn all_constants() -> [f32; 6]
     ensures { λ r. ⌜ r ≡ LOG2-10 ∷ LOG2-E ∷ LOG10-2 ∷ TAU ∷ FRAC-PI-4 ∷ SQRT-2 ∷ [] ⌝ }
 {

@@ -1,5 +1,6 @@
-// f32 beside the language's own operators, by topic. Every function is equal to a definition in
-// specs/, and none but the inner ones of bits and remainder asks anything of its arguments.
+// What the language's operators lack for f32, by topic. Every function equals a definition in
+// specs/ and takes any argument, except three helpers of bits and remainder that have
+// preconditions.
 pub mod bits;
 pub mod constants;
 pub mod order;

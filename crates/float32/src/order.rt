@@ -1,8 +1,8 @@
-// Maximum, minimum, clamp and magnitude, and the tests that limits are made of.
+// Maximum, minimum, clamp and absolute value, and the tests that the limits use.
 ghost use mathlib.Core.Path.{_≡_};
 ghost use Rattle.float32.specs.Order.{maximum, minimum, clamp, magnitude, within, finite};
 
-// The greater; where one of the two is NaN, the other. Of two zeros the first.
+// The greater of the two; if one is NaN, the other. Of two zeros the first.
 pub fn max(a: f32, b: f32) -> f32
     ensures { λ r. ⌜ r ≡ maximum a b ⌝ }
 {
@@ -12,7 +12,7 @@ pub fn max(a: f32, b: f32) -> f32
     if a != a { b } else { a }
 }
 
-// The lesser; where one of the two is NaN, the other. Of two zeros the first.
+// The lesser of the two; if one is NaN, the other. Of two zeros the first.
 pub fn min(a: f32, b: f32) -> f32
     ensures { λ r. ⌜ r ≡ minimum a b ⌝ }
 {
@@ -32,7 +32,7 @@ pub fn clamp(x: f32, lo: f32, hi: f32) -> f32
     if hi < x { hi } else { x }
 }
 
-// The sign bit cleared, also of a zero.
+// Clears the sign bit, so -0 gives +0.
 pub fn abs(x: f32) -> f32
     ensures { λ r. ⌜ r ≡ magnitude x ⌝ }
 {
@@ -42,14 +42,14 @@ pub fn abs(x: f32) -> f32
     f32::from_bits(f32::to_bits(x) & 0x7fff_ffff)
 }
 
-// lo ≤ x and x ≤ hi: false of NaN.
+// lo ≤ x and x ≤ hi: false for NaN.
 pub fn in_range(x: f32, lo: f32, hi: f32) -> bool
     ensures { λ r. ⌜ r ≡ within lo hi x ⌝ }
 {
     if lo <= x { x <= hi } else { false }
 }
 
-// Neither NaN nor an infinity: of an infinity the difference is NaN.
+// Neither NaN nor infinite: for both, x - x is NaN.
 pub fn is_finite(x: f32) -> bool
     ensures { λ r. ⌜ r ≡ finite x ⌝ }
 {

@@ -1,5 +1,5 @@
-// Rust's powi by the two exponents that the port uses, with the order of the products that document
-// 01 gives, and the step made of products.
+// Rust's powi for the two exponents that the port uses, multiplied in document 01's order, and the
+// Rust's smoothstep.
 ghost use mathlib.Core.Path.{_≡_};
 ghost use Rattle.float32.specs.Powers.{square, fifth};
 ghost use Rattle.float32.specs.Smoothstep.{smoothstep};

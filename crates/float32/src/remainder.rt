@@ -1,4 +1,4 @@
-// Rust's rem_euclid by 1: where a value stands in its turn of length 1.
+// Rust's rem_euclid(1.0): a value's position within a cycle of length 1.
 ghost use mathlib.Core.Path.{_≡_};
 ghost use mathlib.Core.Bool.{false};
 ghost use lib.Dec.{T};
@@ -10,8 +10,8 @@ use crate::order::abs;
 // 2^23: from here on every f32 is a whole number.
 const ALL_WHOLE: f32 = 8388608.0;
 
-// The size's whole part. Sums from 2^23 to 2^24 are whole numbers, so the sum with 2^23 is rounded
-// to the nearest one, which may lie above.
+// The integer part of a size. From 2^23 to 2^24 every f32 is a whole number, so adding 2^23 rounds
+// the size to the nearest one, which may be above it.
 fn whole_part(size: f32) -> f32
     requires { ⌜ (sign size ≡ false) × T (lt size allWhole) ⌝ }
     ensures { λ r. ⌜ r ≡ wholePart size ⌝ }
@@ -24,9 +24,9 @@ fn whole_part(size: f32) -> f32
     }
 }
 
-// Method. The remainder is what the whole part leaves of v's size, with v's sign; `%` itself would
-// be a call of the C library. Where nothing is left the answer is 0 with v's sign, as `v * 0.0` is;
-// of an infinity and of NaN that is NaN, as their remainder is. Below 0 the rounded sum can be 1.
+// Method. The remainder is |v| minus its integer part, with v's sign; `%` itself would call the C
+// library. For a whole v it is 0 with v's sign, which is `v * 0.0`; for an infinity or NaN both are
+// NaN. For a negative v the rounded sum with 1 can be 1 itself.
 pub fn rem_euclid_one(v: f32) -> f32
     ensures { λ r. ⌜ r ≡ remEuclidOne v ⌝ }
 {

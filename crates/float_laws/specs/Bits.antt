@@ -1,4 +1,5 @@
--- The bit patterns of values that are not negative are in the values' order: from 0 up to the infinity's pattern, a larger pattern is a larger value. Assumes nothing.
+-- The bit patterns of values that are not negative are in the values' order: from 0 up to the
+-- infinity's pattern, a larger pattern is a larger value. Assumes nothing.
 use mathlib.Core.Path.{_≡_, refl, sym, ap, _∙_, subst}
 use mathlib.Core.Logic.{inl, inr}
 use mathlib.Core.Bool.{Bool, true, false, not, cond}

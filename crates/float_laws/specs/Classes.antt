@@ -1,5 +1,8 @@
--- The dual window over slice indices. The code's step at index i: the squares of the values at i, i + hop, i + 2 hop, .., round the end, summed from +0, and the value at i over that sum.
--- The indices of one residue class modulo hop read one list of values, each from its own place on, so the bound of Window is one of the slice. Assumes nothing.
+-- The dual window over slice indices. The code's step at index i: the squares of the values at i,
+-- i + hop, i + 2 hop, .., wrapping around at the end, summed from +0, and the value at i over that
+-- sum.
+-- The indices of one residue class modulo hop read one list of values, each from its own place on,
+-- so the bound of Window is one of the slice. Assumes nothing.
 use mathlib.Core.Path.{_≡_, refl, sym, ap, _∙_, subst}
 use mathlib.Core.Bool.{Bool, true, false, cond}
 use mathlib.Core.List.{List}
@@ -29,14 +32,16 @@ energyAt f w hop overlap i = fold (λ s offset. add f s (squared f (getD w ((i +
 abbrev pub dualBy : Format → Float → List Float → ℕ → ℕ → ℕ → Float
 dualBy f c w hop overlap i = div f (getD w i nan) (maximum (energyAt f w hop overlap i) c)
 
--- ---- the exact sum of products over a class, in units of the smallest value's square: products above zero add to `gains`, those below it to `losses`, and the sum is gains less losses
+-- ---- the exact sum of products over a class, in units of the smallest value's square: products
+-- above zero add to `gains`, those below it to `losses`, and the sum is gains less losses
 abbrev pub gain : Format → Float → Float → ℕ
 gain f x y = cond (unlike (sign x) (sign y)) 0 (mag f x * mag f y)
 
 abbrev pub loss : Format → Float → Float → ℕ
 loss f x y = cond (unlike (sign x) (sign y)) (mag f x * mag f y) 0
 
--- the products x i · y i at the indices below n that are r modulo hop are finite, and their exact sum is 1 within 2 ^ -19
+-- the products x i · y i at the indices below n that are r modulo hop are finite, and their exact
+-- sum is 1 within 2 ^ -19
 pub record SumsToOne (f : Format) (n hop r : ℕ) (x y : ℕ → Float) : Type 0 where
   pub finite : (i : ℕ) → i < n → i % hop ≡ r → T (real f (x i)) × T (real f (y i))
   pub most : 524288 * residues hop r n (λ i. gain f (x i) (y i)) ≤ 524289 * (2 ^ low f * 2 ^ low f) + 524288 * residues hop r n (λ i. loss f (x i) (y i))
@@ -199,7 +204,8 @@ divisor-small : 2 ^ 39 * mag binary32 least-divisor ≤ 2 ^ low binary32
 unfolding ofBits ofFields odd trailingZeros mag
 divisor-small = lit≤ tt
 
--- document 01: where the squares of the analysis values at all indices equal modulo length/overlap add to at least 2 ^ -30, the exact sum of analysis times synthesis over them is 1 within 2 ^ -19
+-- document 01: where the squares of the analysis values at all indices equal modulo length/overlap
+-- add to at least 2 ^ -30, the exact sum of analysis times synthesis over them is 1 within 2 ^ -19
 pub dual-window-bound : (w s : List Float) (hop overlap r : ℕ) → length w ≡ overlap * hop → overlap ≤ 16 → r < hop
     → ((i : ℕ) → i < length w → T (fits binary32 (getD w i nan)) × T (le (sixteen true) (getD w i nan)) × T (le (getD w i nan) (sixteen false)))
     → 2 ^ low binary32 * 2 ^ low binary32 ≤ 2 ^ 30 * residues hop r (length w) (λ i. mag binary32 (getD w i nan) * mag binary32 (getD w i nan))

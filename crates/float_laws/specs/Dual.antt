@@ -1,4 +1,5 @@
--- The dual window's bound, over whole numbers. A value's size is m, in units of which L make 1. Assumes nothing.
+-- The dual window's bound, over whole numbers. A value's size is m, in units of which L make 1.
+-- Assumes nothing.
 use mathlib.Core.Path.{_≡_, ap, _∙_, subst}
 use mathlib.Core.List.{List, [], _∷_}
 use Prim.Native.Nat.{ℕ, suc, _+_, _*_, _^_, _≤_, _<_}
@@ -71,7 +72,8 @@ squares-near L q xs h k l a =
     let t = tiny L S (length xs) h k l in
     near-of 2 (total q xs * L) S (S + S) (S + S) (omega (arith, squares-hi L q xs a)) (omega (arith, squares-lo L q xs a)) (omega arith) (omega arith)
 
--- ---- the quotients: of an item m is the value's size, D the divisor's and t the rounded quotient's
+-- ---- the quotients: of an item m is the value's size, D the divisor's and t the rounded
+-- quotient's
 pub record Item : Type 0 where
   pub m : ℕ
   pub D : ℕ

@@ -193,7 +193,7 @@ pub rnd-at-most : (f : Format) (x : Float) (a c : ℕ) → T (real f x) → 0 < 
 rnd-at-most f x a c p C h = le-trans (rnd-mono f a c (mag f x) (2 ^ low f) C (pow-pos (low f)) h) (le-of-eq (rnd-real f x p))
 
 -- ---- for `f32`, with the powers of two written out
--- `omega` reads no number of more than 38 digits, so 2 ^ 149 stands behind a variable
+-- `omega` takes no number of more than 38 digits, so 2 ^ 149 is kept in a variable
 pub hi-32 : (x n c : ℕ) → 8388608 * (2 * x) ≤ 8388608 * (2 * n) + (n + 8388608 * c) → 16777216 * x ≤ 16777217 * n + 8388608 * c
 hi-32 x n c h = omega arith
 

@@ -298,7 +298,7 @@ positive-above f (fin s n d) r h = go s n (above-zero f (fin s n d) r h)
     go false n h =
         elim (eq-zero-or-pos n) [ inl e ↦ absurd (omega (arith, h .1, ap (λ (w : ℕ). mag f (fin false w d)) e, mag-zero f false d)) | inr p ↦ lt→ltb 0 n p ]
 
--- below zero the order turns, since the negative of the image is one that keeps it
+-- below zero the order is reversed, since the negative of the image is one that keeps it
 not-nan : (x y : Float) → T (le x y) → T (not (isNan x)) × T (not (isNan y))
 unfolding le isNan
 not-nan nan y h = absurd h

@@ -1,4 +1,5 @@
--- The operations keep the order. A result's key is a rounding, which keeps the order of whole numbers, of what the operands' keys say. Assumes nothing.
+-- The operations keep the order. A result's key is a rounding, which keeps the order of whole
+-- numbers, of what the operands' keys say. Assumes nothing.
 use mathlib.Core.Path.{_≡_, refl, sym, ap, _∙_, subst₂}
 use mathlib.Core.Logic.{_⊎_, inl, inr}
 use mathlib.Core.Bool.{Bool, true, false, not, _&&_, cond, Bool·beq}
@@ -149,7 +150,7 @@ number-neg f nan p = absurd p
 number-neg f (inf s) p = tt
 number-neg f (fin s m e) p = neg-fits f (fin s m e) p
 
--- negation turns the order
+-- negation reverses the order
 module _ (f : Format) (x y : Float) (p : T (number f x)) (q : T (number f y)) where
   pub le-neg : T (le x y) → T (le (neg y) (neg x))
   le-neg h = key→le f (neg y) (neg x) (number-neg f y q) (number-neg f x p) (omega (arith, key-neg f x p, key-neg f y q, le→key f x y p q h))
@@ -266,7 +267,7 @@ neg-nonneg : (f : Format) (z : Float) → T (number f z) → T (le z plus-zero) 
 neg-nonneg f z p h =
     key-nonneg f (neg z) (number-neg f z p) (omega (arith, key-neg f z p, key-zero f, le→key f z plus-zero p (real-number f plus-zero (real-zero f false)) h))
 
--- with what is not positive the order turns
+-- with what is not positive the order is reversed
 pub mul-turns-l : (f : Format) (x y z : Float) → T (real f x) → T (real f y) → T (real f z) → T (le z plus-zero) → T (le x y) → T (le (mul f y z) (mul f x z))
 mul-turns-l f x y z p q r Z h =
     le-neg-back f (mul f y z) (mul f x z) (mul-number f y z q r) (mul-number f x z p r)

@@ -1,5 +1,7 @@
--- Rounding, in units of the format's smallest value. `rnd f a c` is the size of a / c rounded to the format f, in those units. It takes no sign: `round` with either sign has that size.
--- It keeps the order, sees only the value of the fraction, and leaves every value of the format alone. Assumes nothing.
+-- Rounding, in units of the format's smallest value. `rnd f a c` is the size of a / c rounded to
+-- the format f, in those units. It takes no sign: `round` with either sign has that size.
+-- It keeps the order, sees only the value of the fraction, and leaves every value of the format
+-- alone. Assumes nothing.
 use mathlib.Core.Path.{_≡_, refl, sym, ap, _∙_, subst}
 use mathlib.Core.Bool.{Bool, true, false, not, cond}
 use Prim.Native.Nat.{ℕ, zero, suc, _+_, _-_, _*_, _/_, _^_, _≤_, _<_}
@@ -51,7 +53,7 @@ unfolding rnd
 mag-round f false a c = refl
 mag-round f true a c = ap (mag f) (round-neg f a c) ∙ mag-neg f (round f false a c)
 
--- ---- `round` is no NaN, and has the sign that it is given
+-- ---- `round` is never NaN, and has the sign that it is given
 pub odd-kind : (d : ℕ) (s : Bool) (q k l : ℕ) → (sign (odd d s q k l) ≡ s) × T (not (isNan (odd d s q k l)))
 unfolding odd isNan
 odd-kind d s zero k l = (refl, tt)
@@ -106,7 +108,8 @@ mag-of-value f (fin t m e) s a c h v =
     ∙ ap (λ (z : ℕ). z * 2 ^ low f) (v .1)
     ∙ mul-right-comm a (down e) (2 ^ low f))
 
--- ---- a whole number of units that the format holds: at most `prec` binary digits, and zeros after them
+-- ---- a whole number of units that the format holds: at most `prec` binary digits, and zeros after
+-- them
 pub record Held (f : Format) (n : ℕ) : Type 0 where
   pub digits : ℕ
   pub zeros : ℕ

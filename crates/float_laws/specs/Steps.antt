@@ -1,6 +1,9 @@
--- A sum with a constant so large that a value of its size has no digits below a step of 2 ^ k units: the sum is rounded to a whole number of steps, and its bit pattern counts them.
--- So the floor of x in steps comes from one sum: the low digits of the pattern are the floor, or one more where the rounding went up, and that is where x is below the sum less the constant.
--- The constant c is m steps, and t is x + c, in units. Between 2 ^ (prec - 1) and 2 ^ prec steps a value has just `prec` digits down to a step. Assumes nothing.
+-- A sum with a constant so large that a value of its size has no digits below a step of 2 ^ k
+-- units: the sum is rounded to a whole number of steps, and its bit pattern counts them.
+-- So the floor of x in steps comes from one sum: the low digits of the pattern are the floor, or
+-- one more where the rounding went up, and that is where x is below the sum less the constant.
+-- The constant c is m steps, and t is x + c, in units. Between 2 ^ (prec - 1) and 2 ^ prec steps a
+-- value has just `prec` digits down to a step. Assumes nothing.
 use mathlib.Core.Path.{_≡_, refl, sym, ap, _∙_, subst}
 use mathlib.Core.Logic.{inl, inr}
 use mathlib.Core.Bool.{Bool, true, false, not, cond}
@@ -228,7 +231,8 @@ module _ (f : Format) (x c : Float) (k m t : ℕ) (p : T (real f x)) (q : T (rea
       ∙ ap (λ (z : ℕ). z - hid f) (eq-of-mul-eq-mul-right (2 ^ k) (pow-pos k) n Q (sym (whole .1) ∙ ap (rndU f) e ∙ kept Q at-most))
 
 -- ---- in its two uses
--- x from 0 up, with the least constant, of 2 ^ (prec - 1) steps: the digits are the floor of x itself
+-- x from 0 up, with the least constant, of 2 ^ (prec - 1) steps: the digits are the floor of x
+-- itself
 module _ (f : Format) (x c : Float) (k t : ℕ) (p : T (real f x)) (q : T (real f c)) (C : key f c ≡ overflow f + hid f * 2 ^ k) (E : key f x ≡ overflow f + t)
     (hi : t + 2 ^ k ≤ hid f * 2 ^ k) (room : prec f + k ≤ low f + suc (emax f)) where
   pub nonneg-real : T (real f (add f x c))

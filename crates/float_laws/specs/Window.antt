@@ -1,4 +1,5 @@
--- The dual window over one residue class, as the list of the class's values: the operations in the order of the code, and the bound of Dual for them. Assumes nothing.
+-- The dual window over one residue class, as the list of the class's values: the operations in the
+-- order of the code, and the bound of Dual for them. Assumes nothing.
 use mathlib.Core.Path.{_≡_, refl, sym, ap, _∙_, subst}
 use mathlib.Core.Bool.{Bool, true, false}
 use mathlib.Core.List.{List, [], _∷_, _++_}
@@ -38,7 +39,7 @@ energy f d ys = fold (λ s x. add f s (squared f x)) d ys
 abbrev pub dual : Format → Float → List Float → Float → Float
 dual f c ys x = div f x (maximum (energy f plus-zero ys) c)
 
--- the list read from place j on, round its end
+-- the list read from index j on, wrapping around at its end
 abbrev pub turn : ℕ → List Float → List Float
 turn j xs = drop j xs ++ take j xs
 
@@ -186,7 +187,8 @@ mags-length : (f : Format) (xs : List Float) → length (mags f xs) ≡ length x
 mags-length f [] = refl
 mags-length f (x ∷ xs) = ap suc (mags-length f xs)
 
--- ---- one quotient: ys are the values whose squares are summed, and Q is the sum of the rounded squares
+-- ---- one quotient: ys are the values whose squares are summed, and Q is the sum of the rounded
+-- squares
 module _ (f : Format) (P : 2 ^ (prec f - 1) ≡ 8388608) (big : 2 ^ 57 ≤ 2 ^ low f) (wide : 64 ≤ emax f) (c : Float) (cr : T (real f c))
     (cs : 2 ^ 39 * mag f c ≤ 2 ^ low f) (Q : ℕ) (fl : 2 ^ low f ≤ 2 ^ 31 * Q) where
   module _ (ys : List Float) (ok : All (AtMost16 f) ys) (few : length ys ≤ 16) (same : total (λ m. rndM f m m) (mags f ys) ≡ Q) where

@@ -1,4 +1,5 @@
--- A table prepared at an accepted rate and size is accepted: no entry from 1 on is outside -2..17. Assumes nothing.
+-- A table prepared at an accepted rate and size is accepted: no entry from 1 on is outside -2..17.
+-- Assumes nothing.
 use mathlib.Core.Path.{sym, subst}
 use Prim.Native.Nat.{ℕ, _+_, _/_, _^_, _≤_, _<_}
 use native.Mathlib.Omega.{arith}

@@ -1,5 +1,7 @@
--- A prepared table is accepted: for every accepted rate and size each entry from 1 on lies in -2..17. The frequency of a bin from 1 to size/2 lies between a quarter of a hertz and 2 ^ 17, as
--- rounding keeps the order and the ends are computed for each of the nine sizes; so it is a positive normal number, and L2, which never falls, is -2 and 17 at those ends. Assumes nothing.
+-- A prepared table is accepted: for every accepted rate and size each entry from 1 on lies in
+-- -2..17. The frequency of a bin from 1 to size/2 lies between a quarter of a hertz and 2 ^ 17, as
+-- rounding keeps the order and the ends are computed for each of the nine sizes; so it is a
+-- positive normal number, and L2, which never falls, is -2 and 17 at those ends. Assumes nothing.
 use mathlib.Core.Path.{_≡_, refl, ap, _∙_, subst}
 use mathlib.Core.Bool.{Bool, true, false}
 use Prim.Native.Nat.{ℕ, _+_, _-_, _*_, _/_, _^_, _≤_}

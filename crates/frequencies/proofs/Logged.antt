@@ -1,4 +1,5 @@
--- The logarithms of the bins' frequencies are the table's entries: at bin 0, which counts as 0 Hz, L2 is 0. Assumes nothing.
+-- The logarithms of the bins' frequencies are the table's entries: at bin 0, which counts as 0 Hz,
+-- L2 is 0. Assumes nothing.
 use mathlib.Core.Path.{_≡_, refl, sym, ap, _∙_}
 use mathlib.Core.Bool.{Bool, true, false, cond}
 use mathlib.Core.List.{List}

@@ -1,4 +1,5 @@
--- An accepted size is 2 ^ k for a k in 6..14, since the nine sizes are the powers of two from there on. Assumes nothing.
+-- An accepted size is 2 ^ k for a k in 6..14, since the nine sizes are the powers of two from there
+-- on. Assumes nothing.
 use mathlib.Core.Path.{_≡_}
 use mathlib.Core.Bool.{Bool, true, false, _||_}
 use mathlib.Core.List.{List, [], _∷_}

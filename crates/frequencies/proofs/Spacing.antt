@@ -1,4 +1,5 @@
--- The hertz between two bins are exact: a rate of 8,000 or more has so many units that a power of two up to 2 ^ 14 divides their number, and the quotient is an f32. Assumes nothing.
+-- The bin spacing is exact: in units of the smallest f32 a rate of 8,000 or more is divisible by a
+-- power of two up to 2 ^ 14, and the quotient is an f32. Assumes nothing.
 use mathlib.Core.Path.{_≡_, sym, ap, _∙_}
 use mathlib.Core.Bool.{false}
 use Prim.Native.Nat.{ℕ, _+_, _*_, _^_, _≤_}

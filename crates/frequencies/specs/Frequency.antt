@@ -1,4 +1,5 @@
--- The frequency table of document 01: "`MaskWorkspace::prepare` writes 0 at entry 0 and L2(bin·bin_hz) above." Assumes nothing.
+-- The frequency table of document 01: "`MaskWorkspace::prepare` writes 0 at entry 0 and
+-- L2(bin·bin_hz) above." Assumes nothing.
 use mathlib.Core.Bool.{cond}
 use Prim.Native.Nat.{ℕ}
 use lib.Dec.{eqb}
@@ -7,7 +8,7 @@ use lib.Ieee.{Float, binary32, div, mul, ofInt}
 use Rattle.float32.specs.Remainder.{zero}
 use Rattle.power.specs.Log.{L2}
 
--- the hertz between two bins that stand side by side
+-- the bin spacing in hertz
 abbrev pub binHz : Float → ℕ → Float
 binHz rate size = div binary32 rate (ofInt binary32 (pos size))
 
@@ -15,7 +16,7 @@ binHz rate size = div binary32 rate (ofInt binary32 (pos size))
 abbrev pub hertz : Float → ℕ → Float
 hertz spacing bin = mul binary32 (ofInt binary32 (pos bin)) spacing
 
--- a bin's frequency, of bin 0 just 0, which L2 takes to 0 too
+-- a bin's frequency; 0 for bin 0, whose L2 is 0 too
 unfoldable pub hertzOrZero : Float → ℕ → Float
 hertzOrZero spacing bin = cond (eqb bin 0) zero (hertz spacing bin)
 

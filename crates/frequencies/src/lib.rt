@@ -1,4 +1,5 @@
-// The frequencies of the bins of a spectrum, and the table of their logarithms.
+// The frequencies of the bins of a spectrum, and the table of their logarithms. Preparing the table
+// outside the audio callback removes the logarithm from the bins x partials loop.
 pub mod rows;
 
 ghost use mathlib.Core.Path.{_≡_};
@@ -10,7 +11,7 @@ ghost use Rattle.frequencies.specs.Frequency.{binHz, hertzOrZero, prepar
 use power::table::PowerTable;
 use power::table::power_table;
 
-// The hertz between two bins that stand side by side. Up to 2^24 an f32 counts without a gap.
+// The bin spacing in hertz. A size up to 2^24 is exact as an f32.
 pub fn bin_hz(sample_rate: f32, fft_size: usize) -> f32
     requires { ⌜ «fft_size» ≤ 2 ^ 24 ⌝ }
     ensures { λ r. ⌜ r ≡ binHz «sample_rate» «fft_size» ⌝ }
@@ -18,7 +19,7 @@ pub fn bin_hz(sample_rate: f32, fft_size: usize) -> f32
     sample_rate / fft_size as f32
 }
 
-// A bin's frequency; that of bin 0 counts as 0, which has no logarithm.
+// A bin's frequency; 0 for bin 0.
 fn hertz(bin: usize, bin_hz: f32) -> f32
     requires { ⌜ bin ≤ 2 ^ 24 ⌝ }
     ensures { λ r. ⌜ r ≡ hertzOrZero «bin_hz» bin ⌝ }
@@ -41,8 +42,7 @@ fn fill_hertz(table: &mut [f32], bin_hz: f32)
     }
 }
 
-// The frequencies and then their logarithms, by the powers that `fill` lends; bin 0, whose
-// frequency has none, has 0.
+// The frequencies, then their logarithms in place; bin 0, whose frequency has no logarithm, gets 0.
 fn fill_all(powers: &PowerTable, table: &mut [f32], sample_rate: f32, fft_size: usize)
     requires { ⌜ (now powers ≡ powerTable)
         × («fft_size» ≤ 2 ^ 24)
@@ -56,7 +56,7 @@ fn fill_all(powers: &PowerTable, table: &mut [f32], sample_rate: f32, fft_size: 
     power_rows::log2::log2_row(table, powers, count);
 }
 
-// Fills the table, from bin 0 on.
+// Fills the table, from bin 0 on. To be done after a sample-rate or FFT-size change.
 pub fn fill(table: &mut [f32], sample_rate: f32, fft_size: usize)
     requires { ⌜ («fft_size» ≤ 2 ^ 24) × (length (now table) ≤ 2 ^ 24) ⌝ }
     ensures { λ _. ⌜ now (table .exit)

@@ -1,4 +1,4 @@
-// The frequencies of a row of bins, over a frequency.
+// The frequencies of a row of bins relative to one frequency.
 ghost use mathlib.Core.Path.{_≡_};
 ghost use Prim.Native.Nat.{_+_, _^_, _≤_};
 ghost use lib.ListN.{length};

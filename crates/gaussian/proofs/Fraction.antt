@@ -1,4 +1,5 @@
--- What is left of a float from 0 up when its floor is taken away lies in 0..1: in units, n * 2 ^ low ≤ x < (n + 1) * 2 ^ low for n its floor, and rounding keeps the order.
+-- What is left of a float from 0 up when its floor is taken away lies in 0..1: in units,
+-- n * 2 ^ low ≤ x < (n + 1) * 2 ^ low for n its floor, and rounding keeps the order.
 -- Assumes nothing.
 use mathlib.Core.Path.{_≡_, refl, sym, ap, _∙_, subst}
 use mathlib.Core.Bool.{Bool, true, false}

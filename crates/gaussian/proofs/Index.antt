@@ -1,4 +1,5 @@
--- The entry on the left of a place by the bits of place + 2 ^ 23, which count whole steps: less 1 where the sum was rounded up. Assumes nothing.
+-- The entry on the left of a place by the bits of place + 2 ^ 23, which count whole steps: less 1
+-- where the sum was rounded up. Assumes nothing.
 use mathlib.Core.Path.{_≡_, refl, sym, ap, _∙_}
 use mathlib.Core.Bool.{Bool, true, false, not, cond}
 use Prim.Native.Nat.{ℕ, _+_, _-_, _*_, _/_, _%_, _^_, _≤_, _<_}

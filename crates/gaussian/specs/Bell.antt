@@ -1,4 +1,5 @@
--- The bell of a lobe at a relative square: exp(-square/2), read from the Gaussian table with a line between entries. Assumes nothing.
+-- The bell of a lobe at a relative square: exp(-square/2), read from the Gaussian table with linear
+-- interpolation. Assumes nothing.
 use Prim.Native.Nat.{ℕ, _+_, min}
 use lib.Dec.{T}
 use lib.IntN.{pos}
@@ -14,7 +15,7 @@ use Rattle.gaussian.specs.Table.{GAUSSIAN-LUT-STEPS, G}
 abbrev pub GAUSSIAN-MAX-RELATIVE-SQUARED : Float
 GAUSSIAN-MAX-RELATIVE-SQUARED = ofBits binary32 0x4180_0000
 
--- entries to a relative square of 1: 1,024 over 16
+-- steps per unit of the relative square: 1,024 / 16
 abbrev pub STEPS-PER-SQUARE : Float
 STEPS-PER-SQUARE = ofBits binary32 0x4280_0000
 
@@ -22,7 +23,7 @@ STEPS-PER-SQUARE = ofBits binary32 0x4280_0000
 abbrev pub LAST-ENTRY : Float
 LAST-ENTRY = ofBits binary32 0x4480_0000
 
--- the place in the table, in steps and parts of a step
+-- the position in the table, in steps
 unfoldable pub position : Float → Float
 position square = mul binary32 (clamp zero GAUSSIAN-MAX-RELATIVE-SQUARED square) STEPS-PER-SQUARE
 
@@ -32,18 +33,19 @@ pub record Place (place : Float) : Type 0 where
   pub low : T (le plus-zero place)
   pub high : T (le place LAST-ENTRY)
 
--- the entry on its left, none past the last, 1,024, and the part of the step that lies between them
+-- the entry on its left, at most 1,024, and the fraction of a step from there
 abbrev pub indexOf : Float → ℕ
 indexOf place = min (floorCount place) GAUSSIAN-LUT-STEPS
 
 abbrev pub partOf : Float → Float
 partOf place = sub binary32 place (ofInt binary32 (pos (indexOf place)))
 
--- a part of the way from an entry to the one on its right. The last entry has itself on its right
+-- linear interpolation from an entry to the one on its right. The last entry is its own right
+-- neighbour
 abbrev pub line : ℕ → Float → Float
 line left part = let right = min (left + 1) GAUSSIAN-LUT-STEPS in add binary32 (G left) (mul binary32 (sub binary32 (G right) (G left)) part)
 
--- between the entries on its left and on its right
+-- the bell at a position, between the entries on its left and right
 unfoldable pub between : Float → Float
 between place = line (indexOf place) (partOf place)
 

@@ -6,7 +6,7 @@ use lib.IntN.{pos}
 use lib.Ieee.{Float, binary32, ofBits, ofInt, neg, div}
 use Rattle.power.specs.Decimal.{exp}
 
--- entries to an exponent of 1
+-- entries per unit of the exponent
 abbrev pub STEPS-TO-ONE : Float
 STEPS-TO-ONE = ofBits binary32 0x4300_0000
 

@@ -6,7 +6,7 @@ use mathlib.Core.List.{List, [], _∷_, map}
 use lib.ListN.{getD}
 use lib.Ieee.{Float, nan, binary32, ofBits}
 
--- the table's last place
+-- the index of the table's last entry
 abbrev pub GAUSSIAN-LUT-STEPS : ℕ
 GAUSSIAN-LUT-STEPS = 1024
 

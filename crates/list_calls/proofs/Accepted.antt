@@ -1,4 +1,5 @@
--- What an accepted size, overlap and window value are worth to the calls below: bounds in numbers. Assumes nothing.
+-- What an accepted size, overlap and window value are worth to the calls below: bounds in numbers.
+-- Assumes nothing.
 use mathlib.Core.Path.{_≡_, sym, _∙_, subst}
 use mathlib.Core.Bool.{Bool, true, false, not, _&&_, _||_}
 use mathlib.Core.List.{List, [], _∷_}

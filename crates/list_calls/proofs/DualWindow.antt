@@ -1,4 +1,6 @@
--- The dual of an accepted window has document 01's property: every value lies in -16..16, the overlap is at most 16 and divides the length, which is all that the bound of float_laws asks. Assumes nothing.
+-- The dual of an accepted window has document 01's property: every value lies in -16..16, the
+-- overlap is at most 16 and divides the length, which is all that the bound of float_laws asks.
+-- Assumes nothing.
 use mathlib.Core.Path.{_≡_}
 use mathlib.Core.Bool.{true, false}
 use mathlib.Core.List.{List}

@@ -1,4 +1,5 @@
--- A fact of every entry of a list: of the numbers of a range, of the entries before one that stops, and from a fact at each place. Assumes nothing.
+-- A fact of every entry of a list: of the numbers of a range, of the entries before one that stops,
+-- and from a fact at each place. Assumes nothing.
 use mathlib.Core.Bool.{Bool, true, false, cond}
 use mathlib.Core.List.{List, [], _∷_}
 use Prim.Native.Nat.{ℕ, zero, suc, _+_, _≤_, _<_}

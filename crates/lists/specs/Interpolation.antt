@@ -1,4 +1,5 @@
--- Linear interpolation, with floor, between the entries of a table of whole numbers, over steps of a power of two. Assumes nothing.
+-- Linear interpolation, with floor, between the entries of a table of whole numbers, over steps of
+-- a power of two. Assumes nothing.
 use mathlib.Core.Path.{_≡_, refl, ap}
 use mathlib.Core.Logic.{_⊎_, inl, inr}
 use mathlib.Core.Bool.{Bool, true, false, not}

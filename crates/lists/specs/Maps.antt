@@ -1,4 +1,5 @@
--- Lists made entry by entry: `tabulate n f` has f k at each place k below n; `mapAt g xs` has g k x where xs has x at k; `mapRange g lo hi xs` has that from lo on and below hi, and xs elsewhere.
+-- Lists made entry by entry: `tabulate n f` has f k at each place k below n; `mapAt g xs` has g k x
+-- where xs has x at k; `mapRange g lo hi xs` has that from lo on and below hi, and xs elsewhere.
 -- For each its length and its entries. Assumes nothing.
 use mathlib.Core.Path.{_≡_, refl, sym, ap, _∙_}
 use mathlib.Core.Bool.{Bool, true, false, cond, _&&_}
@@ -32,7 +33,7 @@ module _ {A B : Type 0} where
   getD-mapFrom g j (x ∷ xs) zero d e h = rw (add-zero j)
   getD-mapFrom g j (x ∷ xs) (suc k) d e h = getD-mapFrom g (suc j) xs k d e (le-of-suc-le-suc h) ∙ rw (suc-add j k, add-suc j k)
 
-  -- d and e are what stands past the ends, and do not count
+  -- d and e are the defaults for reads past the ends, and do not matter
   pub getD-mapAt : (g : ℕ → A → B) (xs : List A) (k : ℕ) (d : A) (e : B) → k < length xs → getD (mapAt g xs) k e ≡ g k (getD xs k d)
   getD-mapAt g xs k d e h = getD-mapFrom g 0 xs k d e h ∙ rw (zero-add k)
 

@@ -1,4 +1,5 @@
--- Lists that are written over and over, entry by entry: a map of a map, a map of a part after a map of the part before it, and a run over a list at each entry. Assumes nothing.
+-- Lists that are written over and over, entry by entry: a map of a map, a map of a part after a map
+-- of the part before it, and a run over a list at each entry. Assumes nothing.
 use mathlib.Core.Path.{_≡_, refl, sym, ap, _∙_}
 use mathlib.Core.Logic.{_⊎_}
 use mathlib.Core.List.{List, [], _∷_}
@@ -53,7 +54,7 @@ module _ {A : Type 0} where
       → xs ≡ mapRange g lo hi xs₀
   turned-within hi stop {g} {lo} {xs₀} {xs} {i} t e w h = turned-to stop t w h ∙ ap (λ k. mapRange g lo k xs₀) e ∙ range-cut g lo hi xs₀
 
-  -- one more turn, of what the entry holds now
+  -- one more iteration, from what the entry holds now
   pub turned-next : (d : A) {g : ℕ → A → A} {lo : ℕ} {xs₀ xs : List A} {i : ℕ} {v : A} → Turned g lo xs₀ xs i → i < length xs₀ → v ≡ g i (getD xs i d)
       → Turned g lo xs₀ (set xs i v) (i + 1)
   turned-next d {g} {lo} {xs₀} {xs} {i} t h e = turned-more d t h (e ∙ ap (g i) (turned-read d t h))

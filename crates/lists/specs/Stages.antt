@@ -1,4 +1,5 @@
--- A row of entries worked out in stages, each a map of the same part: two stages are one map of the part; and what is done with a row that holds f at each of its places is done with f.
+-- A row of entries computed in stages, each a map of the same part: two stages are one map of the
+-- part; and what is computed from a row that holds f at each index is computed from f.
 -- Assumes nothing.
 use mathlib.Core.Path.{_≡_, refl, sym, ap, _∙_, subst}
 use mathlib.Core.Bool.{Bool, true, false, cond, _&&_}
@@ -44,7 +45,7 @@ module _ {A : Type 0} where
       at k x true = refl
       at k x false = refl
 
-  -- one more turn of a loop, of what the entry holds now
+  -- one more iteration of a loop, from what the entry holds now
   pub turned-held : (d : A) {g : ℕ → A → A} {lo : ℕ} {xs₀ xs : List A} {i : ℕ} {v : A} → Turned g lo xs₀ xs i → i < length xs₀ → v ≡ g i (getD xs i d)
       → Turned g lo xs₀ (set xs i v) (i + 1)
   turned-held d {g} {lo} {xs₀} {xs} {i} t h e = turned-more d t h (e ∙ ap (g i) (turned-read d t h))

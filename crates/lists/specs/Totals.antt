@@ -1,4 +1,5 @@
--- Sums of whole numbers over a list, and a fact of every entry: over joined lists, over lists made by `tabulate`, over ranges; and the sum over the numbers of one residue class. Assumes nothing.
+-- Sums of whole numbers over a list, and a fact of every entry: over joined lists, over lists made
+-- by `tabulate`, over ranges; and the sum over the numbers of one residue class. Assumes nothing.
 use mathlib.Core.Path.{_≡_, refl, sym, ap, _∙_}
 use mathlib.Core.Bool.{Bool, true, false, cond}
 use mathlib.Core.List.{List, [], _∷_, _++_}

@@ -1,5 +1,7 @@
--- The invariant of a loop that replaces the entries of a list one after the other: `Turned g lo xs₀ xs i` says that xs is xs₀ with g done at the entries from lo on and below i.
--- It holds of nothing done, it is kept by one more turn, and at the end it says which map the loop has made. Assumes nothing.
+-- The invariant of a loop that replaces the entries of a list one after the other:
+-- `Turned g lo xs₀ xs i` says that xs is xs₀ with g done at the entries from lo on and below i.
+-- It holds of nothing done, it is kept by one more iteration, and at the end it says which map the
+-- loop has made. Assumes nothing.
 use mathlib.Core.Path.{_≡_, refl, sym, ap, _∙_}
 use mathlib.Core.Logic.{_⊎_, ⊎-elim}
 use mathlib.Core.List.{List}
@@ -27,7 +29,7 @@ module _ {A : Type 0} where
   turned-read d {g} {lo} {xs₀} {xs} {i} t h =
       ap (λ l. getD l i d) (t .is) ∙ getD-mapRange g lo i xs₀ i d h ∙ between-high g lo i i (getD xs₀ i d) (le-refl i)
 
-  -- one more turn
+  -- one more iteration
   pub turned-more : (d : A) {g : ℕ → A → A} {lo : ℕ} {xs₀ xs : List A} {i : ℕ} {v : A} → Turned g lo xs₀ xs i → i < length xs₀ → v ≡ g i (getD xs₀ i d)
       → Turned g lo xs₀ (set xs i v) (i + 1)
   turned-more d {g} {lo} {xs₀} {xs} {i} {v} t h e =
@@ -93,7 +95,7 @@ module _ {A : Type 0} where
   turned-all {g} {xs₀} {xs} {i} t h =
       t .is ∙ mapFrom-same (between 0 i g) g 0 xs₀ (λ k x p q. between-in g 0 i k x (omega arith) (omega arith))
 
-  -- every entry is done, and what stood there did not count
+  -- every entry is done, whatever it held before
   pub turned-fill : {f : ℕ → A} {xs₀ xs : List A} {i : ℕ} → Turned (λ k x. f k) 0 xs₀ xs i → length xs₀ ≤ i → xs ≡ tabulate (length xs₀) f
   turned-fill {f} {xs₀} {xs} {i} t h = turned-all t h ∙ mapFrom-tab f 0 xs₀
 

@@ -1,4 +1,5 @@
--- Columns of numbers, worked over in place: two turns over the same entries are one, and the greatest is found going up. Assumes nothing.
+-- Arrays changed in place: two passes over the same entries are one, and the greatest is found in
+-- one pass. Assumes nothing.
 use mathlib.Core.Path.{_≡_, refl, sym, ap, _∙_}
 use mathlib.Core.Bool.{Bool, true, false, not, cond}
 use mathlib.Core.List.{List}
@@ -16,12 +17,12 @@ use Rattle.float_laws.specs.Order.{le-refl-f, le-trans-f, lt→le-f, not-lt-f}
 use Rattle.lobe_bounds.specs.Bound.{nearestPlace, boundAt, boundOf, Numbers, GreatestAt}
 
 module _ {A : Type 0} where
-  -- one more turn, of what the entry holds now
+  -- one more iteration, from what the entry holds now
   pub turned-next : (d : A) {g : ℕ → A → A} {lo : ℕ} {xs₀ xs : List A} {i : ℕ} {v : A} → Turned g lo xs₀ xs i → i < length xs₀ → v ≡ g i (getD xs i d)
       → Turned g lo xs₀ (set xs i v) (i + 1)
   turned-next d {g} {lo} {xs₀} {xs} {i} t h e = turned-more d t h (e ∙ ap (g i) (turned-read d t h))
 
-  -- two turns over the first n entries
+  -- two passes over the first n entries
   pub twice : (d : A) (f g : ℕ → A → A) (n : ℕ) (xs : List A) → mapRange f 0 n (mapRange g 0 n xs) ≡ mapRange (λ k x. f k (g k x)) 0 n xs
   twice d f g n xs =
       ext-getD d (mapRange f 0 n (mapRange g 0 n xs)) (mapRange h 0 n xs)
@@ -88,7 +89,7 @@ module _ (xs : List Float) where
   chosen-read true p place = refl
   chosen-read false p place = refl
 
-  -- one number more, with the greatest kept beside its place
+  -- one number more, with the greatest kept beside its index
   pub greatest-more : (count p place : ℕ) (greatest : Float) (q : ℕ) (next : Float) → Numbers xs count → p < count → GreatestAt xs p place → greatest ≡ getD xs place nan
       → q ≡ cond (lt greatest (getD xs p nan)) p place → next ≡ cond (lt greatest (getD xs p nan)) (getD xs p nan) greatest → GreatestAt xs (p + 1) q × (next ≡ getD xs q nan)
   greatest-more count p place greatest q next n h g e f k =

@@ -1,4 +1,5 @@
--- No bin of a block is nearer to a centre than the least distance of the block: differences, the product with 1,200 and the quotient by the width are rounded, and rounding keeps the order and
+-- No bin of a block is nearer to a centre than the least distance of the block: differences, the
+-- product with 1,200 and the quotient by the width are rounded, and rounding keeps the order and
 -- passes the sign through. Assumes nothing.
 use mathlib.Core.Path.{_≡_, refl, sym, ap, _∙_, subst}
 use mathlib.Core.Bool.{Bool, true, false}

@@ -23,11 +23,12 @@ use Rattle.lobes.specs.Distance.{inWidths}
 abbrev pub leastDistance : Float → Float → Float → Float → Float
 leastDistance width center low high = inWidths width (maximum (maximum (sub binary32 low center) (sub binary32 center high)) zero)
 
--- its place in the Gaussian table, by the square of the peak bin's distance
+-- its position in the Gaussian table, given the square of the peak bin's distance
 abbrev pub nearestPlace : Float → Float → Float → Float → Float → Float
 nearestPlace width center peak low high = position (maximum (sub binary32 (square (leastDistance width center low high)) peak) zero)
 
--- what a lobe of a strength opens at most from a place on: there the table has its greatest entry
+-- the most that a lobe of this strength opens at or after a position in the table, which never
+-- rises
 abbrev pub boundAt : Float → Float → Float
 boundAt strength place = clamp zero one (mul binary32 strength (G (min (floorCount place) GAUSSIAN-LUT-STEPS)))
 
@@ -46,6 +47,6 @@ pub record Measured (grid : Grid) (lobe : Lobe) : Type 0 where
 abbrev pub Numbers : List Float → ℕ → Type 0
 Numbers xs count = (p : ℕ) → p < count → T (number binary32 (getD xs p nan))
 
--- of the first `count` none is above the one at a place
+-- none of the first `count` is above the one at an index
 abbrev pub GreatestAt : List Float → ℕ → ℕ → Type 0
 GreatestAt xs count place = (place < count) × ((p : ℕ) → p < count → T (le (getD xs p nan) (getD xs place nan)))

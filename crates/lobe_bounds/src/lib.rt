@@ -1,11 +1,11 @@
-// The bounds under which lobes stay over a whole block of bins: where a bound is low enough, the
-// block's bins need not be worked out.
+// Upper bounds of lobes over a whole block of bins: where a bound is low enough, the block's bins
+// need not be computed.
 //
-// Method. A bin whose logarithm lies from `low` to `high` is no nearer to a centre than the nearer
-// end, or than 0 where the centre lies between them. The Gaussian table never rises, and the line
-// between two of its entries is never above the left one: so the entry at the least distance bounds
-// the bell at every bin. Over the partials of a voice there are two short loops, and the first,
-// without a table lookup, is done for several at once.
+// Method. A bin whose logarithm lies in low..high is at least as far from a centre as the nearer
+// end; where the centre lies between the ends, the least distance is 0. The Gaussian table never
+// rises, and interpolation is never above the left entry: so the entry at the least distance bounds
+// the bell at every bin. Two short loops run over the partials of a voice; the first has no table
+// lookup and is vectorized.
 ghost use mathlib.Core.Path.{_≡_};
 ghost use mathlib.Core.Bool.{cond};
 ghost use Prim.Native.Nat.{_≤_, _<_};
@@ -21,7 +21,7 @@ use gaussian::GAUSSIAN_LUT_STEPS;
 use gaussian::GaussianTable;
 use lobes::distances::in_widths;
 
-// The centre comes as its logarithm.
+// The centre is given as its logarithm.
 fn least_distance(width: f32, center: f32, low: f32, high: f32) -> f32
     ensures { λ r. ⌜ r ≡ leastDistance width center low high ⌝ }
 {
@@ -35,7 +35,7 @@ fn nearest_place(width: f32, center: f32, peak: f32, low: f32, high: f32) -> f32
     gaussian::position(max(float32::powers::powi2(distance) - peak, 0.0))
 }
 
-// The places in the Gaussian table of the least distances.
+// The positions of the least distances in the Gaussian table.
 fn nearest_places(
     places: &mut [f32],
     centers: &[f32],
@@ -59,7 +59,7 @@ fn nearest_places(
     }
 }
 
-// No place is past the last entry.
+// The bound at a position: a lobe's strength times the entry on the left, at most the last.
 fn bound_at(gaussians: &GaussianTable, strength: f32, place: f32) -> f32
     requires { ⌜ now gaussians ≡ gaussianTable ⌝ }
     ensures { λ r. ⌜ r ≡ boundAt strength place ⌝ }
@@ -68,7 +68,7 @@ fn bound_at(gaussians: &GaussianTable, strength: f32, place: f32) -> f32
     clamp(strength * gaussians[left], 0.0, 1.0)
 }
 
-// From each place the bound there.
+// Replaces each position by the bound there.
 fn bounds_at_places(bounds: &mut [f32], gaussians: &GaussianTable, strengths: &[f32], count: usize)
     requires { ⌜ (now gaussians ≡ gaussianTable)
         × (count ≤ length (now bounds))
@@ -84,8 +84,8 @@ fn bounds_at_places(bounds: &mut [f32], gaussians: &GaussianTable, strengths: &[
     }
 }
 
-// The bounds of the first `count` lobes, whose centres, strengths and peaks stand in columns, over
-// a block of bins.
+// The bounds of the first `count` lobes over a block of bins. Centres, strengths and peaks are
+// separate arrays.
 pub fn bounds_of(
     bounds: &mut [f32],
     gaussians: &GaussianTable,
@@ -117,7 +117,7 @@ fn greater(first: f32, second: f32) -> f32
     if first < second { second } else { first }
 }
 
-// And its place.
+// The index of the greater.
 fn greater_at(first: f32, second: f32, first_place: usize, second_place: usize) -> usize
     ensures { λ r. ⌜ r ≡ cond (lt first second) «second_place» «first_place» ⌝ }
 {
@@ -128,8 +128,8 @@ fn greater_at(first: f32, second: f32, first_place: usize, second_place: usize) 
     }
 }
 
-// The place of the greatest of the first `count` numbers. The greatest so far is kept beside its
-// place, so that no turn waits for it to be read.
+// The index of the maximum of the first `count` numbers. The maximum so far is kept in a variable,
+// so that no iteration waits for a load.
 pub fn greatest_at(bounds: &[f32], count: usize) -> usize
     requires { ⌜ (0 < count) × (count ≤ length (now bounds)) × (Numbers (now bounds) count) ⌝ }
     ensures { λ r. ⌜ GreatestAt (now (bounds .entry)) count r ⌝ }

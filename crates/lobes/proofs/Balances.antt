@@ -1,5 +1,6 @@
--- "The squares of the two pan balances add to 2 within 2^-14", for every pan in -1..1 and with every arm: at the centre both are 1, and the far side of a hard pan, which is shut, is what
--- the formula gives there. No balance is negative or above 2. Assumes nothing.
+-- "The squares of the two pan balances add to 2 within 2^-14", for every pan in -1..1 and with
+-- every arm: at the centre both are 1, and the far side of a hard pan, which is 0, is what the
+-- formula gives there. No balance is negative or above 2. Assumes nothing.
 use mathlib.Core.Path.{_≡_, refl, sym, subst}
 use mathlib.Core.Bool.{Bool, true, false, cond}
 use Prim.Native.Nat.{_^_}

@@ -1,4 +1,5 @@
--- The closest bin is one of two, the lower bin and the one above it, and so from 1 to the last. Assumes nothing.
+-- The closest bin is one of two, the lower bin and the one above it, and so from 1 to the last.
+-- Assumes nothing.
 use mathlib.Core.Path.{_≡_, refl, sym, subst}
 use mathlib.Core.Bool.{Bool, true, false, cond}
 use Prim.Native.Nat.{ℕ, _+_, _≤_, min, max}

@@ -1,5 +1,6 @@
--- The gain of a voice on a side is from 0 to 8, finite: its expression, which is from 0 to 4, times a balance from 0 to 2. It is so of every pan and expression, as what is not finite counts as
--- the centre and as 1. Assumes nothing.
+-- The gain of a voice on a side is from 0 to 8, finite: its expression, which is from 0 to 4, times
+-- a balance from 0 to 2. It is so of every pan and expression, as what is not finite counts as the
+-- centre and as 1. Assumes nothing.
 use mathlib.Core.Bool.{cond}
 use Prim.Native.Nat.{_*_, _^_, _≤_}
 use native.Mathlib.Nat.{le-trans}

@@ -1,4 +1,5 @@
--- A partial's gain is from 0 to 1: the rolloff is not negative, nor is the logarithm of a whole number from 1 on, so the decibels are not above 0. Assumes nothing.
+-- A partial's gain is from 0 to 1: the rolloff is not negative, nor is the logarithm of a whole
+-- number from 1 on, so the decibels are not above 0. Assumes nothing.
 use mathlib.Core.Path.{_≡_, refl, sym, ap, _∙_, subst}
 use Prim.Native.Nat.{ℕ, _≤_}
 use native.Mathlib.Nat.{le-trans}

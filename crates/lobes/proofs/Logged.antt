@@ -1,4 +1,5 @@
--- The octaves of the partials 0 to 24, computed: L2 in the form that a test can compute. Assumes nothing.
+-- The octaves of the partials 0 to 24, computed: L2 in the form that a test can compute. Assumes
+-- nothing.
 use mathlib.Core.Path.{_≡_, refl, sym, _∙_}
 use mathlib.Core.Bool.{Bool, true, false, cond}
 use mathlib.Core.List.{List, [], _∷_, map}

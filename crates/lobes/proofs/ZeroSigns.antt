@@ -1,6 +1,8 @@
--- The sign of a zero does not count in a lobe. Of a voice: its tuning only enters a power, its timbre is taken from a half, and a pan of either zero is the centre. Of the settings: the rolloff
--- only enters a gain. Of the table: an entry only enters a square. So equal voices have one pitch, one fall of the partials and one balance, and with equal settings and entries a lobe is the
--- same and opens the same. Assumes nothing.
+-- The sign of a zero does not count in a lobe. Of a voice: its tuning only enters a power, its
+-- timbre is taken from a half, and a pan of either zero is the centre. Of the settings: the rolloff
+-- only enters a gain. Of the table: an entry only enters a square. So equal voices have one pitch,
+-- one fall of the partials and one balance, and with equal settings and entries a lobe is the same
+-- and opens the same. Assumes nothing.
 use mathlib.Core.Path.{_≡_, refl, sym, ap, _∙_}
 use mathlib.Core.Bool.{true, false, cond}
 use mathlib.Core.List.{List}
@@ -75,7 +77,8 @@ harmonic-same : {r r' : Float} → Same r r' → (partial : ℕ) → harmonicGai
 unfolding harmonicGain
 harmonic-same h partial = gain-alone (same-mul binary32 (same-neg binary32 h) same)
 
--- ---- two grids that differ at most in the sign of a zero rolloff, and two tables with equal entries on the bins 1..last
+-- ---- two grids that differ at most in the sign of a zero rolloff, and two tables with equal
+-- entries on the bins 1..last
 pub record SameGrid (g h : Grid) : Type 0 where
   pub nyquist : g .nyquist ≡ h .nyquist
   pub bin-hz : g .«bin_hz» ≡ h .«bin_hz»

@@ -1,5 +1,6 @@
--- How far a bin is from a lobe's centre, in widths, and the bell over that distance: by the table that the call was lent, "prepared or not", or, where it was lent none, by the
--- bin's own frequency. Assumes nothing.
+-- A bin's distance from a lobe's centre in widths, and the bell over that distance: from the lent
+-- table, "prepared or not", or from the bin's own frequency where no table was lent. Assumes
+-- nothing.
 use mathlib.Core.Bool.{Bool, true, false}
 use mathlib.Core.List.{List}
 use Prim.Native.Nat.{ℕ}

@@ -1,4 +1,5 @@
--- What all lobes of a mask share: the spacing of the bins, and how far a lobe reaches. The Rust's `build_mask_with_voices_impl` works it out first. Assumes nothing.
+-- What all lobes of a mask share: the bin spacing, and how far a lobe reaches. The Rust's
+-- `build_mask_with_voices_impl` computes it first. Assumes nothing.
 use Prim.Native.Nat.{ℕ, _/_, min, max}
 use lib.Ieee.{Float, binary32, ofBits, neg, mul, div}
 use Rattle.float32.specs.Order.{maximum}
@@ -20,7 +21,7 @@ WIDTHS-TO-THE-END = ofBits binary32 0x4080_0000
 abbrev pub radius : Float → Float
 radius width = div binary32 (mul binary32 WIDTHS-TO-THE-END width) CENTS-PER-OCTAVE
 
--- width and partials have a least value, and partials a greatest, which no accepted setting passes
+-- width and partials have a minimum, and partials a maximum; accepted settings lie within them
 unfoldable pub gridOf : MaskConfig → Grid
 gridOf config =
     let width = maximum (config .«width_cents») one in

@@ -1,5 +1,6 @@
--- A partial's lobe: the bins that it reaches, and what it opens at each of them. Its height is normalised at the bin closest to its centre, so that a pitch between two bins is not
--- weaker than one on a bin. Assumes nothing.
+-- A partial's lobe: the bins that it reaches, and its openness at each of them. Its height is
+-- normalised at the bin closest to its centre, so that a pitch between two bins is not weaker than
+-- one on a bin. Assumes nothing.
 use Prim.Native.Nat.{ℕ, min, max}
 use lib.Ieee.{Float, binary32, sub, mul, div}
 use Rattle.counts.specs.Counts.{floorCount, ceilCount}
@@ -33,10 +34,10 @@ lobeOf grid logs tone partial =
       «peak_squared» = square (distance grid logs center (closestBin center (grid .«bin_hz») (grid .«last_bin»)));
     }
 
--- the square of a bin's distance, less that of the peak bin
+-- the square of a bin's distance minus that of the peak bin
 unfoldable pub relativeSquare : Grid → Logs → Lobe → ℕ → Float
 relativeSquare grid logs lobe bin = maximum (sub binary32 (square (distance grid logs (lobe .center) bin)) (lobe .«peak_squared»)) zero
 
--- what the lobe opens at a bin, from 0 to 1, before the voice's expression
+-- the lobe's openness at a bin, from 0 to 1, before the voice's expression
 unfoldable pub opening : Grid → Logs → Lobe → ℕ → Float
 opening grid logs lobe bin = clamp zero one (mul binary32 (lobe .strength) (bell logs (relativeSquare grid logs lobe bin)))

@@ -1,5 +1,7 @@
--- The gain of what a voice opens, on one side: its expression times the balance of its pan. "The squares of the two pan balances add to 2 within 2^-14." The Rust's
--- `expression_channel_gain`: unity at the centre, nothing on the far side, else a constant-power law. Assumes nothing.
+-- The gain of a voice's note-opened component on one side: its expression times the balance of its
+-- pan. "The squares of the two pan balances add to 2 within 2^-14." The Rust's
+-- `expression_channel_gain`: unity at the centre, 0 on the far side, else a constant-power law.
+-- Assumes nothing.
 use mathlib.Core.Bool.{cond}
 use lib.Ieee.{Float, binary32, ofBits, add, mul, eq}
 use Rattle.float32.specs.Constants.{FRAC-PI-4, SQRT-2}
@@ -8,7 +10,7 @@ use Rattle.float32.specs.Remainder.{zero, one}
 use Rattle.sine.specs.Sine.{sinOf, cosOf}
 use Rattle.scene.specs.declared.MaskVoice.{MaskVoice}
 
--- the masks that are built: one for both sides, or one for each
+-- which mask is built: mono, or one side of a stereo pair
 pub data Side : Type 0 where
   mono : Side
   left : Side

@@ -1,5 +1,6 @@
--- The bin closest to a lobe's centre, the Rust's `closest_bin_in_cents`: of the two bins around the centre the nearer in cents, the lower where they are equally near. Bin 0 is never
--- one, and none is past the last. Assumes nothing.
+-- The bin closest to a lobe's centre, the Rust's `closest_bin_in_cents`: of the two bins around the
+-- centre the nearer in cents, the lower where they are equally near. It is never bin 0 and never
+-- past the last bin. Assumes nothing.
 use mathlib.Core.Bool.{cond}
 use Prim.Native.Nat.{ℕ, _+_, min, max}
 use lib.Ieee.{Float, binary32, mul, div, lt}

@@ -1,4 +1,4 @@
--- What all partials of a voice share: the fundamental, the level, and how the partials fall off. Assumes nothing.
+-- What all partials of a voice share: the fundamental, the level and the rolloff. Assumes nothing.
 use mathlib.Core.List.{List}
 use Prim.Native.Nat.{ℕ, _+_}
 use lib.IntN.{pos}
@@ -14,14 +14,14 @@ use Rattle.lobes.specs.declared.Grid.{Grid}
 use Rattle.lobes.specs.declared.Tone.{Tone}
 use Rattle.limits.specs.Lengths.{MAX-PARTIALS}
 
--- 0.35 of the level is there without pressure, and 0.65 comes with it
+-- pressure raises the level's gain from 0.35 to 1
 abbrev pub LEAST-PRESSURE-GAIN : Float
 LEAST-PRESSURE-GAIN = ofBits binary32 0x3eb3_3333
 
 abbrev pub PRESSURE-GAIN-RANGE : Float
 PRESSURE-GAIN-RANGE = ofBits binary32 0x3f26_6666
 
--- from the darkest to the brightest timbre, in decibels per octave
+-- the range of the timbre's tilt, darkest to brightest, in decibels per octave
 abbrev pub TIMBRE-RANGE-DB : Float
 TIMBRE-RANGE-DB = ofBits binary32 0x41c0_0000
 
@@ -57,6 +57,6 @@ octavesOf partial = L2 (ofInt binary32 (pos partial))
 unfoldable pub harmonicGain : Float → ℕ → Float
 harmonicGain rolloff partial = gainOf (mul binary32 (neg rolloff) (octavesOf partial))
 
--- those of the partials up to the last that a mask may have; there is no partial 0
+-- those of the partials 1 to 24; entry 0 is not used
 unfoldable pub partialOctaves : List Float
 partialOctaves = tabulate (MAX-PARTIALS + 1) octavesOf

@@ -1,4 +1,4 @@
-// How far a bin is from a lobe's centre, in widths.
+// A bin's distance from a lobe's centre in widths: the Rust's `normalized`.
 ghost use mathlib.Core.Path.{_≡_};
 ghost use Prim.Native.Nat.{_^_, _≤_, _<_};
 ghost use lib.ListN.{length, getD};
@@ -15,8 +15,7 @@ pub fn in_widths(width: f32, octaves: f32) -> f32
     CENTS_PER_OCTAVE * octaves / width
 }
 
-// By the table that was lent. The centre comes as its logarithm, which a lobe takes once for all
-// its bins.
+// From the lent table. The centre is given as its logarithm, which is computed once per lobe.
 pub fn distance_by_table(table: &[f32], width: f32, center_log2: f32, bin: usize) -> f32
     requires { ⌜ bin < length (now table) ⌝ }
     ensures { λ r. ⌜ r
@@ -25,7 +24,7 @@ pub fn distance_by_table(table: &[f32], width: f32, center_log2: f32, bin: usize
     in_widths(width, table[bin] - center_log2)
 }
 
-// By the bin's own frequency, where no table was lent.
+// From the bin's own frequency, where no table was lent.
 pub fn distance_by_hertz(powers: &PowerTable, grid: Grid, center: f32, bin: usize) -> f32
     requires { ⌜ (now powers ≡ powerTable) × (bin ≤ 2 ^ 24) ⌝ }
     ensures { λ r. ⌜ r ≡ distance grid none center bin ⌝ }

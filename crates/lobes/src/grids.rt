@@ -16,7 +16,8 @@ pub const HALF: f32 = 0.5;
 
 pub const CENTS_PER_OCTAVE: f32 = 1200.0;
 
-// A lobe ends at four widths from its centre.
+// A lobe ends four widths (standard deviations) from its centre. Updating only those bins avoids a
+// full bins x notes x partials scan.
 const WIDTHS_TO_THE_END: f32 = 4.0;
 
 pub fn grid_of(powers: &PowerTable, config: MaskConfig) -> Grid

@@ -1,4 +1,4 @@
-// One lobe of a mask: what a partial of a voice opens, bin by bin.
+// One lobe of a mask: the openness that a partial of a voice gives the bins around it.
 pub mod distances;
 pub mod grids;
 pub mod octaves;
@@ -7,13 +7,13 @@ pub mod peaks;
 pub mod reach;
 pub mod tones;
 
-// What all lobes of a mask share, worked out once from its settings.
+// What all lobes of a mask share, computed once from its settings.
 pub struct Grid {
     pub nyquist: f32,
-    // The hertz between two bins that stand side by side.
+    // The bin spacing in hertz.
     pub bin_hz: f32,
     pub width: f32,
-    // A lobe reaches from its centre down and up by these factors.
+    // A lobe reaches from center * lower_ratio to center * upper_ratio.
     pub lower_ratio: f32,
     pub upper_ratio: f32,
     pub last_bin: usize,
@@ -31,12 +31,13 @@ pub struct Tone {
 // A partial's lobe.
 pub struct Lobe {
     pub center: f32,
-    // The centre's logarithm, taken once for all bins.
+    // The centre's logarithm, computed once for all bins.
     pub center_log2: f32,
-    // The level of the voice times the partial's own gain.
+    // The voice's level times the partial's gain.
     pub strength: f32,
     pub first_bin: usize,
     pub last_bin: usize,
-    // The square of the peak bin's distance from the centre: there the lobe is at its full height.
+    // The square of the peak bin's distance from the centre. At the peak bin the lobe has its full
+    // height.
     pub peak_squared: f32,
 }

@@ -1,12 +1,11 @@
-// The octaves of the partials above their fundamental, as constants: they are the same for every
-// voice.
+// The partials' octaves above the fundamental, as constants: they are the same for every voice.
 ghost use mathlib.Core.Path.{_≡_};
 ghost use Rattle.lobes.specs.Tone.{partialOctaves};
 
-// Entry 0 stands for no partial.
+// Entry 0 is not used: partials count from 1.
 pub type PartialOctaves = [f32; 25];
 
-// The table, to be made once and lent to every function that looks something up in it.
+// The table, made once and lent to every function that reads it.
 pub fn partial_octaves() -> PartialOctaves
     ensures { λ r. ⌜ r ≡ partialOctaves ⌝ }
 {

@@ -1,5 +1,5 @@
-// The gain of what a voice opens, on both sides or on one: its expression times the balance of its
-// pan.
+// The gain of a voice's note-opened component, in mono or on one side: expression times pan
+// balance.
 ghost use mathlib.Core.Path.{_≡_};
 ghost use Rattle.sine.specs.Table.{sineTable};
 ghost use Rattle.lobes.specs.Pan.{mono, left, right, balance, panOf, expressionOf, channelGain};
@@ -39,8 +39,7 @@ fn expression_of(voice: MaskVoice) -> f32
     1.0
 }
 
-// The centre is left as it is, and the far side is shut, both exactly; between them the power is
-// kept.
+// Constant-power pan law with unity at center. The center and the silent far side are exact.
 fn left_balance(sines: &SineTable, pan: f32) -> f32
     requires { ⌜ now sines ≡ sineTable ⌝ }
     ensures { λ r. ⌜ r ≡ balance left pan ⌝ }

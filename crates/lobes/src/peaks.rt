@@ -16,7 +16,7 @@ fn cents(powers: &PowerTable, bin_hz: f32, center: f32, bin: usize) -> f32
     float32::order::abs(CENTS_PER_OCTAVE * octaves)
 }
 
-// Of the two bins around the centre the nearer in cents, from bin 1 to the last.
+// Of the two bins around the centre the nearer in cents, within 1..last.
 pub fn closest_bin_in_cents(powers: &PowerTable, center: f32, bin_hz: f32, last: usize) -> usize
     requires { ⌜ (now powers ≡ powerTable) × (last ≤ 2 ^ 24) ⌝ }
     ensures { λ r. ⌜ r ≡ closestBin center «bin_hz» last ⌝ }

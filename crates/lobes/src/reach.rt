@@ -1,5 +1,4 @@
-// A partial's lobe: the bins that it reaches, its strength, and the bin where it is at its full
-// height.
+// A partial's lobe: the bins that it reaches, its strength and its peak bin.
 ghost use mathlib.Core.Path.{_≡_};
 ghost use mathlib.Core.Bool.{true};
 ghost use Prim.Native.Nat.{_^_, _≤_, _<_};
@@ -23,7 +22,7 @@ use counts::greater;
 use counts::lesser;
 use power::table::PowerTable;
 
-// Never bin 0.
+// The first bin that a lobe reaches, never bin 0.
 pub fn first_bin(grid: Grid, center: f32) -> usize
     ensures { λ r. ⌜ r ≡ firstBin grid center ⌝ }
 {
@@ -38,7 +37,7 @@ pub fn last_bin(grid: Grid, center: f32) -> usize
     lesser(counts::ceil_to_count(place), grid.last_bin)
 }
 
-// A bin's distance from a centre: by the table where one was lent.
+// A bin's distance from a centre: from the table where one was lent.
 fn distance(
     powers: &PowerTable,
     tabled: bool,
@@ -79,6 +78,9 @@ pub fn lobe_of(
     let center = center_of(tone, partial);
     let center_log2 = power::log2::log2(powers, center);
     let strength = tone.level * harmonic_gain(powers, octaves, tone.rolloff, partial);
+    // The musical center will almost always fall between two linearly spaced FFT bins. Normalize
+    // the sampled Gaussian against the closest usable bin so fractional placement cannot make an
+    // otherwise identical note arbitrarily weak.
     let peak_bin = closest_bin_in_cents(powers, center, grid.bin_hz, grid.last_bin);
     let peak = distance(powers, tabled, table, grid, center, center_log2, peak_bin);
     Lobe {

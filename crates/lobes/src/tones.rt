@@ -13,12 +13,12 @@ use float32::order::max;
 use power::table::PowerTable;
 use scene::MaskVoice;
 
-// 0.35 of the level is there without pressure, and 0.65 comes with it.
+// Pressure raises the level's gain from 0.35 to 1.
 const LEAST_PRESSURE_GAIN: f32 = 0.35;
 
 const PRESSURE_GAIN_RANGE: f32 = 0.65;
 
-// From the darkest to the brightest timbre, in decibels per octave.
+// The range of the timbre's tilt, darkest to brightest, in decibels per octave.
 const TIMBRE_RANGE_DB: f32 = 24.0;
 
 const MAX_ROLLOFF_DB: f32 = 48.0;
@@ -35,7 +35,8 @@ fn note_level(voice: MaskVoice) -> f32
     voice.level * max(voice.volume_gain, 0.0) * pressure_gain(voice.pressure)
 }
 
-// A dark timbre raises the rolloff, a bright one lowers it.
+// Harmonic tilt: timbre 0.5 keeps the configured rolloff; lower values raise it and darken the
+// partials, higher values lower it and brighten them.
 fn timbre_rolloff(rolloff: f32, timbre: f32) -> f32
     ensures { λ r. ⌜ r ≡ timbreRolloff rolloff timbre ⌝ }
 {

@@ -1,4 +1,5 @@
--- From the openness of every bin to the mask: with the note layer on and off, on either side, and where the two sides are one. Assumes nothing.
+-- From the openness of every bin to the mask: with the note layer on and off, on either side, and
+-- where the two sides are equal. Assumes nothing.
 use mathlib.Core.Path.{_≡_, refl, ap, _∙_}
 use mathlib.Core.Bool.{true, false}
 use mathlib.Core.List.{List, _∷_}
@@ -47,13 +48,13 @@ module _ (config : MaskConfig) (logs : Logs) (side : Side) (voices : List MaskVo
   unfolding opennessAt
   shut off x = x ∙ tab-same (λ bin. float.zero) (opennessAt config logs side voices) 0 n (λ bin. rw off refl)
 
-  -- each bin's gain is worked out from its openness
+  -- each bin's gain is computed from its openness
   pub finished : (curve : List Float) {xs ys : List Float} → n ≡ config .«fft_size» / 2 + 1 → xs ≡ tabulate n (opennessAt config logs side voices) → ys ≡ mapAt (gainAt curve config) xs
       → ys ≡ maskOf curve config logs side voices
   unfolding maskAt
   finished curve m x y = y ∙ ap (mapAt (gainAt curve config)) x ∙ map-tab (gainAt curve config) (opennessAt config logs side voices) n ∙ ap (λ (k : ℕ). tabulate k (maskAt curve config logs side voices)) m
 
--- where every voice stands at the centre each side's mask is the mono mask
+-- where every voice is at the centre each side's mask is the mono mask
 pub one-mask : (curve : List Float) (config : MaskConfig) (logs : Logs) (side : Side) (voices : List MaskVoice) → T (allCentered voices)
     → maskOf curve config logs mono voices ≡ maskOf curve config logs side voices
 unfolding maskAt opennessAt

@@ -1,4 +1,5 @@
--- A test of every entry, one entry after the other: it goes on past an entry that passes, ends at one that fails, and passes where none is left. Assumes nothing.
+-- A test of every entry, one entry after the other: it goes on past an entry that passes, ends at
+-- one that fails, and passes where none is left. Assumes nothing.
 use mathlib.Core.Path.{_≡_, ap, _∙_}
 use mathlib.Core.Bool.{Bool, true, false}
 use mathlib.Core.List.{List, [], _∷_}

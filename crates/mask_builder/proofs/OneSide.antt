@@ -1,4 +1,5 @@
--- Where every voice that is not skipped stands at the centre, either side's openness is that of the mono mask: both balances are 1 there. So the right mask may be copied from the left.
+-- Where every voice that is not skipped is at the centre, either side's openness is that of the
+-- mono mask: both balances are 1 there. So the right mask may be copied from the left.
 -- Assumes nothing.
 use mathlib.Core.Path.{_≡_, refl, ap, _∙_}
 use mathlib.Core.Bool.{Bool, true, false, cond, _||_}

@@ -1,4 +1,5 @@
--- With equal settings and table entries a bin of the mask is the same, whatever the signs of zeros among them. Assumes nothing.
+-- With equal settings and table entries a bin of the mask is the same, whatever the signs of zeros
+-- among them. Assumes nothing.
 use mathlib.Core.Path.{_≡_, refl, ap, _∙_}
 use mathlib.Core.Logic.{inl, inr}
 use mathlib.Core.Bool.{Bool, true, false, cond}

@@ -1,4 +1,5 @@
--- Where the two sides of a stereo mask are one: every voice that is not skipped stands at the centre, where both balances are 1. Assumes nothing.
+-- Where the two sides of a stereo mask are equal: every voice that is not skipped is at the centre,
+-- where both balances are 1. Assumes nothing.
 use mathlib.Core.Bool.{Bool, _||_}
 use mathlib.Core.List.{List}
 use lib.Ieee.{le, eq}

@@ -1,4 +1,5 @@
--- The voices of a bank of note levels, for `build_mask`: one for each of the 128 notes, at its level and with the Rust's defaults. Assumes nothing.
+-- The voices of a bank of note levels, for `build_mask`: one for each of the 128 notes, at its
+-- level and with the Rust's defaults. Assumes nothing.
 use mathlib.Core.List.{List}
 use Prim.Native.Nat.{ℕ}
 use lib.ListN.{getD}

@@ -1,4 +1,5 @@
--- The mask of a scene: each bin's gain, from how far the voices open the bin. Everything of a bin is a function of the bin. Assumes nothing.
+-- The mask of a scene: each bin's gain, from the bin's openness. A bin's gain does not depend on
+-- other bins. Assumes nothing.
 use mathlib.Core.Bool.{cond}
 use mathlib.Core.List.{List}
 use Prim.Native.Nat.{ℕ, _+_, _/_}
@@ -13,7 +14,7 @@ use Rattle.lobes.specs.Pan.{Side}
 use Rattle.lobes.specs.Distance.{Logs}
 use Rattle.openness.specs.Openness.{openness}
 
--- the number that a bin holds before the gate is applied: 0 with the note layer off
+-- a bin's openness, before the gate is applied: 0 with the note layer off
 unfoldable pub opennessAt : MaskConfig → Logs → Side → List MaskVoice → ℕ → Float
 opennessAt config logs side voices bin = cond (config .«note_layer_enabled») (openness (gridOf config) logs side voices bin) zero
 

@@ -1,4 +1,4 @@
-// Whether the two sides of a stereo mask are one.
+// Whether the two sides of a stereo mask are equal because every voice that sounds is centred.
 ghost use mathlib.Core.Path.{_≡_};
 ghost use Prim.Native.Nat.{_≤_};
 ghost use lib.ListN.{take};

@@ -7,7 +7,7 @@ use limits::lengths::MIDI_NOTES;
 use limits::lengths::MOST_VOICES;
 use scene::MaskVoice;
 
-// A note at a level, with nothing played on it.
+// A note at a level, with the Rust's default voice otherwise.
 fn level_voice(note: u8, level: f32) -> MaskVoice
     ensures { λ r. ⌜ r ≡ levelVoice note level ⌝ }
 {

@@ -1,4 +1,5 @@
-// The masks of a scene: the gain of every bin.
+// The real, non-negative gain masks for an RFFT spectrum: the gain of every bin. Nothing is
+// allocated, so the audio thread may call this.
 pub mod centers;
 pub mod levels;
 
@@ -21,7 +22,8 @@ use scene::MaskConfig;
 use scene::MaskVoice;
 use sine::table::SineTable;
 
-// How far the voices open each bin of a mono mask; with the note layer off nothing does.
+// The openness of each bin of a mono mask, 0 with the note layer off. As in the Rust, the output
+// first serves as the buffer for it.
 fn open_mono(
     powers: &PowerTable,
     sines: &SineTable,
@@ -61,7 +63,7 @@ fn open_mono(
     }
 }
 
-// How far they open each bin of either side.
+// The openness of each bin on both sides of a stereo pair.
 fn open_sides(
     powers: &PowerTable,
     sines: &SineTable,
@@ -105,7 +107,7 @@ fn open_sides(
     }
 }
 
-// The mono mask, by the lent table where there is one.
+// The mono mask, from the lent table where `tabled` is true.
 pub fn build_one(
     out: &mut [f32],
     curve: &[f32],
@@ -130,8 +132,8 @@ pub fn build_one(
     bin_gains::finish_one(&powers, &sines, out, curve, config);
 }
 
-// Both masks of a stereo pair. Where every voice stands at the centre the two are one, and the
-// right is copied from the left.
+// Both masks of a stereo pair. The manual curve, motion and closed-note floor are shared;
+// overlapping contributions combine by maximum, independently on each side.
 pub fn build_two(
     left: &mut [f32],
     right: &mut [f32],
@@ -153,6 +155,7 @@ pub fn build_two(
     ensures { λ _. ⌜ now (right .exit) ≡ maskOf (now (curve .entry)) config
         (lent (now (table .entry))) side.right (take count voices) ⌝ }
 {
+    // Centered voices give identical masks; copy rather than rebuild.
     if centers::all_centered(voices, count) {
         build_one(left, curve, voices, count, config, true, table);
         slices::copy(left, right);

@@ -1,4 +1,5 @@
--- The outcome that a mask builder's code puts together of its tests is the reply that its definition gives. Assumes nothing.
+-- The outcome that a mask builder's code puts together of its tests is the reply that its
+-- definition gives. Assumes nothing.
 use mathlib.Core.Path.{_≡_, refl}
 use mathlib.Core.Bool.{Bool, _&&_}
 use mathlib.Core.List.{List}

@@ -1,4 +1,5 @@
--- What a function is told of its parameters on entry (`c .good`): the floats of the settings are f32s, and those of each voice of an array. Of a lent slice of f32 it is told by the slice itself.
+-- What a function is told of its parameters on entry (`c .good`): the floats of the settings are
+-- f32s, and those of each voice of an array. Of a lent slice of f32 it is told by the slice itself.
 -- Assumes nothing.
 use mathlib.Core.Path.{_≡_, sym, subst}
 use mathlib.Core.Bool.{Bool, true}

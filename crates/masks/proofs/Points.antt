@@ -1,5 +1,7 @@
--- The curve point of a bin: it is one of the curve's 8,193; for the bins of document 01 it is its formula; the last bin of a size reads the last point; it never falls as the bin rises;
--- where the points are a whole number of times the bins, it is a product; and the two proved cases. Assumes nothing.
+-- The curve point of a bin: it is one of the curve's 8,193; for the bins of document 01 it is its
+-- formula; the last bin of a size reads the last point; it never falls as the bin rises; where the
+-- points are a whole number of times the bins, it is a product; and the two proved cases. Assumes
+-- nothing.
 use mathlib.Core.Path.{_≡_, refl, sym, ap, _∙_}
 use mathlib.Core.Logic.{inl, inr}
 use Prim.Native.Nat.{ℕ, zero, suc, _+_, _*_, _/_, _≤_, _<_, min, zero-le}

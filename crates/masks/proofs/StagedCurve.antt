@@ -1,4 +1,5 @@
--- The drawn curve's gains at a row of bins: the points by a product are the points, and the stages one after the other give each bin its gain. Assumes nothing.
+-- The drawn curve's gains at a row of bins: the points by a product are the points, and the stages
+-- one after the other give each bin its gain. Assumes nothing.
 use mathlib.Core.Path.{_≡_, sym, ap, _∙_}
 use mathlib.Core.Logic.{_⊎_, inl, inr}
 use mathlib.Core.List.{List}

@@ -7,14 +7,14 @@ use float32::order::max;
 use float32::powers::smoothstep;
 use power::table::PowerTable;
 
-// A note up to 100 cents wide is lifted by 6 dB, one of 12 times that not at all.
+// The lift is 6 dB up to 100 cents and falls to 0 dB at 12 times that width, 1,200 cents.
 pub const NARROW_CENTS: f32 = 100.0;
 
 pub const WIDE_RATIO: f32 = 12.0;
 
 pub const EMPHASIS_DECIBELS: f32 = 6.0;
 
-// Where a width lies between narrow and wide, in octaves of width, from 0 to 1.
+// A width's position between narrow (0) and wide (1), on a logarithmic scale.
 fn width_position(powers: &PowerTable, width: f32) -> f32
     requires { ⌜ now powers ≡ powerTable ⌝ }
     ensures { λ r. ⌜ r ≡ widthPosition width ⌝ }
@@ -26,7 +26,10 @@ fn width_position(powers: &PowerTable, width: f32) -> f32
     clamp(octaves / power::log2::log2(powers, WIDE_RATIO), 0.0, 1.0)
 }
 
-// The gain of a fully open note centre: the narrower the note, the more it is lifted.
+// Automatic gain applied only to the note-opened component. Narrow skirts receive up to +6 dB even
+// at zero Note Depth, making notes additive before the control begins attenuating the surrounding
+// spectrum. Wide skirts need less compensation, so the lift tapers smoothly above 100 cents and
+// reaches unity at 1,200 cents.
 pub fn emphasis(powers: &PowerTable, width: f32) -> f32
     requires { ⌜ now powers ≡ powerTable ⌝ }
     ensures { λ r. ⌜ r ≡ emphasisGain width ⌝ }
@@ -35,7 +38,7 @@ pub fn emphasis(powers: &PowerTable, width: f32) -> f32
     decibels::gain(powers, EMPHASIS_DECIBELS * narrowness)
 }
 
-// The gain of a closed region.
+// The gain of a closed region, which follows Note Depth.
 pub fn floor_gain(powers: &PowerTable, depth: f32) -> f32
     requires { ⌜ now powers ≡ powerTable ⌝ }
     ensures { λ r. ⌜ r ≡ floorGain depth ⌝ }
@@ -43,14 +46,16 @@ pub fn floor_gain(powers: &PowerTable, depth: f32) -> f32
     decibels::gain(powers, -max(depth, 0.0))
 }
 
-// The gain at an openness: the floor at 0, the emphasis at 1.
+// The gain at an openness: the floor at 0, the emphasis at 1. The mask builders call this one:
+// expression may lift their openness past 1.
 pub fn gate_gain(floor: f32, emphasis: f32, openness: f32) -> f32
     ensures { λ r. ⌜ r ≡ gateGain floor emphasis openness ⌝ }
 {
     floor + (emphasis - floor) * openness
 }
 
-// The gain of the note layer at an openness, which is limited to 0..1.
+// Gain of the complete note layer at one bin. Closed regions follow Note Depth while fully open
+// note centres retain their width-compensated lift. The openness is clamped to 0..1.
 pub fn gate(powers: &PowerTable, depth: f32, width: f32, openness: f32) -> f32
     requires { ⌜ now powers ≡ powerTable ⌝ }
     ensures { λ r. ⌜ r ≡ limitedGateGain depth width openness ⌝ }

@@ -1,4 +1,4 @@
-// The gain that the drawn curve gives a bin.
+// The drawn curve's gain at a bin.
 ghost use mathlib.Core.Path.{_≡_};
 ghost use lib.ListN.{length};
 ghost use Rattle.power.specs.Table.{powerTable};
@@ -11,8 +11,7 @@ use power::table::PowerTable;
 
 pub const MANUAL_CURVE_MUTE_DB: f32 = -144.0;
 
-// The curve point nearest to a bin. Below size 2 there are no bins to divide by, and it is the
-// first.
+// The curve point nearest to a bin. Below size 2 the division would be by 0, and it is point 0.
 pub fn curve_point(bin: usize, size: usize) -> usize
     ensures { λ r. ⌜ r ≡ curvePoint bin size ⌝ }
 {
@@ -26,7 +25,8 @@ pub fn curve_point(bin: usize, size: usize) -> usize
     )
 }
 
-// The gain of a curve value.
+// The gain of a curve value. At or below MANUAL_CURVE_MUTE_DB it is 0; values above 0 dB count as
+// 0.
 pub fn curve_gain(powers: &PowerTable, db: f32) -> f32
     requires { ⌜ now powers ≡ powerTable ⌝ }
     ensures { λ r. ⌜ r ≡ curveGain db ⌝ }

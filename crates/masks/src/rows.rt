@@ -1,5 +1,5 @@
-// The drawn curve's gains at a row of bins, one short loop after the other: the curve values that
-// the bins read, the decibels that they count as, and the gains.
+// The drawn curve's gains at a row of bins, one short loop per stage: the curve values that the
+// bins read, the decibels that they count as, the gains.
 ghost use mathlib.Core.Path.{_≡_};
 ghost use mathlib.Core.Logic.{_⊎_};
 ghost use Prim.Native.Nat.{_+_, _*_, _/_, _^_, _≤_, min};
@@ -17,11 +17,10 @@ use float32::order::min;
 use limits::lengths::LAST_POINT;
 use power::table::PowerTable;
 
-// Low enough for a gain of 0.
+// So low that its gain is 0.
 const SILENT_DB: f32 = -1000.0;
 
-// From a bin's curve point to the next bin's, where that is a whole number, as it is at every
-// accepted size; else 0.
+// Curve points per bin, where that is a whole number, as it is at every accepted size; else 0.
 fn point_step(size: usize) -> usize
     ensures { λ r. ⌜ (r ≤ LAST-POINT) × ((r ≡ 0) ⊎ (r * (size / 2) ≡ LAST-POINT)) ⌝ }
 {

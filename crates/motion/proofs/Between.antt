@@ -1,4 +1,5 @@
--- Chains of f32 operations by their ends: where each operand lies between two finite values, so does the result, since rounding keeps the order. The ends are constants, and are computed.
+-- Chains of f32 operations by their ends: where each operand lies between two finite values, so
+-- does the result, since rounding keeps the order. The ends are constants, and are computed.
 -- Assumes nothing.
 use mathlib.Core.Path.{subst}
 use mathlib.Core.Bool.{not}

@@ -1,4 +1,5 @@
--- The moving field at a frequency, document 01's `motion_openness` and `motion_attenuation_db`: eight shapes, resting at depth ≤ 0.001. Assumes nothing.
+-- The moving field at a frequency, document 01's `motion_openness` and `motion_attenuation_db`:
+-- eight shapes, resting at depth ≤ 0.001. Assumes nothing.
 use mathlib.Core.Bool.{Bool, cond, _||_}
 use lib.Ieee.{Float, binary32, ofBits, sub, mul, div, neg, lt, le}
 use Rattle.float32.specs.Order.{maximum}
@@ -22,7 +23,8 @@ RESTING-DEPTH-DB = ofBits binary32 0x3a83_126f
 abbrev pub MIN-SIZE-OCTAVES : Float
 MIN-SIZE-OCTAVES = ofBits binary32 0x3d4c_cccd
 
--- x octaves above the lowest frequency shown. Sprinkle and Cloud are made of events and have no field of their own.
+-- x octaves above the lowest frequency shown. Sprinkle and Cloud are event-driven and are applied
+-- separately, so their field is open.
 abbrev pub shapeAt : MotionShape → Float → Float → Float → Float
 shapeAt Ripple x size phase = ripple x size phase
 shapeAt Harmonic x size phase = harmonic x size phase
@@ -37,7 +39,7 @@ shapeAt Cloud x size phase = one
 abbrev pub resting : Float → MotionConfig → Bool
 resting frequency config = le (config .«depth_db») RESTING-DEPTH-DB || lt frequency MIN-DISPLAY-FREQUENCY-HZ
 
--- 1 is the crest, where the drawn ceiling is unchanged, and 0 receives the whole attenuation
+-- 1 is the crest, where the drawn ceiling is unchanged, and 0 receives the full attenuation
 unfoldable pub openness : Float → MotionConfig → Float
 openness frequency config =
     cond (resting frequency config) one
@@ -47,6 +49,6 @@ openness frequency config =
 unfoldable pub attenuation : Float → MotionConfig → Float
 attenuation frequency config = mul binary32 (maximum (config .«depth_db») zero) (sub binary32 one (openness frequency config))
 
--- what the field leaves of a frequency
+-- the field's gain at a frequency, before compensation
 unfoldable pub motionGain : Float → MotionConfig → Float
 motionGain frequency config = gainOf (neg (attenuation frequency config))

@@ -1,5 +1,7 @@
--- The shapes of the moving field, in the Rust's order: `motion_openness` of document 01 away from its resting states. Each is a function of x, the octaves above
--- the lowest frequency shown, of the size of its cycle in octaves, and of its phase. Every operation is rounded, in the order the Rust writes. Assumes nothing.
+-- The shapes of the moving field, in the Rust's order: `motion_openness` of document 01 away from
+-- its resting states. Each is a function of x, the octaves above the lowest frequency shown, of the
+-- size of its cycle in octaves, and of its phase. Every operation is rounded, in the order the Rust
+-- writes. Assumes nothing.
 use mathlib.Core.Bool.{cond}
 use lib.Ieee.{Float, binary32, ofBits, add, sub, mul, div, neg, lt}
 use Rattle.float32.specs.Constants.{TAU}
@@ -26,16 +28,17 @@ ripple x size phase = clamp zero one (add binary32 half (mul binary32 half (cosO
 unfoldable pub harmonic : Float → Float → Float → Float
 harmonic x size phase = fifth (ripple x size phase)
 
--- Three layers, each a sine. The sizes are 2.7, 1.13 and 0.53 times that of the field, and the phase runs once, twice the other way, and three times.
+-- Three layers, each a sine. Their sizes are 2.7, 1.13 and 0.53 times that of the field, and their
+-- phases are -1, +2 and -3 times its phase.
 abbrev pub broadAngle : Float → Float → Float → Float
 broadAngle x size phase = mul binary32 TAU (sub binary32 (div binary32 x (mul binary32 size (ofBits binary32 0x402c_cccd))) phase)
 
--- the sum begins 0.19 of a turn ahead
+-- offset by 0.19 of a turn
 abbrev pub middleAngle : Float → Float → Float → Float
 middleAngle x size phase =
     mul binary32 TAU (add binary32 (add binary32 (div binary32 x (mul binary32 size (ofBits binary32 0x3f90_a3d7))) (mul binary32 phase two)) (ofBits binary32 0x3e42_8f5c))
 
--- and here 0.61
+-- offset by 0.61 of a turn
 abbrev pub detailAngle : Float → Float → Float → Float
 detailAngle x size phase =
     mul binary32 TAU (add binary32 (sub binary32 (div binary32 x (mul binary32 size (ofBits binary32 0x3f07_ae14))) (mul binary32 phase three)) (ofBits binary32 0x3f1c_28f6))
@@ -60,7 +63,7 @@ layered b m d =
 unfoldable pub drift : Float → Float → Float → Float
 drift x size phase = layered (broad x size phase) (middle x size phase) (detail x size phase)
 
--- how far x is from the place that the phase names, round the ends of the display
+-- the distance of x from the point that the phase gives, with the ends of the display joined
 unfoldable pub wrapped : Float → Float → Float
 wrapped x phase =
     let distance = magnitude (sub binary32 x (mul binary32 phase DISPLAY-OCTAVES)) in
@@ -70,11 +73,12 @@ wrapped x phase =
 abbrev pub windowExponent : Float → Float → Float → Float
 windowExponent x size phase = mul binary32 (neg half) (square (div binary32 (wrapped x phase) (mul binary32 size (ofBits binary32 0x3ed7_0a3d))))
 
--- exp of that: Scan, and 1 less it: Notch
+-- exp of that is Scan; Notch is 1 minus it
 unfoldable pub window : Float → Float → Float → Float
 window x size phase = exp (windowExponent x size phase)
 
--- a straight rise up to RESET-START, and from there on a smooth fall; 1 - RESET-START is rounded, and is not the f32 nearest to 0.1
+-- a linear rise up to RESET-START, then a smooth fall; 1 - RESET-START is rounded, and is not the
+-- f32 nearest to 0.1
 unfoldable pub sawAt : Float → Float
 sawAt cycle =
     cond (lt cycle RESET-START) (div binary32 cycle RESET-START)

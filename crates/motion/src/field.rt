@@ -1,4 +1,4 @@
-// The moving field at a frequency: its openness, and the attenuation in decibels.
+// The moving field at a frequency: its openness, and its attenuation in decibels.
 ghost use mathlib.Core.Path.{_≡_};
 ghost use Rattle.power.specs.Table.{powerTable};
 ghost use Rattle.sine.specs.Table.{sineTable};
@@ -19,13 +19,14 @@ use sine::table::SineTable;
 // The lowest frequency shown. Below it the field is open.
 pub const MIN_DISPLAY_FREQUENCY_HZ: f32 = 20.0;
 
-// Up to this depth the field rests, open everywhere.
+// At this depth or below the field rests: it is open everywhere.
 pub const RESTING_DEPTH_DB: f32 = 0.001;
 
 pub const MIN_SIZE_OCTAVES: f32 = 0.05;
 
-// The shape's openness x octaves above the lowest frequency shown. Sprinkle and Cloud are made of
-// events and have no field, so theirs is open.
+// The shape's openness x octaves above the lowest frequency shown. Sprinkle and Cloud are
+// event-driven and are applied separately from the looping motion field, so their resting state is
+// neutral.
 pub(crate) fn shape_at(
     powers: &PowerTable,
     sines: &SineTable,
@@ -49,7 +50,8 @@ pub(crate) fn shape_at(
     }
 }
 
-// 1 is the crest, where the drawn ceiling is unchanged, and 0 receives the whole attenuation.
+// The moving field's openness at a frequency. 1 is the crest, where the drawn ceiling is unchanged,
+// and 0 receives the full motion attenuation.
 pub fn openness(powers: &PowerTable, sines: &SineTable, frequency: f32, config: MotionConfig) -> f32
     requires { ⌜ (now powers ≡ powerTable) × (now sines ≡ sineTable) ⌝ }
     ensures { λ r. ⌜ r ≡ openness frequency config ⌝ }

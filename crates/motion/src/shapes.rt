@@ -1,6 +1,6 @@
 // The shapes of the moving field. Each is a function of x, the octaves above the lowest frequency
 // shown, of the size of its cycle in octaves, and of its phase, from 0 to 1. 1 is open, and 0
-// receives the whole depth.
+// receives the full depth.
 ghost use mathlib.Core.Path.{_≡_};
 ghost use Rattle.power.specs.Table.{powerTable};
 ghost use Rattle.sine.specs.Table.{sineTable};
@@ -25,7 +25,7 @@ pub const DISPLAY_OCTAVES: f32 = 9.965_784;
 // Where in its cycle the saw begins to fall.
 const RESET_START: f32 = 0.9;
 
-// A cosine wave.
+// A raised cosine.
 pub(crate) fn ripple(sines: &SineTable, x: f32, size: f32, phase: f32) -> f32
     requires { ⌜ now sines ≡ sineTable ⌝ }
     ensures { λ r. ⌜ r ≡ ripple x size phase ⌝ }
@@ -34,7 +34,7 @@ pub(crate) fn ripple(sines: &SineTable, x: f32, size: f32, phase: f32) -> f32
     clamp(0.5 + 0.5 * wave, 0.0, 1.0)
 }
 
-// The ripple with narrow crests.
+// The ripple to the fifth power, which narrows its crests.
 pub(crate) fn harmonic(sines: &SineTable, x: f32, size: f32, phase: f32) -> f32
     requires { ⌜ now sines ≡ sineTable ⌝ }
     ensures { λ r. ⌜ r ≡ harmonic x size phase ⌝ }
@@ -42,9 +42,9 @@ pub(crate) fn harmonic(sines: &SineTable, x: f32, size: f32, phase: f32) -> f32
     powi5(ripple(sines, x, size, phase))
 }
 
-// The angles of Drift's three waves. Whole multiples of the phase keep the field continuous where
-// the phase begins anew, and the unrelated sizes keep the waves from looking like one repeating
-// comb.
+// The angles of Drift's three layers. Integer phase multipliers keep the field continuous when the
+// free-running phase wraps, while the unrelated spatial scales prevent the layers from looking like
+// a simple repeating comb.
 pub fn broad_angle(x: f32, size: f32, phase: f32) -> f32
     ensures { λ r. ⌜ r ≡ broadAngle x size phase ⌝ }
 {
@@ -79,8 +79,8 @@ pub(crate) fn drift(sines: &SineTable, x: f32, size: f32, phase: f32) -> f32
     layered(broad, middle, detail)
 }
 
-// A bell around the place that the phase names, the ends of the display being joined: what Scan
-// opens and Notch shuts.
+// A Gaussian window centred where the phase points, with the ends of the display joined: Scan is
+// this window, Notch is 1 minus it.
 pub(crate) fn window(powers: &PowerTable, x: f32, size: f32, phase: f32) -> f32
     requires { ⌜ now powers ≡ powerTable ⌝ }
     ensures { λ r. ⌜ r ≡ window x size phase ⌝ }
@@ -97,7 +97,7 @@ pub fn window_exponent(x: f32, size: f32, phase: f32) -> f32
     -0.5 * powi2(wrapped / (size * 0.42))
 }
 
-// A straight rise, and a smooth fall in the last tenth of the cycle.
+// A linear rise, and a smooth fall in the last tenth of the cycle.
 pub fn saw(x: f32, size: f32, phase: f32) -> f32
     ensures { λ r. ⌜ r ≡ saw x size phase ⌝ }
 {

@@ -1,5 +1,7 @@
--- The compensation lies between 1 and 12 dB, for every setting of a finite depth: each sample is at most 1, so their sum of n is at most n, which is exact; so the mean square and its root
--- are at most 1, and one over that is at least 1, or infinite. The product with what the field leaves is finite, not negative and at most 4. Assumes nothing.
+-- The compensation lies between 1 and 12 dB, for every setting of a finite depth: each sample is at
+-- most 1, so their sum of n is at most n, which is exact; so the mean square and its root are at
+-- most 1, and one over that is at least 1, or infinite. The product with the field's gain is
+-- finite, not negative and at most 4. Assumes nothing.
 use mathlib.Core.Path.{_≡_, refl, sym, ap, _∙_, subst}
 use mathlib.Core.Bool.{Bool, true, false, not, cond}
 use Prim.Native.Nat.{ℕ, zero, suc, _+_, _^_, _≤_, _<_}

@@ -1,5 +1,7 @@
--- Each entry of the table is the logarithm that `openness` takes at its sample, and no sample is below the lowest frequency shown: by one test that goes through the samples.
--- So a sample's power comes from what the settled field leaves at the table's places. Assumes nothing.
+-- Each entry of the table is the logarithm that `openness` takes at its sample, and no sample is
+-- below the lowest frequency shown: by one test that goes through the samples.
+-- So a sample's power comes from the settled field's gain at the table's positions. Assumes
+-- nothing.
 use mathlib.Core.Path.{_≡_, refl, sym, ap, _∙_}
 use mathlib.Core.Bool.{Bool, false, not, _&&_}
 use mathlib.Core.List.{List, [], _∷_, map}
@@ -90,7 +92,7 @@ module _ (i : ℕ) (h : i < 256) where
   unfolding octaveTable
   octave-is = getD-map (ofBits binary32) octaveBits i (rw long h) ∙ ap (ofBits binary32) (sym same-bits) ∙ ofBits-toBits binary32 (L2 v) (fits-of (L2 v) (L2-number v))
 
--- ---- the samples' powers, from a row of what a field that does not rest leaves at them
+-- ---- the samples' powers, from a row of the gains there of a field that does not rest
 module _ (config : MotionConfig) (r : le (config .«depth_db») RESTING-DEPTH-DB ≡ false) (row : List Float) (g : row ≡ mapRange (λ k x. gainThere (settled config) x) 0 256 octaveTable) where
   abbrev powerAtPlace : ℕ → Float
   powerAtPlace k = square (getD row k nan)

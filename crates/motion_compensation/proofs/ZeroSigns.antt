@@ -1,6 +1,8 @@
--- The sign of a zero among the motion settings does not count: with equal settings the field leaves the same of every frequency, and is made up for the same. A zero size is below the least
--- size. A zero phase goes through operations that differ at most in the sign of a zero, up to a function of the value alone: the place in the turn, a square, or 1 less the opening. At a zero depth
--- the field rests. Assumes nothing.
+-- The sign of a zero among the motion settings does not count: equal settings give the same gain at
+-- every frequency and the same compensation. A zero size is below the least size. A zero phase goes
+-- through operations that differ at most in the sign of a zero, up to a function of the value
+-- alone: the place in the turn, a square, or 1 less the opening. At a zero depth the field rests.
+-- Assumes nothing.
 use mathlib.Core.Path.{_≡_, refl, ap, _∙_, subst, subst₂}
 use mathlib.Core.Logic.{_⊎_, inl, inr}
 use mathlib.Core.Bool.{Bool, true, false, cond, _||_}

@@ -1,4 +1,5 @@
--- `motion_compensation_gain` of document 01: the gain that makes up for the moving field, from 256 samples at even steps of the octaves shown. Assumes nothing.
+-- `motion_compensation_gain` of document 01: the gain that compensates for the moving field, from
+-- 256 samples spaced evenly over the octaves shown. Assumes nothing.
 use mathlib.Core.Bool.{cond}
 use Prim.Native.Nat.{ℕ}
 use lib.IntN.{pos}
@@ -21,7 +22,7 @@ MOTION-COMPENSATION-SAMPLES = 256
 abbrev pub MAX-MOTION-COMPENSATION-DB : Float
 MAX-MOTION-COMPENSATION-DB = ofBits binary32 0x4140_0000
 
--- as an f32
+-- 256, the number of samples, as an f32
 abbrev samples : Float
 samples = ofInt binary32 (pos MOTION-COMPENSATION-SAMPLES)
 
@@ -33,7 +34,7 @@ sampleFrequency index =
 unfoldable pub samplePower : MotionConfig → ℕ → Float
 samplePower config index = square (motionGain (sampleFrequency index) config)
 
--- the sum, left to right from +0, over their number
+-- the sum of the squared gains, left to right from +0, divided by their number
 unfoldable pub meanSquare : MotionConfig → Float
 meanSquare config = div binary32 (fold (λ sum index. add binary32 sum (samplePower config index)) zero (range 0 MOTION-COMPENSATION-SAMPLES)) samples
 

@@ -1,5 +1,6 @@
--- The octaves of the 256 samples above the lowest frequency shown, by their bit patterns. That each is the logarithm that `openness` takes at its sample is shown in
--- proofs/Samples.antt. Assumes nothing.
+-- The octaves of the 256 samples above the lowest frequency shown, by their bit patterns. That each
+-- is the logarithm that `openness` takes at its sample is shown in proofs/Samples.antt. Assumes
+-- nothing.
 use mathlib.Core.List.{List, [], _∷_, map}
 use Prim.Native.Nat.{ℕ}
 use lib.Ieee.{Float, binary32, ofBits}

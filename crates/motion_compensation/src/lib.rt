@@ -1,10 +1,10 @@
-// The gain that makes up for the moving field, over the whole spectrum.
+// Broadband normalization for the moving spectral field.
 //
-// Method. The field is sampled at even steps of the octaves shown, so that the compensation follows
-// the footprint that is heard and does not count the highest bins more than others. The gain is one
-// over the root of the samples' mean square. It is capped, lest a narrow and deep Scan or Harmonic
-// be raised past what is safe. Where the samples lie does not depend on the field, so that is a
-// table of constants.
+// Method. The gain is 1 over the RMS of the field at 256 samples. Sampling uniformly in octaves
+// makes compensation follow the shape's perceptual footprint rather than over-weighting its
+// highest-frequency bins. The cap prevents very narrow, deep Scan or Harmonic settings from
+// producing unsafe boosts. The sample positions do not depend on the field, so they are constants
+// (octaves.rt).
 mod octaves;
 
 ghost use mathlib.Core.Path.{_≡_};
@@ -35,7 +35,7 @@ const MOTION_COMPENSATION_SAMPLES: usize = 256;
 
 const MAX_MOTION_COMPENSATION_DB: f32 = 12.0;
 
-// What the field leaves at each sample.
+// The field's gain at each sample.
 fn sample_gains(row: &mut [f32], powers: &PowerTable, sines: &SineTable, field: MotionConfig)
     requires { ⌜ (now powers ≡ powerTable)
         × (now sines ≡ sineTable)

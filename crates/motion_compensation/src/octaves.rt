@@ -1,4 +1,4 @@
-// The places of the samples of the octaves shown, as constants: they are the same for every field.
+// The sample positions in octaves, as constants: they are the same for every field.
 ghost use mathlib.Core.Path.{_≡_};
 ghost use Rattle.motion_compensation.specs.Octaves.{octaveTable};
 

@@ -1,4 +1,5 @@
--- Drift's three waves over a row: a layer holds the sine of its angle at each place, and the three joined are the drift there. Assumes nothing.
+-- Drift's three layers over a row: each holds the sine of its angle at each position, and their
+-- weighted sum is the drift there. Assumes nothing.
 use mathlib.Core.Path.{_≡_, ap, _∙_}
 use mathlib.Core.List.{List}
 use Prim.Native.Nat.{ℕ, _+_, _≤_, _<_}

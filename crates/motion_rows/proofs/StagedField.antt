@@ -1,4 +1,5 @@
--- The field at a row of bins: the stages one after the other give each bin its openness, and its gain; and of a field that does not rest that is the gain of its definition.
+-- The field at a row of bins: the stages one after the other give each bin its openness, and its
+-- gain; and of a field that does not rest that is the gain of its definition.
 -- Assumes nothing.
 use mathlib.Core.Path.{_≡_, refl, sym, ap, _∙_}
 use mathlib.Core.Bool.{Bool, true, false, cond}
@@ -22,7 +23,7 @@ use Rattle.motion_rows.specs.Settled.{settled}
 use Rattle.frequencies.specs.Frequency.{hertz}
 use Rattle.motion_rows.specs.Rows.{madeOfEvents, shaped, openAt, lowered, gainThere, gainLeft}
 
--- ---- shapes that are made of events
+-- ---- event-driven shapes
 events-open : (shape : MotionShape) (x size phase : Float) → T (madeOfEvents shape) → shapeAt shape x size phase ≡ one
 events-open Ripple x size phase h = absurd h
 events-open Harmonic x size phase h = absurd h

@@ -1,10 +1,11 @@
--- The settings of a moving field as its shape takes them: the depth not below 0, the phase within its cycle, the size not below the least. Assumes nothing.
+-- The settings of a moving field as its shape uses them: depth at least 0, phase reduced to one
+-- cycle, size at least MIN-SIZE-OCTAVES. Assumes nothing.
 use Rattle.float32.specs.Order.{maximum}
 use Rattle.float32.specs.Remainder.{zero, remEuclidOne}
 use Rattle.scene.specs.declared.MotionConfig.{MotionConfig}
 use Rattle.motion.specs.Field.{MIN-SIZE-OCTAVES}
 
--- a field's settings as its shape takes them
+-- the settled settings
 unfoldable pub settled : MotionConfig → MotionConfig
 settled config =
     record {

@@ -1,7 +1,7 @@
-// What the moving field leaves at a row of bins.
+// The moving field's gains at a row of bins.
 //
-// Method. One short loop after the other over the same few numbers: the frequencies over the lowest
-// shown, their octaves, the openness there, the decibels, the gains.
+// Method. One short loop per stage over the same row: frequencies relative to the lowest shown,
+// their octaves, the openness, decibels, gains.
 pub mod shapes;
 
 ghost use mathlib.Core.Path.{_≡_};
@@ -30,7 +30,7 @@ use scene::MotionConfig;
 use scene::MotionShape;
 use sine::table::SineTable;
 
-// The settings as the shapes take them, which is the same at every sample and every bin.
+// The settings clamped and reduced as the shapes need them, once for all samples and bins.
 pub fn settled(config: MotionConfig) -> MotionConfig
     ensures { λ r. ⌜ r ≡ settled config ⌝ }
 {
@@ -61,7 +61,7 @@ fn made_of_events(shape: MotionShape) -> bool
     }
 }
 
-// The openness of a bin whose place has one: below the lowest frequency shown the field is open.
+// Below the lowest frequency shown the field is open.
 fn shown(frequency: f32, opened: f32) -> f32
     ensures { λ r. ⌜ r ≡ cond (lt frequency MIN-DISPLAY-FREQUENCY-HZ) one opened ⌝ }
 {
@@ -84,8 +84,8 @@ fn open_below(row: &mut [f32], bin_hz: f32, start: usize, count: usize)
     }
 }
 
-// How open the field is at the bins from `start` on. Where it is made of events it is open, and the
-// octaves need not be known.
+// The field's openness at the bins from `start` on. An event-driven shape is open everywhere, so
+// its octaves are not computed.
 fn openings(
     row: &mut [f32],
     powers: &PowerTable,
@@ -113,7 +113,7 @@ fn openings(
     open_below(row, bin_hz, start, count);
 }
 
-// By how much each openness lowers its bin.
+// Turns each openness into decibels, at most 0.
 pub fn lowerings(row: &mut [f32], depth_db: f32, count: usize)
     requires { ⌜ count ≤ length (now row) ⌝ }
     ensures { λ _. ⌜ now (row .exit)
@@ -126,8 +126,8 @@ pub fn lowerings(row: &mut [f32], depth_db: f32, count: usize)
     }
 }
 
-// What a field that does not rest leaves of the bins from `start` on, by its settings as the shapes
-// take them.
+// The gains of a field that does not rest at the bins from `start` on, before compensation. `field`
+// is the result of `settled`.
 pub fn motion_gains(
     row: &mut [f32],
     powers: &PowerTable,

@@ -1,7 +1,7 @@
-// The openness of a row of places, octaves above the lowest frequency shown.
+// The openness at a row of positions, in octaves above the lowest frequency shown.
 //
-// Method. The shape is asked for once, and then one short loop follows the other over the row:
-// angles, cosines, crests. A loop without a table lookup is done for several entries at once.
+// Method. The shape is chosen once; then one short loop per stage runs over the row: angles,
+// cosines, crests. A loop without a table lookup is vectorized.
 ghost use mathlib.Core.Path.{_≡_};
 ghost use Prim.Native.Nat.{ℕ, _+_, _≤_, _<_};
 ghost use lib.ListN.{length, getD};
@@ -33,7 +33,7 @@ use sine::table::SineTable;
 use sine_rows::cos_row;
 use sine_rows::sin_row;
 
-// The places whose drift is worked out together.
+// How many positions of a Drift are computed together.
 const ROW: usize = 256;
 
 fn angles(row: &mut [f32], size: f32, phase: f32, count: usize)
@@ -92,7 +92,7 @@ fn harmonics(row: &mut [f32], sines: &SineTable, size: f32, phase: f32, count: u
     fifth_powers(row, count);
 }
 
-// The angles of Drift's three waves at the places from `start` on.
+// The angles of Drift's three layers at the positions from `start` on.
 fn layer_angles(
     row: &[f32],
     broad: &mut [f32],
@@ -127,7 +127,7 @@ fn layer_angles(
     }
 }
 
-// The waves joined, in the room of their places.
+// Replaces the positions by the sum of their three layers.
 fn layers(
     row: &mut [f32],
     broad: &[f32],
@@ -156,7 +156,7 @@ fn layers(
     }
 }
 
-// The drift at the places from `start` on, as many as there is room for in what is lent.
+// The drift at `count` positions from `start` on, for which the lent buffers have room.
 fn few_drifts(
     row: &mut [f32],
     broad: &mut [f32],
@@ -271,7 +271,7 @@ pub(crate) fn ones(row: &mut [f32], count: usize)
     slices::fill_first(row, 1.0, count);
 }
 
-// The shape's openness at each of the first `count` places of the row.
+// Replaces each of the first `count` positions by the shape's openness there.
 pub fn shape_row(
     row: &mut [f32],
     powers: &PowerTable,

@@ -1,5 +1,7 @@
--- What the calls answer to accepted input, and what is known of it: equal temperament, of `note_frequency`; a frequency that is finite, positive and normal and never falls as the
--- tuning rises; a gain that is finite and never negative. The tests pass, and the rest is known of the core. Assumes nothing.
+-- What the calls answer to accepted input, and what is known of it: equal temperament, of
+-- `note_frequency`; a frequency that is finite, positive and normal and never falls as the tuning
+-- rises; a gain that is finite and never negative. The tests pass, and the rest is known of the
+-- core. Assumes nothing.
 use mathlib.Core.Path.{_≡_, refl, _∙_}
 use mathlib.Core.List.{[], _∷_}
 use Prim.Native.Nat.{ℕ, _≤_}

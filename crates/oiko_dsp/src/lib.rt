@@ -1,4 +1,4 @@
-// The open calls of oiko-dsp: each tests what it is given and answers with the number or with the
+// The open calls of oiko-dsp: each tests its arguments and answers with the number or with the
 // refusal.
 ghost use mathlib.Core.Path.{_≡_};
 ghost use Rattle.answer.specs.Reply.{ofAnswer};
@@ -6,7 +6,7 @@ ghost use Rattle.oiko_dsp.specs.Calls.{dbToGain, noteFrequency, noteFreq
 use answer::Answer;
 use answer::refusal;
 
-// The gain of a number of decibels.
+// Converts amplitude decibels to a linear gain.
 pub fn db_to_gain(db: f32) -> Answer
     ensures { λ r. ⌜ ofAnswer r ≡ dbToGain db ⌝ }
 {

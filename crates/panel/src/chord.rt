@@ -20,7 +20,7 @@ pub const PARTIALS: u8 = 8;
 
 const MUTE_DB: f32 = -144.0;
 
-// From one point of the drawn curve to the next: 3 dB down in 1,024 points.
+// The slope of the drawn curve per point: 3 dB down in 1,024 points.
 const SLOPE_DB: f32 = -0.0029296875;
 
 pub fn config() -> MaskConfig {
@@ -65,7 +65,7 @@ pub fn voices() -> [MaskVoice; 128] {
     voices
 }
 
-// Silent around the seventh's highest partial.
+// Muted around the seventh's highest partial.
 fn drawn_db(point: u16) -> f32 {
     if 1200 <= point {
         if point < 1300 {

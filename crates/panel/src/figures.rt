@@ -1,5 +1,4 @@
-// Text and numbers on standard output, also to the right of a column, and a gain in the units of
-// the panel.
+// Prints text, right-aligned numbers and gains in decibels on standard output.
 use libc::STDOUT_FILENO;
 
 pub fn print(text: &[u8]) {
@@ -18,7 +17,7 @@ fn print_spaces(count: usize) {
     }
 }
 
-// The spaces before a text of that length which ends where the column does.
+// The spaces that right-align a text of that length in the column.
 fn print_margin(width: usize, length: usize) {
     if length < width {
         print_spaces(width - length);
@@ -37,7 +36,7 @@ pub fn decibels(gain: f32) -> f32 {
     20.0 * power::decimal::log10(&powers, gain)
 }
 
-// n hundredths, with two places after the point.
+// n hundredths, with two decimals.
 fn print_hundredths(width: usize, sign: &[u8], n: u64) {
     let mut text = [0u8; 20];
     let digits = io::decimal(n / 100, &mut text);
@@ -49,7 +48,7 @@ fn print_hundredths(width: usize, sign: &[u8], n: u64) {
     print_in_column(1, n % 10);
 }
 
-// How far from 0, in hundredths to the nearest, a half away from 0.
+// The magnitude in hundredths, rounded to the nearest, halves away from 0.
 fn hundredths(db: f32) -> u64 {
     counts::floor_to_count(float32::order::abs(db) * 100.0 + 0.5) as u64
 }

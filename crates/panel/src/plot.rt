@@ -1,5 +1,5 @@
-// Both masks as a drawing in SVG, over log frequency: 1,000 units to the octave from 20 Hz on, 60
-// to the decibel from +12 dB down.
+// Both masks as a drawing in SVG, over log frequency: 1,000 units per octave from 20 Hz up, 60 per
+// decibel from +12 dB down.
 use crate::chord::BINS;
 use crate::figures::decibels;
 use crate::figures::print;
@@ -31,7 +31,7 @@ fn height(gain: f32) -> usize {
     down(decibels(gain))
 }
 
-// The left line is the wider, so that both are seen where they run together.
+// The left line is wider, so that both are visible where they coincide.
 fn print_style() {
     print(b"<style>\n");
     print(b"text { font: 250px sans-serif; fill: #333333 }\n");

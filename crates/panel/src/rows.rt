@@ -1,4 +1,4 @@
-// The gains at the bins closest to the chord's partials, in rising order, one row to a bin.
+// The gains at the bins closest to the chord's partials, in ascending order, one row per bin.
 use crate::chord;
 use crate::chord::BIN_HZ;
 use crate::chord::BINS;

@@ -1,4 +1,5 @@
--- Equal temperament: the 128 notes at tuning 0 are in tune, by one test that antt computes over all of them; and A4 and the A below it are 440 and 220 Hz. Assumes nothing.
+-- Equal temperament: the 128 notes at tuning 0 are in tune, by one test that antt computes over all
+-- of them; and A4 and the A below it are 440 and 220 Hz. Assumes nothing.
 use mathlib.Core.Path.{_≡_, refl}
 use mathlib.Core.Bool.{Bool, false, _&&_}
 use Prim.Native.Nat.{ℕ, _+_, _-_, _*_, _^_, _≤_}

@@ -1,5 +1,7 @@
--- The frequency of a note never falls as the note or its tuning rises, since each operation keeps the order. So for the notes 0..127 and tunings -48..48 it lies between those of
--- the two ends, which antt computes: it is finite and from 1/2 to 2 ^ 18 Hz, hence positive and normal, where L2 is defined. Assumes nothing.
+-- The frequency of a note never falls as the note or its tuning rises, since each operation keeps
+-- the order. So for the notes 0..127 and tunings -48..48 it lies between those of the two ends,
+-- which antt computes: it is finite and from 1/2 to 2 ^ 18 Hz, hence positive and normal, where L2
+-- is defined. Assumes nothing.
 use mathlib.Core.Path.{_≡_, subst₂}
 use mathlib.Core.Bool.{true, false}
 use Prim.Native.Nat.{ℕ, _+_, _*_, _^_, _≤_}

@@ -1,4 +1,5 @@
--- The frequency of a note in twelve-tone equal temperament: 440 * 2 ^ ((note + tuning - 69) / 12), rounded at each operation, in the Rust's order. Assumes nothing.
+-- The frequency of a note in twelve-tone equal temperament: 440 * 2 ^ ((note + tuning - 69) / 12),
+-- rounded at each operation, in the Rust's order. Assumes nothing.
 use Prim.Native.Nat.{ℕ}
 use lib.IntN.{pos}
 use lib.Ieee.{Float, binary32, ofBits, ofInt, add, sub, mul, div}

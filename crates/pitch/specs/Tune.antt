@@ -1,5 +1,7 @@
--- "For each of the 128 notes at tuning 0 the frequency f satisfies (f * (1 - 2 ^ -18)) ^ 12 ≤ 440 ^ 12 * 2 ^ (note - 69) ≤ (f * (1 + 2 ^ -18)) ^ 12", over whole numbers: f is
--- above f / below f, and the denominators and 2 ^ 69 are multiplied out. Assumes nothing.
+-- "For each of the 128 notes at tuning 0 the frequency f satisfies
+-- (f * (1 - 2 ^ -18)) ^ 12 ≤ 440 ^ 12 * 2 ^ (note - 69) ≤ (f * (1 + 2 ^ -18)) ^ 12", over whole
+-- numbers: f is above f / below f, and the denominators and 2 ^ 69 are multiplied out. Assumes
+-- nothing.
 use Prim.Native.Nat.{ℕ, _+_, _-_, _*_, _^_, _≤_}
 use lib.Ieee.{Float}
 use Rattle.float32.specs.Value.{above, below}

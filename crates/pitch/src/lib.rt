@@ -4,14 +4,14 @@ ghost use Rattle.power.specs.Table.{powerTable};
 ghost use Rattle.pitch.specs.Pitch.{noteHertz};
 use power::table::PowerTable;
 
-// A4, the note that a tuning fork sounds, and its frequency.
+// A4 is MIDI note 69, at 440 Hz.
 pub const A4_NOTE: f32 = 69.0;
 
 pub const A4_HERTZ: f32 = 440.0;
 
 pub const NOTES_PER_OCTAVE: f32 = 12.0;
 
-// The frequency of a note in twelve-tone equal temperament, raised by `tuning` semitones.
+// MIDI note frequency in twelve-tone equal temperament, with an additional offset in semitones.
 pub fn note_hertz(powers: &PowerTable, note: u8, tuning: f32) -> f32
     requires { ⌜ now powers ≡ powerTable ⌝ }
     ensures { λ r. ⌜ r ≡ noteHertz note tuning ⌝ }

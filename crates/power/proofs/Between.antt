@@ -1,5 +1,6 @@
--- E2 between its ends, in document 01's words: with X = floor (x * 2 ^ 24), n = floor (X / 2 ^ 24) and F = X mod 2 ^ 24 it is floor (I(F) / 128) * 2 ^ (n - 23),
--- as a fraction of whole numbers (`HasValue y s a c` says that y is a / c, negative where s is true). Assumes nothing.
+-- E2 between its ends, in document 01's words: with X = floor (x * 2 ^ 24), n = floor (X / 2 ^ 24)
+-- and F = X mod 2 ^ 24 it is floor (I(F) / 128) * 2 ^ (n - 23), as a fraction of whole numbers
+-- (`HasValue y s a c` says that y is a / c, negative where s is true). Assumes nothing.
 use mathlib.Core.Path.{_≡_, sym, ap, _∙_, subst}
 use mathlib.Core.Bool.{Bool, true, false, not}
 use Prim.Native.Nat.{ℕ, suc, _+_, _-_, _*_, _/_, _%_, _^_, _≤_, _<_}
@@ -54,7 +55,8 @@ module _ (m : ℕ) (e : ℤ) where
       value (fin false m e) tt (pos-high m e) (under-of-lt (fin false m e) h) (X % 2 ^ 24) (X / 2 ^ 24 + 126) (omega arith) (omega arith) (2 ^ (X / 2 ^ 24)) (2 ^ 23)
       (ap (λ (z : ℕ). z * 2 ^ 23) (pow-add 2 (X / 2 ^ 24) 126) ∙ mul-assoc (2 ^ (X / 2 ^ 24)) (2 ^ 126) (2 ^ 23))
 
--- ---- x = -a / b: X is -Z with Z the ceiling of a * 2 ^ 24 / b, so that n is -j with j the ceiling of Z / 2 ^ 24, and F is j * 2 ^ 24 - Z
+-- ---- x = -a / b: X is -Z with Z the ceiling of a * 2 ^ 24 / b, so that n is -j with j the ceiling
+-- of Z / 2 ^ 24, and F is j * 2 ^ 24 - Z
 abbrev pub ceiling : ℕ → ℕ → ℕ
 ceiling a b = (a + b - 1) / b
 

@@ -1,5 +1,7 @@
--- Between two entries of a table of any power of two of steps, one division finds the greatest F with I(F) ≤ t: where p h ≤ t < p (h + 1) its low bits are
--- r = floor (((t - p h + 1) * 2 ^ w - 1) / (p (h + 1) - p h)), the greatest whole number with (p (h + 1) - p h) * r < (t - p h + 1) * 2 ^ w. Assumes nothing.
+-- Between two entries of a table of any power of two of steps, one division finds the greatest F
+-- with I(F) ≤ t: where p h ≤ t < p (h + 1) its low bits are r = floor (((t - p
+-- h + 1) * 2 ^ w - 1) / (p (h + 1) - p h)), the greatest whole number with (p (h + 1) - p
+-- h) * r < (t - p h + 1) * 2 ^ w. Assumes nothing.
 use mathlib.Core.Path.{_≡_, sym, ap, _∙_, subst}
 use mathlib.Core.Logic.{inl, inr}
 use Prim.Native.Nat.{ℕ, suc, _+_, _-_, _*_, _/_, _%_, _^_, _≤_, _<_}

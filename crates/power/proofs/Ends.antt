@@ -1,4 +1,5 @@
--- E2 beyond its ends, in document 01's words: below -126 it is 0, from 128 up the largest finite f32, of a NaN 0. Assumes nothing.
+-- E2 beyond its ends, in document 01's words: below -126 it is 0, from 128 up the largest finite
+-- f32, of a NaN 0. Assumes nothing.
 use mathlib.Core.Path.{_≡_, refl, sym, _∙_}
 use mathlib.Core.Bool.{true, false, not}
 use Prim.Native.Nat.{ℕ, _*_, _^_, _≤_, _<_}

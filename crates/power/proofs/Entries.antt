@@ -1,4 +1,5 @@
--- What the table's rule says of its entries, for any number of steps n: they never fall, and lie from 2 ^ 30 to 2 ^ 31. A number is below another where its power is.
+-- What the table's rule says of its entries, for any number of steps n: they never fall, and lie
+-- from 2 ^ 30 to 2 ^ 31. A number is below another where its power is.
 -- Assumes nothing.
 use mathlib.Core.Path.{_≡_, sym, ap, _∙_}
 use Prim.Native.Nat.{ℕ, zero, suc, _+_, _*_, _^_, _≤_, _<_, zero-le}

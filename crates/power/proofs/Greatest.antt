@@ -1,4 +1,5 @@
--- `greatest f t n` is the greatest F below n with f F ≤ t, and the only such number; a larger t has one no smaller. Assumes nothing.
+-- `greatest f t n` is the greatest F below n with f F ≤ t, and the only such number; a larger t has
+-- one no smaller. Assumes nothing.
 use mathlib.Core.Path.{_≡_}
 use mathlib.Core.Logic.{inl, inr}
 use mathlib.Core.Bool.{Bool, true, false, not, cond}

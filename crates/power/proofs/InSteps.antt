@@ -1,4 +1,5 @@
--- An x from -126 to 128 in steps of 2 ^ -24, moved up by 128: what `near_steps` and `far_steps` give is that and whole steps more, 896 * 2 ^ 24 and 8388480 * 2 ^ 24. Assumes nothing.
+-- An x from -126 to 128 in steps of 2 ^ -24, moved up by 128: what `near_steps` and `far_steps`
+-- give is that and whole steps more, 896 * 2 ^ 24 and 8388480 * 2 ^ 24. Assumes nothing.
 use mathlib.Core.Path.{_≡_, sym}
 use mathlib.Core.Bool.{false, not}
 use Prim.Native.Nat.{_+_, _*_, _^_, _≤_, _<_}

@@ -1,4 +1,5 @@
--- I(F) never falls, and lies from 2 ^ 30 up and below 2 ^ 31, for any power of two of steps: within a step it is a line that rises, and at its end no higher than the next entry.
+-- I(F) never falls, and lies from 2 ^ 30 up and below 2 ^ 31, for any power of two of steps: within
+-- a step it is a line that rises, and at its end no higher than the next entry.
 -- Assumes nothing.
 use mathlib.Core.Path.{sym, subst}
 use mathlib.Core.Logic.{inl, inr}

@@ -1,4 +1,5 @@
--- L2 as `log2` makes it: +0 where v is not positive and normal, and else, from the parts of v, the sum of F / 2 ^ 24 and e, both exact, rounded once.
+-- L2 as `log2` makes it: +0 where v is not positive and normal, otherwise, from the parts of v, the
+-- sum of F / 2 ^ 24 and e, both exact, rounded once.
 -- Assumes nothing.
 use mathlib.Core.Path.{_≡_, refl, sym, ap, _∙_, subst}
 use mathlib.Core.Bool.{Bool, true, false, not, cond, _&&_, true≢false}

@@ -1,5 +1,6 @@
--- The parts of a positive normal v as `log2` takes them from its bit pattern: the sign bit is clear and the exponent's field from 1 to 254, since any other pattern is of a number that
--- is not positive and normal. And the exponent, a signed number. Assumes nothing.
+-- The parts of a positive normal v as `log2` takes them from its bit pattern: the sign bit is clear
+-- and the exponent's field from 1 to 254, since any other pattern is of a number that is not
+-- positive and normal. And the exponent, a signed number. Assumes nothing.
 use mathlib.Core.Path.{_≡_, refl, sym, ap, _∙_, subst}
 use mathlib.Core.Logic.{inl, inr}
 use mathlib.Core.Bool.{Bool, true, false, not, cond}

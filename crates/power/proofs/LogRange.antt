@@ -1,5 +1,6 @@
--- Where L2's results lie: from -126 to 128, for every v, since k = e + 126 is from 0 to 253 and F below 2 ^ 24; and of a power of two it is e itself, since I(0) = 2 ^ 30
--- makes F 0. Assumes nothing.
+-- Where L2's results lie: from -126 to 128, for every v, since k = e + 126 is from 0 to 253 and F
+-- below 2 ^ 24; and of a power of two it is e itself, since I(0) = 2 ^ 30 makes F 0. Assumes
+-- nothing.
 use mathlib.Core.Path.{_≡_, refl, sym, ap, _∙_}
 use mathlib.Core.Bool.{Bool, true, false, not, cond}
 use Prim.Native.Nat.{ℕ, _+_, _-_, _*_, _^_, _≤_, zero-le}

@@ -1,5 +1,7 @@
--- log2 never falls on positive normal numbers, for any power of two of steps up to 2 ^ 24: as v rises so does k = e + 126, or with the same k M, and then F, the greatest
--- with I(F) ≤ 128 * M; F is below 2 ^ 24, so that k * 2 ^ 24 + F rises too; and one rounding keeps the order. Assumes nothing.
+-- log2 never falls on positive normal numbers, for any power of two of steps up to 2 ^ 24: as v
+-- rises so does k = e + 126, or with the same k M, and then F, the greatest with I(F) ≤ 128 * M; F
+-- is below 2 ^ 24, so that k * 2 ^ 24 + F rises too; and one rounding keeps the order. Assumes
+-- nothing.
 use mathlib.Core.Path.{_≡_, sym, subst}
 use mathlib.Core.Logic.{inl, inr}
 use mathlib.Core.Bool.{Bool, true, false, not, cond}

@@ -1,6 +1,9 @@
--- L2 in document 01's words: for a positive normal v = M * 2 ^ (e - 23), M in 2 ^ 23 .. 2 ^ 24 - 1, with F the greatest whose I(F) ≤ 128 * M, it is e + F / 2 ^ 24
--- rounded once: round ((e * 2 ^ 24 + F) / 2 ^ 24) where e is from 0 up, and else -round ((-e * 2 ^ 24 - F) / 2 ^ 24). Of any other v it is +0.
--- In units of 2 ^ -149 v is M * 2 ^ k with k = e + 126, which has k + 24 binary digits. Assumes nothing.
+-- L2 in document 01's words: for a positive normal v = M * 2 ^ (e - 23), M in 2 ^ 23 .. 2 ^ 24 - 1,
+-- with F the greatest whose I(F) ≤ 128 * M, it is e + F / 2 ^ 24 rounded once: round
+-- ((e * 2 ^ 24 + F) / 2 ^ 24) where e is from 0 up, otherwise -round ((-e * 2 ^ 24 - F) / 2 ^ 24).
+-- Of any other v it is +0.
+-- In units of 2 ^ -149 v is M * 2 ^ k with k = e + 126, which has k + 24 binary digits. Assumes
+-- nothing.
 use mathlib.Core.Path.{_≡_, sym, ap, _∙_}
 use mathlib.Core.Bool.{true, false}
 use Prim.Native.Nat.{ℕ, _+_, _-_, _*_, _^_, _≤_, _<_}

@@ -1,5 +1,6 @@
--- E2 as `exp2` makes it: +0 and the largest f32 at the ends, and between them the bits (N - 2) * 2 ^ 23 + floor (I(F) / 128), a sum that carries the leading one of
--- floor (I(F) / 128), which has 24 digits, into the exponent's field. Assumes nothing.
+-- E2 as `exp2` makes it: +0 and the largest f32 at the ends, and between them the bits
+-- (N - 2) * 2 ^ 23 + floor (I(F) / 128), a sum that carries the leading one of floor (I(F) / 128),
+-- which has 24 digits, into the exponent's field. Assumes nothing.
 use mathlib.Core.Path.{_≡_, refl, sym, ap, _∙_}
 use mathlib.Core.Bool.{false, not}
 use Prim.Native.Nat.{ℕ, _+_, _-_, _*_, _/_, _%_, _^_, _≤_, _<_}

@@ -1,4 +1,5 @@
--- A positive normal v in units of 2 ^ -149, f32's smallest value: from 2 ^ 23 of them to (2 ^ 24 - 1) * 2 ^ 253, which is what the tests of `log2` on the parts of v come to.
+-- A positive normal v in units of 2 ^ -149, f32's smallest value: from 2 ^ 23 of them to
+-- (2 ^ 24 - 1) * 2 ^ 253, which is what the tests of `log2` on the parts of v come to.
 -- Assumes nothing.
 use mathlib.Core.Path.{_≡_, refl, sym, ap, _∙_, subst}
 use mathlib.Core.Logic.{inl, inr}

@@ -1,5 +1,8 @@
--- The place within a step by one quotient of f64's. For 0 < x ≤ d ≤ 2 ^ 30 and n = floor ((x * 2 ^ 16 - 1) / d) the quotient x / d is at most (n + 1) / 2 ^ 16, and above n / 2 ^ 16 by 2 ^ -46
--- or more. Both bounds are values of f64, so the rounded quotient keeps to them, and what it leaves of 6, in the steps of 2 ^ -50 that f64 has there, begins with the digits of 2 ^ 17 - (n + 1).
+-- The place within a step by one quotient of f64's. For 0 < x ≤ d ≤ 2 ^ 30 and n = floor
+-- ((x * 2 ^ 16 - 1) / d) the quotient x / d is at most (n + 1) / 2 ^ 16, and above n / 2 ^ 16 by
+-- 2 ^ -46 or more. Both bounds are values of f64, so the rounded quotient keeps to them, and what
+-- it leaves of 6, in the steps of 2 ^ -50 that f64 has there, begins with the digits of
+-- 2 ^ 17 - (n + 1).
 -- Assumes nothing.
 use mathlib.Core.Path.{_≡_, refl, sym, ap, _∙_}
 use mathlib.Core.Bool.{Bool, true, false, not, cond}

@@ -1,5 +1,7 @@
--- Where E2's results lie: finite and never negative; at most 1 up to 0 and at least 1 from 0 up; positive and normal from -126 up, with the bits said here.
--- All but the last follow from E2 never falling and its values at -126, 0 and infinity. Assumes nothing.
+-- Where E2's results lie: finite and never negative; at most 1 up to 0 and at least 1 from 0 up;
+-- positive and normal from -126 up, with the bits said here.
+-- All but the last follow from E2 never falling and its values at -126, 0 and infinity. Assumes
+-- nothing.
 use mathlib.Core.Path.{_≡_, refl, sym, _∙_}
 use mathlib.Core.Bool.{Bool, true, false, not, cond}
 use Prim.Native.Nat.{ℕ, _+_, _-_, _*_, _/_, _%_, _^_, _≤_, _<_, zero-le}

@@ -1,5 +1,6 @@
--- exp2 never falls, for any power of two of steps up to 2 ^ 24: all that is asked of the table is its rule. Within an octave I(F) never falls; at its end
--- floor (I(F) / 128) is below 2 ^ 24, and the next octave begins at 2 ^ 23 of units twice as large. Assumes nothing.
+-- exp2 never falls, for any power of two of steps up to 2 ^ 24: all that is asked of the table is
+-- its rule. Within an octave I(F) never falls; at its end floor (I(F) / 128) is below 2 ^ 24, and
+-- the next octave begins at 2 ^ 23 of units twice as large. Assumes nothing.
 use mathlib.Core.Path.{_≡_, refl, sym, ap, _∙_, subst}
 use mathlib.Core.Logic.{inl, inr}
 use mathlib.Core.Bool.{Bool, true, false, not, cond}

@@ -1,4 +1,5 @@
--- What `find` computes: the step that t lies in, which is within the table, since P begins at 2 ^ 30 and ends at 2 ^ 31; the place within the step, and the sum of both.
+-- What `find` computes: the step that t lies in, which is within the table, since P begins at
+-- 2 ^ 30 and ends at 2 ^ 31; the place within the step, and the sum of both.
 -- Assumes nothing.
 use mathlib.Core.Path.{_≡_, refl, subst}
 use mathlib.Core.Logic.{inl, inr}

@@ -1,4 +1,5 @@
--- powf(10, y), exp(y) and log10(v) of document 01, from E2 and L2 by one product each. Assumes nothing.
+-- powf(10, y), exp(y) and log10(v) of document 01, from E2 and L2 by one product each. Assumes
+-- nothing.
 use lib.Ieee.{Float, binary32, mul}
 use Rattle.float32.specs.Constants.{LOG2-10, LOG2-E, LOG10-2}
 use Rattle.power.specs.Power.{E2}

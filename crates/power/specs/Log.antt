@@ -1,7 +1,10 @@
--- L2 of document 01, for log2 v. A positive normal v is M * 2 ^ (e - 23) with M in 2 ^ 23 .. 2 ^ 24 - 1, and with F the greatest whose I(F) ≤ 128 * M the result is
--- e + F / 2 ^ 24, rounded once. Of any other v, for which document 01 says nothing, it is 0.
--- In units of 2 ^ -149, f32's smallest value, v is the whole number M * 2 ^ k, where k = e + 126 is from 0 up: k is how many binary digits it has past 24, and M what is left
--- without those. Each definition takes a table p and its w low bits, and L2 is that for P. That it is what document 01 says is shown in proofs/Logs.antt. Assumes nothing.
+-- L2 of document 01, for log2 v. A positive normal v is M * 2 ^ (e - 23) with M in 2 ^ 23 ..
+-- 2 ^ 24 - 1, and with F the greatest whose I(F) ≤ 128 * M the result is e + F / 2 ^ 24, rounded
+-- once. Of any other v, for which document 01 says nothing, it is 0.
+-- In units of 2 ^ -149, f32's smallest value, v is the whole number M * 2 ^ k, where k = e + 126 is
+-- from 0 up: k is the number of its binary digits beyond 24, and M is the number without those.
+-- Each definition takes a table p and its w low bits, and L2 is that for P. That it is what
+-- document 01 says is shown in proofs/Logs.antt. Assumes nothing.
 use mathlib.Core.Bool.{Bool, true, false, cond, _&&_}
 use Prim.Native.Nat.{ℕ, zero, suc, _+_, _-_, _*_, _/_, _^_}
 use lib.Dec.{leb, ltb}
@@ -12,7 +15,8 @@ use Rattle.lists.specs.Interpolation.{interp}
 use Rattle.power.specs.Table.{lowBits, P}
 use Rattle.power.specs.Power.{positiveZero, largest}
 
--- The greatest F below n with f F ≤ t, tried from the top down; 0 where there is none. That it is the greatest, and that no other number is, stands in proofs/Greatest.antt
+-- The greatest F below n with f F ≤ t, tried from the top down; 0 where there is none. That it is
+-- the greatest, and the only one, is proved in proofs/Greatest.antt
 unfoldable pub greatest : (ℕ → ℕ) → ℕ → ℕ → ℕ
 greatest f t zero = 0
 greatest f t (suc n) = cond (leb (f n) t) n (greatest f t n)

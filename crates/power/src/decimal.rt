@@ -1,5 +1,5 @@
-// Powers of 10 and of e, and logarithms to base 10, by exp2 and log2 and one product each, rounded:
-// with a power before, with a logarithm after.
+// Powers of 10 and e and base-10 logarithms, from exp2 and log2 by one rounded multiplication each:
+// before exp2, and after log2.
 ghost use mathlib.Core.Path.{_≡_};
 ghost use Rattle.power.specs.Table.{powerTable};
 ghost use Rattle.power.specs.Decimal.{pow10, exp, log10};

@@ -12,22 +12,21 @@ use float32::order::in_range;
 
 pub const LARGEST: f32 = 3.4028235e38;
 
-// Below LOWEST the power is 0, and from LIMIT on LARGEST. Up to HIGHEST_NEAR the sum of
-// `near_steps` serves.
+// Below LOWEST the result is 0, from LIMIT up it is LARGEST. Up to HIGHEST_NEAR `near_steps` can be
+// used.
 pub const LOWEST: f32 = -126.0;
 
 const HIGHEST_NEAR: f32 = 126.0;
 
 pub const LIMIT: f32 = 128.0;
 
-// What `near_steps` and `far_steps` move x up by beyond 128, in steps: 896 * 2^24 and 8388480 *
-// 2^24.
+// `near_steps` adds 2^10 to x and `far_steps` 2^23. Their excess over 128, in steps of 2^-24:
+// 896 * 2^24 and 8388480 * 2^24.
 const NEAR_MORE: u64 = 15032385536;
 
 pub const FAR_MORE: u64 = 140735340871680;
 
-// The power whose exponent, moved up by 128, is y steps of 2^-24: y has the whole part above 24
-// bits of fraction, F.
+// 2^(y / 2^24 - 128): y has the integer part of the exponent above its 24 fraction bits, F.
 fn power_of_steps(powers: &PowerTable, y: u64) -> f32
     requires { ⌜ (now powers ≡ powerTable) × (2 * 2 ^ 24 ≤ y) × (y < 256 * 2 ^ 24) ⌝ }
     ensures { λ r. ⌜ r ≡ powerAt lowBits P (y / 2 ^ 24) (y % 2 ^ 24) ⌝ }
@@ -39,13 +38,13 @@ fn power_of_steps(powers: &PowerTable, y: u64) -> f32
 
 // 2^x: E2 of document 01.
 //
-// Method. x is moved up by 128, so that it is not negative, and cut down to a multiple of 2^-24: by
-// one sum, which for most x is exact (fixed_point).
-// The table holds 2^(30 + h/256) rounded down, and a straight line joins its entries.
-// The 24 leading bits of that are added to the field of the exponent, into which their leading one
-// carries.
-// Error, measured over the floats from -126 to 128: from -1.6e-7 to 9.2e-7 of 2^x, the line being
-// above the curve and the cuts taking away.
+// Method. x + 128 is rounded down to a multiple of 2^-24 by one addition (fixed_point): its integer
+// part gives the exponent of the result, its 24 fraction bits are F. The table P (table.rt) holds
+// 2^(30 + h/256) rounded down; the 8 high bits of F choose an entry, and the 16 low bits
+// interpolate linearly to the next. The 24 leading bits of that are added to the exponent field,
+// into which their leading 1 carries. power_rows does the same for a row of numbers.
+// Error, measured over the floats from -126 to 128: from -1.6e-7 to 9.2e-7 of 2^x. The line lies
+// above the curve, and rounding down lowers it.
 pub fn exp2(powers: &PowerTable, x: f32) -> f32
     requires { ⌜ now powers ≡ powerTable ⌝ }
     ensures { λ r. ⌜ r ≡ E2 x ⌝ }

@@ -12,18 +12,18 @@ use crate::table::power;
 
 pub const LEAST_NORMAL: f32 = 1.1754944e-38;
 
-// From 4 to 8 the digits of an f64 end at 2^-50, and SIX less a part of up to 1 is there.
+// From 4 to 8 the last bit of an f64 is 2^-50. SIX minus a quotient of at most 1 lies there.
 const SIX: f64 = 6.0;
 
-// A step of 2^-16, one of 2^LOW_BITS in 1, begins that many digits above the last; from 4 to 6
-// there are 2^17 of them.
+// A step of 2^-16, that is 2^-LOW_BITS, is this many bits above the last one. From 4 to 6 there are
+// 2^17 steps.
 const STEP_DIGITS: u64 = 34;
 
 const LAST_LEFT: u32 = 0x1_ffff;
 
-// The step of the table that t = 2^30 * (1 + m) lies in, or the one before: log2(1 + m) is a little
-// above m * (1.403 - m * (0.53 - m * 0.125)), which is taken here for m's ten leading digits. That
-// it is so for all of them is computed in proofs/Guess.antt.
+// The table step that contains t = 2^30 * (1 + m), or the one before: log2(1 + m) is slightly above
+// m * (1.403 - m * (0.53 - m * 0.125)), which is computed here for the ten leading bits of m.
+// proofs/Guess.antt tests all values of those bits.
 fn guess(t: u64) -> usize
     requires { ⌜ (2 ^ 30 ≤ t) × (t < 2 ^ 31) ⌝ }
     ensures { λ r. ⌜ (r < 2 ^ highBits) × (P r ≤ t) × (t < P (min (r + 2) (2 ^ highBits))) ⌝ }
@@ -32,8 +32,8 @@ fn guess(t: u64) -> usize
     ((m * (1506459779 - m * (555745 - m * 128))) >> 32) as usize
 }
 
-// The step that t lies in: the last whose entry is at most t. The test itself is added: a choice by
-// it would be a branch that no processor can foresee.
+// The step that contains t: the last whose entry is at most t. The result of the comparison is
+// added as a number, since a branch on it would be unpredictable.
 fn step_of(powers: &PowerTable, t: u64) -> usize
     requires { ⌜ (now powers ≡ powerTable) × (2 ^ 30 ≤ t) × (t < 2 ^ 31) ⌝ }
     ensures { λ r. ⌜ r ≡ greatest P t (2 ^ highBits) ⌝ }
@@ -42,7 +42,7 @@ fn step_of(powers: &PowerTable, t: u64) -> usize
     h + ((power(powers, h + 1) <= t) as usize)
 }
 
-// t = 2^7 * M of v = M * 2^(e - 23): v's digits, as high as the table's entries.
+// t = 2^7 * M for v = M * 2^(e - 23): v's mantissa, scaled as the table's entries are.
 fn digits(v: f32) -> u32
     requires { ⌜ T (positiveNormal v) ⌝ }
     ensures { λ r. ⌜ r ≡ digitsOf v ⌝ }
@@ -50,7 +50,7 @@ fn digits(v: f32) -> u32
     ((f32::to_bits(v) & 0x7f_ffff) | 0x80_0000) << 7
 }
 
-// The step of the table that v's digits lie in.
+// The table step that contains v's mantissa.
 pub fn step(powers: &PowerTable, v: f32) -> u32
     requires { ⌜ (now powers ≡ powerTable) × T (positiveNormal v) ⌝ }
     ensures { λ r. ⌜ r ≡ stepOf v ⌝ }
@@ -58,11 +58,10 @@ pub fn step(powers: &PowerTable, v: f32) -> u32
     step_of(powers, digits(v) as u64) as u32
 }
 
-// ((x << LOW_BITS) - 1) / d, by one quotient of f64's: it is one less than x / d in steps of 2^-16,
-// rounded up. So what x / d leaves of SIX has those steps rounded down, and the low digits of its
-// pattern count them from 4 on. Both operations round, and the steps are right all the same: x / d
-// is a whole number of them, which rounding keeps, or farther from one than the rounding reaches
-// (proofs/Quotient.antt).
+// ((x << LOW_BITS) - 1) / d, by one f64 division: one less than x / d in steps of 2^-16, rounded
+// up. So SIX - x / d has its steps rounded down, and the low bits of its pattern count them from 4
+// up. Both operations round, and the count is still right: x / d is a whole number of steps, which
+// rounding keeps, or farther from one than the rounding error (proofs/Quotient.antt).
 fn place(x: u32, d: u32) -> u32
     requires { ⌜ (0 < x) × (x ≤ d) × (d ≤ 2 ^ 30) ⌝ }
     ensures { λ r. ⌜ r ≡ (x * 2 ^ lowBits - 1) / d ⌝ }
@@ -71,8 +70,8 @@ fn place(x: u32, d: u32) -> u32
     LAST_LEFT - (((f64::to_bits(-part + SIX) & 0xf_ffff_ffff_ffff) >> STEP_DIGITS) as u32)
 }
 
-// The greatest F with I(F) <= t: its high bits are the step h that t lies in, its low bits the
-// place within the step.
+// The greatest F with I(F) <= t: its high bits are the step h that contains t, its low bits the
+// position within the step.
 fn find(powers: &PowerTable, h: u32, t: u32) -> u32
     requires { ⌜ (now powers ≡ powerTable)
         × (2 ^ 30 ≤ t)
@@ -91,19 +90,19 @@ pub fn log_in_step(powers: &PowerTable, v: f32, h: u32) -> f32
     ensures { λ r. ⌜ r ≡ L2 v ⌝ }
 {
     let e = ((f32::to_bits(v) >> 23) as i32) - 127;
-    // F has 24 bits; the mask lets the compiler see it, and convert F by one instruction.
+    // F has 24 bits. The mask tells the compiler so, which then converts F with one instruction.
     let f = float32::bits::fraction(find(powers, h, digits(v)) & 0xff_ffff);
     f + (e as f32)
 }
 
 // log2(v) of a positive normal v: L2 of document 01; of any other v 0.
 //
-// Method. v = M * 2^(e - 23): the bit pattern has M's digits below the leading one, and above them
-// the field e + 127. F is the greatest of 24 bits whose power, by the table that exp2 has, is at
-// most M / 2^23, so that log2 undoes what exp2 does. The table holds 2^(30 + h/256) rounded down:
-// its step is found by a guess and one test, and the place within the step by one quotient. F /
-// 2^24 and e are exact, and their sum is rounded once; nothing here is chosen by a branch that a
-// positive normal number would decide.
+// Method. v = M * 2^(e - 23), read from the bit pattern. F is the greatest 24-bit number whose
+// power, by exp2's table P (table.rt: 2^(30 + h/256) rounded down), is at most M / 2^23, so that
+// log2 undoes exp2. The table step is found by a polynomial guess and one comparison, the position
+// within the step by one division. F / 2^24 and e are exact, and their sum is rounded once. No
+// branch depends on the value of a positive normal v. power_rows does the same for a row of
+// numbers.
 // Error, measured over every mantissa at 14 of the exponents: F / 2^24 is at most 1.4e-6 below and
 // 1.5e-9 above the fraction of log2(v), to which the rounding adds up to half a unit of the last
 // place.

@@ -2,16 +2,18 @@ ghost use mathlib.Core.Path.{_≡_};
 ghost use Prim.Native.Nat.{_^_, _<_, _≤_};
 ghost use Rattle.power.specs.Table.{highBits, powerTable, P, I};
 
-// The table P: a step for each value of F's high bits, and its end.
+// The table P of document 01, 2^(30 + j/256) rounded down: one step for each value of F's 8 high
+// bits, and the end of the last. exp2 and log2 read it, here and in power_rows; its rule is proved
+// for all entries together in specs/Rules.antt.
 pub type PowerTable = [u32; 257];
 
-// F has 24 bits. The high ones choose a step of the table, and the low ones the place within the
+// F has 24 bits: the high ones choose a step of the table, the low ones the position within the
 // step.
 pub(crate) const LOW_BITS: u64 = 16;
 
 pub(crate) const LOW_MASK: u64 = 0xffff;
 
-// P, to be made once and lent to every function that looks something up in it.
+// P, made once and lent to every function that reads it.
 pub fn power_table() -> PowerTable
     ensures { λ r. ⌜ r ≡ powerTable ⌝ }
 {
@@ -26,7 +28,7 @@ pub(crate) fn entry(powers: &PowerTable, j: usize) -> u32
     powers[j]
 }
 
-// P[j], with room for a product.
+// P[j] as a u64, so that a product fits.
 pub(crate) fn power(powers: &PowerTable, j: usize) -> u64
     requires { ⌜ (now powers ≡ powerTable) × (j ≤ 2 ^ highBits) ⌝ }
     ensures { λ r. ⌜ r ≡ P j ⌝ }
@@ -34,7 +36,7 @@ pub(crate) fn power(powers: &PowerTable, j: usize) -> u64
     entry(powers, j) as u64
 }
 
-// I(F): the line between two entries that stand side by side, rounded down.
+// I(F): linear interpolation between two adjacent entries, rounded down.
 pub fn interpolate(powers: &PowerTable, f: u64) -> u64
     requires { ⌜ (now powers ≡ powerTable) × (f < 2 ^ 24) ⌝ }
     ensures { λ r. ⌜ r ≡ I f ⌝ }

@@ -1,4 +1,5 @@
--- The stages of a row of numbers give each the power that exp2 gives: a number between the ends by its own steps and digits, and one beyond them by a test alone. Assumes nothing.
+-- The stages of a row of numbers give each the power that exp2 gives: a number between the ends by
+-- its own steps and digits, and one beyond them by a test alone. Assumes nothing.
 use mathlib.Core.Path.{_≡_, refl, sym, ap, _∙_, subst}
 use mathlib.Core.Bool.{Bool, true, false, cond, not}
 use mathlib.Core.List.{List}

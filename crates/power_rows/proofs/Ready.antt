@@ -1,4 +1,5 @@
--- The numbers that the rows' first stage leaves: each is positive and normal, and has the logarithm of the number that stood there, since 1 has that of the numbers without one, 0.
+-- The numbers that the rows' first stage leaves: each is positive and normal, and has the logarithm
+-- of the number that was there: numbers without one become 1, whose logarithm is 0.
 -- Assumes nothing.
 use mathlib.Core.Path.{_≡_, refl, sym, ap, _∙_, subst}
 use mathlib.Core.Bool.{Bool, true, false, cond}

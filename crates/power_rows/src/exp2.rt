@@ -1,9 +1,9 @@
-// Powers of 2, of 10 and of e of the numbers of a row, in their place.
+// Powers of 2, 10 and e of a row of numbers, in place.
 //
-// Method. exp2 over at most 64 numbers, one short loop after the other: the numbers between the
-// ends, their steps of 2^-24, the digits that the table gives for these, the powers. All but the
-// one that reads the table are done for several numbers at once: none branches, a number beyond the
-// ends counts as 0, and the last loop sets the ends.
+// Method. `power::exp2` for up to 64 numbers at a time, one short loop per stage: clip to the
+// range, steps of 2^-24 (fixed_point), the 24 bits from the table P, the powers. All loops but the
+// table lookup are vectorized: none branches, a number out of range counts as 0, and the last loop
+// puts in the results for those. Exact: each result is that of exp2, bit for bit.
 ghost use mathlib.Core.Path.{_≡_};
 ghost use Prim.Native.Nat.{ℕ, _+_, _*_, _/_, _%_, _^_, _≤_, _<_};
 ghost use lib.Dec.{T};
@@ -26,7 +26,7 @@ use power::exp2::LOWEST;
 use power::table::PowerTable;
 use power::table::interpolate;
 
-// The numbers that are worked out together.
+// How many numbers are computed together.
 const ROW: usize = 64;
 
 fn is_between(x: f32) -> bool
@@ -100,7 +100,7 @@ fn leading(found: &[u32], values: &mut [u32], powers: &PowerTable, count: usize)
     }
 }
 
-// The float of those digits, whose leading one carries into the field of the exponent.
+// The float with those 24 bits, whose leading 1 carries into the exponent field.
 fn made_of(y: u32, q: u32) -> f32
     requires { ⌜ (2 * 2 ^ 24 ≤ y) × (q ≡ digits y) ⌝ }
     ensures { λ r. ⌜ r ≡ powerAt lowBits P (y / 2 ^ 24) (y % 2 ^ 24) ⌝ }
@@ -140,7 +140,7 @@ fn finish(row: &mut [f32], found: &[u32], values: &[u32], start: usize, count: u
     }
 }
 
-// The powers of the numbers from `start` on, as many as there is room for in what is lent.
+// The powers of `count` numbers from `start` on, for which the lent buffers have room.
 fn few_powers(
     row: &mut [f32],
     inside: &mut [f32],

@@ -1,4 +1,4 @@
-// Powers and logarithms of the numbers of a row, in their place, by the table that `power` has: in
-// stages, most of which are done for several numbers at once.
+// Powers and logarithms of a row of numbers, in place, with the table of `power`: in stages, most
+// of which are vectorized.
 pub mod exp2;
 pub mod log2;

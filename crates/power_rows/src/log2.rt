@@ -1,9 +1,9 @@
 // The logarithms of a row of numbers.
 //
-// Method. As `log2` has it, in one short loop after the other over at most 64 numbers: a number
-// that has no logarithm becomes 1, whose logarithm is 0 too; then the steps of the table, and the
-// logarithms within them. No number decides a branch, and what is no table lookup is done for
-// several numbers at once, the quotients too.
+// Method. `power::log2` for up to 64 numbers at a time, one short loop per stage: a number without
+// a logarithm becomes 1, whose logarithm is 0 too; then the table steps; then the logarithms within
+// them. No branch depends on a number, and everything but the table lookups is vectorized, the
+// divisions too. Exact: each result is that of log2, bit for bit.
 ghost use mathlib.Core.Path.{_≡_};
 ghost use Prim.Native.Nat.{ℕ, _+_, _-_, _<_, _≤_};
 ghost use lib.Dec.{T};
@@ -20,7 +20,7 @@ use power::log2::log_in_step;
 use power::log2::step;
 use power::table::PowerTable;
 
-// How many numbers are worked out together.
+// How many numbers are computed together.
 const PART: usize = 64;
 
 fn ready(v: f32) -> f32
@@ -101,13 +101,13 @@ fn part_end(start: usize, count: usize) -> usize
     start + PART
 }
 
-// The first `count` numbers of the row become their logarithms.
+// Replaces the first `count` numbers of the row by their logarithms.
 pub fn log2_row(row: &mut [f32], powers: &PowerTable, count: usize)
     requires { ⌜ (now powers ≡ powerTable) × (count ≤ length (now row)) ⌝ }
     ensures { λ _. ⌜ now (row .exit) ≡ mapRange (λ k v. L2 v) 0 count (now (row .entry)) ⌝ }
 {
-    // A table of its own is none that a store to the row could change, so that the compiler may
-    // read it for several numbers at once.
+    // A local copy of the table: no store to the row can change it, so the compiler can work on
+    // several numbers at once.
     let own = *powers;
     let mut steps = [0u32; PART];
     let mut start: usize = 0;

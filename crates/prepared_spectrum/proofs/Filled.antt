@@ -1,5 +1,6 @@
--- A list that is filled part by part from its front: after the front a stands what the parts have not reached yet. The next part, `&mut s[n..e]` with n the length of a, puts b after a; the last, `&mut s[n..]`,
--- leaves nothing of what stood there. Assumes nothing.
+-- A list that is filled part by part from its front: after the front a come the entries that no
+-- part has reached yet. The next part, `&mut s[n..e]` with n the length of a, puts b after a; the
+-- last, `&mut s[n..]`, replaces all that is left. Assumes nothing.
 use mathlib.Core.Path.{_≡_, sym, ap, _∙_}
 use mathlib.Core.List.{List, [], _++_, append-assoc, append-nil}
 use Prim.Native.Nat.{ℕ, _-_}

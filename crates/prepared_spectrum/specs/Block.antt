@@ -1,4 +1,5 @@
--- `PreparedSpectrum::new` of document 01 "fills one lent block: window, its dual, smooth window, its dual, logarithms; the frequency table begins after the four windows". Assumes nothing.
+-- `PreparedSpectrum::new` of document 01 "fills one lent block: window, its dual, smooth window,
+-- its dual, logarithms; the frequency table begins after the four windows". Assumes nothing.
 use mathlib.Core.List.{List, _++_}
 use Prim.Native.Nat.{ℕ}
 use lib.ListN.{length}

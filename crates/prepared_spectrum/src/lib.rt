@@ -1,4 +1,6 @@
-// The block of a prepared spectrum: window, its dual, smooth window, its dual, logarithms.
+// Prepared analysis/synthesis windows and frequency lookup for one FFT size, in one block: window,
+// its dual, smooth window, its dual, logarithms. Filled during activation; processing only reads
+// it.
 ghost use mathlib.Core.Path.{_≡_};
 ghost use Prim.Native.Nat.{_*_, _≤_, _<_};
 ghost use lib.ListN.{length};

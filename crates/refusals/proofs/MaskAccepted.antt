@@ -1,4 +1,5 @@
--- What is known of a scene that a mask builder accepts: every test before 'done' was passed. Assumes nothing.
+-- What is known of a scene that a mask builder accepts: every test before 'done' was passed.
+-- Assumes nothing.
 use mathlib.Core.Path.{_≡_, refl, sym, subst}
 use mathlib.Core.Bool.{Bool, true, false, cond, not, _&&_, _||_}
 use mathlib.Core.List.{List}

@@ -1,4 +1,6 @@
--- A reply is a chain of tests in the order of their numbers. Each law takes one test of the chain, as the code makes it, and either ends there with that test's refusal or goes on to what follows. Assumes nothing.
+-- A reply is a chain of tests in the order of their numbers. Each law takes one test of the chain,
+-- as the code makes it, and either ends there with that test's refusal or goes on to what follows.
+-- Assumes nothing.
 use mathlib.Core.Path.{_≡_, sym, _∙_}
 use mathlib.Core.Bool.{Bool, true, false, cond, not}
 use mathlib.Core.List.{List}

@@ -1,4 +1,5 @@
--- What is known of accepted motion settings: each within its limits, and so a finite f32. Assumes nothing.
+-- What is known of accepted motion settings: each within its limits, and so a finite f32. Assumes
+-- nothing.
 use mathlib.Core.Bool.{_&&_}
 use lib.Dec.{T}
 use lib.Count.{trailingZeros}

@@ -21,7 +21,8 @@ motionAccepted config =
 unfoldable pub sizeAccepted : MaskConfig → Bool
 sizeAccepted config = limits.size (config .«fft_size») && limits.rate (config .«sample_rate»)
 
--- refusal 2: "Note depth 0..144 dB; width 1..1,200 cents; partials 1..24; rolloff 0..48 dB per octave", and the motion's
+-- refusal 2: "Note depth 0..144 dB; width 1..1,200 cents; partials 1..24; rolloff 0..48 dB per
+-- octave", and the motion's
 unfoldable pub settingsAccepted : MaskConfig → Bool
 settingsAccepted config =
     (limits.noteDepth (config .«note_depth_db») && limits.width (config .«width_cents»))
@@ -29,7 +30,8 @@ settingsAccepted config =
     && limits.rolloff (config .«harmonic_rolloff_db_per_octave»))
     && motionAccepted (config .motion))
 
--- "A voice: note 0..127, level 0..1, tuning -48..48 semitones; pressure, timbre, volume, expression and pan any finite"
+-- "A voice: note 0..127, level 0..1, tuning -48..48 semitones; pressure, timbre, volume, expression
+-- and pan any finite"
 unfoldable pub voiceAccepted : MaskVoice → Bool
 voiceAccepted voice =
     (limits.note (voice .note) && limits.tuning (voice .«tuning_semitones»))
@@ -38,11 +40,12 @@ voiceAccepted voice =
     && (finite (voice .«volume_gain») && finite (voice .«expression_gain»)))
     && finite (voice .pan)))
 
--- of the first `count` voices the lowest index of one outside its limits, or the count
+-- the lowest index of a voice outside its limits among the first `count`, or `count` if there is
+-- none
 abbrev pub firstVoiceOutside : List MaskVoice → ℕ → ℕ
 firstVoiceOutside voices count = firstBad (λ index voice. voiceAccepted voice) (take count voices)
 
--- what stands past the end of a list of voices, and does not count
+-- the default for reads past the end of a list of voices, which no result depends on
 abbrev pub noVoice : MaskVoice
 noVoice =
     record {

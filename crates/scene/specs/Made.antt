@@ -1,4 +1,4 @@
--- A shape by its number, and the voice that sounds nothing. Assumes nothing.
+-- A shape by its number, and the silent voice. Assumes nothing.
 use mathlib.Core.Bool.{cond}
 use Prim.Native.Nat.{ℕ}
 use lib.Dec.{eqb}
@@ -19,7 +19,7 @@ shapeOf n =
     (cond (eqb n 6) Sprinkle
     Cloud))))))
 
--- what stands in an array where there is no voice
+-- the initial contents of an array of voices
 abbrev pub silentVoice : MaskVoice
 silentVoice =
     record {

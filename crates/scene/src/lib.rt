@@ -1,4 +1,4 @@
-// What a scene is made of, as plain values, and what of it is accepted.
+// Voices and settings as plain values, and which of them are accepted.
 ghost use mathlib.Core.Path.{_≡_};
 ghost use mathlib.Core.Bool.{_&&_};
 ghost use Prim.Native.Nat.{_≤_};
@@ -8,24 +8,24 @@ ghost use Rattle.scene.specs.Accepted.{motionAccepted, sizeAccepted, set
 ghost use Rattle.scene.specs.Made.{shapeOf, silentVoice};
 use limits::lengths::MOST_VOICES;
 
-// A note that is held, with its expression. Laid out as in C, so that a slice of them crosses to
+// A held note with its expression. It has C's layout, so that a slice of voices can be passed from
 // other languages.
 #[repr(C)]
 pub struct MaskVoice {
     pub note: u8,
-    // The level of the note's envelope: at 0 the note does nothing.
+    // Note envelope level; 0 contributes nothing.
     pub level: f32,
-    // Semitones above the equal-tempered pitch of the note.
+    // Offset in semitones from the equal-tempered pitch of `note`.
     pub tuning_semitones: f32,
     pub pressure: f32,
-    // From 0 to 1. At 0.5 the partials fall off by the settings' rolloff, below they are darker,
-    // above brighter.
+    // Harmonic tilt from 0 to 1. 0.5 keeps the configured rolloff; lower values darken the partials
+    // and higher values brighten them.
     pub timbre: f32,
-    // The base strength, velocity included.
+    // Base strength (including velocity), bounded to openness before expression.
     pub volume_gain: f32,
-    // The gain of what the note opens, apart from the background.
+    // Linear gain of the note-opened component, independent of the background floor.
     pub expression_gain: f32,
-    // From -1, left, by 0, the centre, to 1, right. A mono mask does not use it.
+    // Stereo placement, -1 left through 0 center to +1 right. Ignored in mono.
     pub pan: f32,
 }
 
@@ -43,17 +43,19 @@ pub enum MotionShape {
 
 pub struct MotionConfig {
     pub shape: MotionShape,
-    // How far the field attenuates where it is shut.
+    // Attenuation where the field is fully closed.
     pub depth_db: f32,
-    // Where the field stands in its cycle of length 1.
+    // Position in the field's cycle, which has length 1.
     pub phase: f32,
+    // Spatial scale of the shape, in octaves.
     pub size_octaves: f32,
 }
 
 pub struct MaskConfig {
     pub sample_rate: f32,
     pub fft_size: usize,
-    // How far the spectrum is lowered away from held notes.
+    // Attenuation below the drawn ceiling away from held notes. Zero leaves the background
+    // unchanged while the additive note lift remains active.
     pub note_depth_db: f32,
     pub note_layer_enabled: bool,
     pub width_cents: f32,
@@ -62,7 +64,7 @@ pub struct MaskConfig {
     pub motion: MotionConfig,
 }
 
-// The shape with this number, in that order; from 7 up the last.
+// The shape with this number, in that order; 7 and above give the last.
 pub fn shape_of(number: u32) -> MotionShape
     ensures { λ r. ⌜ r ≡ shapeOf number ⌝ }
 {
@@ -78,7 +80,7 @@ pub fn shape_of(number: u32) -> MotionShape
     }
 }
 
-// What an array of voices holds before any is put in. Their level is 0.
+// The initial contents of an array of voices. Their level is 0.
 pub fn silent_voices() -> [MaskVoice; MOST_VOICES]
     ensures { λ r. ⌜ r ≡ replicate MOST-VOICES silentVoice ⌝ }
 {
@@ -95,7 +97,7 @@ pub fn silent_voices() -> [MaskVoice; MOST_VOICES]
     [voice; MOST_VOICES]
 }
 
-// Both of two tests, made without a branch.
+// Whether both tests hold.
 pub fn both(a: bool, b: bool) -> bool
     ensures { λ r. ⌜ r ≡ (a && b) ⌝ }
 {
@@ -112,7 +114,7 @@ pub fn motion_accepted(config: MotionConfig) -> bool
     both(limits::motion_depth(config.depth_db), phase_and_size)
 }
 
-// Size and rate.
+// Tests size and rate.
 pub fn size_accepted(config: MaskConfig) -> bool
     ensures { λ r. ⌜ r ≡ sizeAccepted config ⌝ }
 {
@@ -122,7 +124,7 @@ pub fn size_accepted(config: MaskConfig) -> bool
     )
 }
 
-// Every other setting, also one that the call will not use.
+// Tests every other setting, including those that the call does not use.
 pub fn settings_accepted(config: MaskConfig) -> bool
     ensures { λ r. ⌜ r ≡ settingsAccepted config ⌝ }
 {
@@ -157,7 +159,7 @@ pub fn voice_accepted(voice: MaskVoice) -> bool
     both(pitch, both(limits::level(voice.level), sound))
 }
 
-// The lowest index of a voice outside its limits; the count where there is none. Voices past the
+// The lowest index of a voice outside its limits, or `count` if there is none. Voices past the
 // count are not tested.
 pub fn first_voice_outside(voices: [MaskVoice; MOST_VOICES], count: usize) -> usize
     requires { ⌜ count ≤ MOST-VOICES ⌝ }

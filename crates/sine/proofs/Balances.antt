@@ -1,5 +1,7 @@
--- From sine and cosine to the two balances, over whole numbers in units of which L make 1. A balance is n / 2 ^ 24 times the f32 √2, 11863283 / 2 ^ 23, rounded once to 24 digits:
--- that costs less than one part in 11863283. So where n and its partner are near the circle, the squares of the two balances add to 2 within 2 ^ -14. Assumes nothing.
+-- From sine and cosine to the two balances, over whole numbers in units of which L make 1. A
+-- balance is n / 2 ^ 24 times the f32 √2, 11863283 / 2 ^ 23, rounded once to 24 digits:
+-- that costs less than one part in 11863283. So where n and its partner are near the circle, the
+-- squares of the two balances add to 2 within 2 ^ -14. Assumes nothing.
 use mathlib.Core.Path.{_≡_, sym, ap, _∙_}
 use Prim.Native.Nat.{ℕ, _+_, _-_, _*_, _^_, _≤_, _<_}
 use native.Mathlib.Nat.{le-trans, le-of-eq, mul-le-mul, mul-le-mul-right, mul-le-mul-left, le-of-mul-le-mul-right, mul-comm, mul-assoc, mul-left-comm, mul-right-comm, mul-pos, zero-mul, one-mul, add-mul, mul-add}
@@ -42,7 +44,8 @@ module _ (L x y n r : ℕ) (positive : 0 < L) (hx : x * 2 ^ 24 ≡ n * L) (hy : 
       let m : L ≤ n * L = le-trans (le-of-eq (sym (one-mul L))) (mul-le-mul-right L h) in
       omega (arith, exact, mul-le-mul-right (L * L) (le-trans big m))
 
--- ---- the squares of both. The numbers stand behind variables, since `omega` reads none of more than 38 digits
+-- ---- the squares of both. The numbers are kept in variables, since `omega` takes none of more
+-- than 38 digits
 square-high : (B k r n L : ℕ) → r * B ≤ k * (n * L) → r * r * (B * B) ≤ k * k * (n * n * (L * L))
 square-high B k r n L h = le-trans (le-of-eq (simp (mul-assoc, mul-left-comm))) (le-trans (mul-le-mul h h) (le-of-eq (simp (mul-assoc, mul-left-comm))))
 

@@ -1,5 +1,8 @@
--- Two chords, one rising by d from a and one falling by d' to b', and a point of each at one place, m to r between the ends, of 2 ^ 14 parts in all. The sum of the points' squares is a quadratic in r:
--- the mean of its ends less m r (d² + d'²). So it is at most the greater end, and at least the lesser less a quarter of d² + d'². Over whole numbers. Assumes nothing.
+-- Two chords, one rising by d from a and one falling by d' to b', and a point of each at one place,
+-- m to r between the ends, of 2 ^ 14 parts in all. The sum of the points' squares is a quadratic in
+-- r:
+-- the mean of its ends less m r (d² + d'²). So it is at most the greater end, and at least the
+-- lesser less a quarter of d² + d'². Over whole numbers. Assumes nothing.
 use mathlib.Core.Path.{_≡_, sym, ap, _∙_}
 use mathlib.Core.Logic.{inl, inr}
 use Prim.Native.Nat.{ℕ, _+_, _-_, _*_, _≤_}
@@ -17,7 +20,8 @@ four m r = elim (here-or-on m r) [ inl h ↦ go m (r - m) r (omega arith) | inr 
     go : (x k y : ℕ) → y ≡ x + k → 4 * (x * y) ≤ (x + y) * (x + y)
     go x k y e = rw e (simp (add-mul, mul-add, mul-comm) (omega arith))
 
--- ---- both: the sums of squares at the ends lie in lo..hi, and the chords' own squares add to at most dip
+-- ---- both: the sums of squares at the ends lie in lo..hi, and the chords' own squares add to at
+-- most dip
 pub record Step (lo hi dip a d b' d' : ℕ) : Type 0 where
   pub start-low : lo ≤ a * a + (b' + d') * (b' + d')
   pub start-high : a * a + (b' + d') * (b' + d') ≤ hi

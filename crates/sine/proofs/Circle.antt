@@ -1,5 +1,7 @@
--- The squares of sine and cosine add to 1 within 2 ^ -16, over whole numbers: with s and c the two before the division by 2 ^ 24, s * s + c * c is 2 ^ 48 within 2 ^ 32.
--- Within a step of the table both go along chords (Chord.antt). One test over the 256 steps gives the ends and the chords' squares; the floors cost less than 1 in s and in c. Assumes nothing.
+-- The squares of sine and cosine add to 1 within 2 ^ -16, over whole numbers: with s and c the two
+-- before the division by 2 ^ 24, s * s + c * c is 2 ^ 48 within 2 ^ 32.
+-- Within a step of the table both go along chords (Chord.antt). One test over the 256 steps gives
+-- the ends and the chords' squares; the floors cost less than 1 in s and in c. Assumes nothing.
 use mathlib.Core.Path.{_≡_, refl, ap, _∙_}
 use mathlib.Core.Logic.{inl, inr}
 use mathlib.Core.Bool.{Bool, _&&_}

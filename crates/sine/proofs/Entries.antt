@@ -1,4 +1,5 @@
--- The entries of R never fall and none is above 2 ^ 30, by one test over the table. Assumes nothing.
+-- The entries of R never fall and none is above 2 ^ 30, by one test over the table. Assumes
+-- nothing.
 use mathlib.Core.Path.{_≡_}
 use mathlib.Core.Logic.{inl, inr}
 use mathlib.Core.Bool.{Bool, _&&_}

@@ -1,5 +1,7 @@
--- The pan law: for every pan in -1..1 the two balances, cosine and sine of (pan + 1)·π/4 times √2, rounded at each operation, are not negative, and their squares add to 2 within 2 ^ -14.
--- The angle stays in the first quarter of the turn (PanAngle.antt); there sine and cosine are near the circle (Circle.antt), and each product is rounded once (Balances.antt). Assumes nothing.
+-- The pan law: for every pan in -1..1 the two balances, cosine and sine of (pan + 1)·π/4 times √2,
+-- rounded at each operation, are not negative, and their squares add to 2 within 2 ^ -14.
+-- The angle stays in the first quarter of the turn (PanAngle.antt); there sine and cosine are near
+-- the circle (Circle.antt), and each product is rounded once (Balances.antt). Assumes nothing.
 use mathlib.Core.Path.{_≡_, refl, sym, ap, _∙_, subst}
 use mathlib.Core.Logic.{inl, inr}
 use mathlib.Core.Bool.{Bool, true, false}
@@ -96,7 +98,8 @@ module _ (pan : Float) (p : T (real binary32 pan)) (low : T (le (neg one) pan)) 
       balances-add-to-two (2 ^ 149) _ _ _ _ (near-circle (U (panAngle pan)) (pan-place pan p low high))
       (balance-size (cosOf (panAngle pan)) _ cosine) (balance-size (sinOf (panAngle pan)) _ sine)
 
--- ---- the arms of the balance: at the centre both are 1; hard right and hard left the far side is 0 by the same formula, and the near side √2
+-- ---- the arms of the balance: at the centre both are 1; hard right and hard left the far side is
+-- 0 by the same formula, and the near side √2
 pub pan-law-at-centre : AddToTwo (2 ^ 149) (mag binary32 one) (mag binary32 one)
 unfolding mag
 pan-law-at-centre = record { low = lit≤ tt; high = lit≤ tt }

@@ -1,4 +1,5 @@
--- The angle of a pan in -1..1, (pan + 1)·π/4 rounded at each operation, lies in the first quarter of the turn, its ends at the quarter's ends: each operation keeps the order. Assumes nothing.
+-- The angle of a pan in -1..1, (pan + 1)·π/4 rounded at each operation, lies in the first quarter
+-- of the turn, its ends at the quarter's ends: each operation keeps the order. Assumes nothing.
 use mathlib.Core.Bool.{Bool, false}
 use Prim.Native.Nat.{ℕ, _+_, _*_, _%_, _^_, _≤_}
 use native.Mathlib.Omega.{arith}

@@ -1,4 +1,5 @@
--- Sine and cosine lie in -1..1 at every angle. In the first quarter of the turn both are read off R, cosine backwards, and neither is negative nor -0. Assumes nothing.
+-- Sine and cosine lie in -1..1 at every angle. In the first quarter of the turn both are read off
+-- R, cosine backwards, and neither is negative nor -0. Assumes nothing.
 use mathlib.Core.Path.{_≡_, refl, sym, ap, _∙_}
 use mathlib.Core.Logic.{inl, inr}
 use mathlib.Core.Bool.{Bool, true, false, cond}
@@ -74,7 +75,8 @@ pub cos-within-one : (θ : Float) → T (le (neg one) (cosOf θ)) × T (le (cosO
 unfolding cosOf
 cos-within-one θ = wave-range ((U θ + 2 ^ 22) % 2 ^ 24)
 
--- ---- the first quarter, its end too: sine reads R at the place, and cosine at what is left of the quarter
+-- ---- the first quarter, its end too: sine reads R at the place, and cosine at what is left of the
+-- quarter
 half-turn : v 8388608 / 64 ≡ 0
 unfolding turned interp sineTable
 half-turn = refl

@@ -1,4 +1,5 @@
--- A whole number up to 2 ^ 24 with a sign, as the code makes it from an i32, over 2 ^ 24: zero has no sign. Assumes nothing.
+-- A whole number up to 2 ^ 24 with a sign, as the code makes it from an i32, over 2 ^ 24: zero has
+-- no sign. Assumes nothing.
 use mathlib.Core.Path.{_≡_, refl, sym, ap, _∙_}
 use mathlib.Core.Bool.{Bool, true, false, cond, _&&_}
 use Prim.Native.Nat.{ℕ, zero, suc, _-_, _≤_, _<_}

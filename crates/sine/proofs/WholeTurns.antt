@@ -1,4 +1,6 @@
--- U in document 01's own words, floor(u·2^24) mod 2^24, for every u: the 2 ^ 128 turns that the definition adds are whole, so they do not count. The size of u is above u / below u. Assumes nothing.
+-- U in document 01's own words, floor(u·2^24) mod 2^24, for every u: the 2 ^ 128 turns that the
+-- definition adds are whole, so they do not count. The size of u is above u / below u. Assumes
+-- nothing.
 use mathlib.Core.Path.{_≡_, refl, ap, _∙_}
 use mathlib.Core.Bool.{Bool, true, false, not}
 use Prim.Native.Nat.{ℕ, zero, suc, zero-le, _+_, _-_, _*_, _/_, _%_, _^_, _≤_, _<_}
@@ -54,7 +56,8 @@ module _ (θ : Float) where
   unfolding U moved
   place-of-positive s = ap (λ (t : Bool). floorAt t (2 ^ 152) a b % 16777216) s ∙ plus 16777216 (2 ^ 128) a b (below-pos (u θ))
 
-  -- of a negative one: its floor is -n for the n with n - 1 < a / b ≤ n, and U and n together make whole turns
+  -- of a negative one: its floor is -n for the n with n - 1 < a / b ≤ n, and U and n together make
+  -- whole turns
   pub place-of-negative : negative (u θ) ≡ true → (n : ℕ) → above (u θ) * 2 ^ 24 ≤ n * below (u θ) → n * below (u θ) < above (u θ) * 2 ^ 24 + below (u θ) → (U θ + n) % 2 ^ 24 ≡ 0
   unfolding U moved
   place-of-negative s n h k =
@@ -64,7 +67,7 @@ module _ (θ : Float) where
       room : a ≤ 2 ^ 152 * b
       room = le-trans (mul-le-mul-right (2 ^ 24) (size-low (u θ) (mul-fits binary32 θ TURNS-PER-RADIAN))) (le-of-eq (mul-right-comm (2 ^ 128) b (2 ^ 24)))
 
--- of a u that is infinite or no number
+-- of a u that is infinite or NaN
 no-place : (x : Float) → T (not (finite x)) → moved (2 ^ 128) x % 2 ^ 24 ≡ 0
 unfolding moved
 no-place nan h = refl

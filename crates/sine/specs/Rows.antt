@@ -1,4 +1,4 @@
--- A place of the turn by the steps in which a row of angles is worked out. Assumes nothing.
+-- The stages in which the sines of a row of angles are computed. Assumes nothing.
 use mathlib.Core.Bool.{cond, _&&_}
 use Prim.Native.Nat.{ℕ, _+_, _-_, _*_, _/_, _%_, _^_}
 use lib.Dec.{ltb, eqb}
@@ -6,22 +6,24 @@ use lib.Ieee.{Float, binary32, round}
 use Rattle.sine.specs.Table.{R}
 use Rattle.sine.specs.Sine.{U, q, p}
 
--- the place of an angle, and so much ahead
+-- the position of an angle plus `ahead`
 abbrev pub placeAhead : ℕ → Float → ℕ
 placeAhead ahead θ = (U θ + ahead) % 2 ^ 24
 
--- the way into the quarter; of an odd one back from the last unit before its end, so that it has a whole step of R ahead of it in any quarter
+-- the position in the quarter; in an odd one counted back from the last unit before its end, so
+-- that an entry of R follows in every quarter
 abbrev pub way : ℕ → ℕ
 way U = cond (eqb (q U % 2) 1) (4194303 - p U) (p U)
 
--- the entry on its left, and the part of the step from there; of an odd quarter one unit more, which the way lacks
+-- the entry on its left, and the fraction of the step from there; in an odd quarter plus the one
+-- unit left out of `way`
 abbrev pub indexOf : ℕ → ℕ
 indexOf U = way U / 2 ^ 14
 
 abbrev pub partOf : ℕ → ℕ
 partOf U = way U % 2 ^ 14 + q U % 2
 
--- between that entry and the next, without the 6 last digits
+-- interpolated between that entry and the next, without the 6 last bits
 abbrev pub valueAt : ℕ → ℕ → ℕ
 valueAt index part = (R index + (R (index + 1) - R index) * part / 2 ^ 14) / 64
 

@@ -1,4 +1,5 @@
--- The rules of K and R, in document 01's words, and that the two tables keep them: each rule is one test over the whole table. Assumes nothing.
+-- The rules of K and R, in document 01's words, and that the two tables keep them: each rule is one
+-- test over the whole table. Assumes nothing.
 use mathlib.Core.Path.{_≡_, refl}
 use mathlib.Core.Bool.{Bool, _&&_}
 use mathlib.Core.List.{List}
@@ -13,14 +14,16 @@ use Rattle.sine.specs.Table.{halfAngleCosines, sineTable, K, R}
 abbrev pub IsRoot : ℕ → ℕ → Type 0
 IsRoot r n = (r * r ≤ n) × (n < (r + 1) * (r + 1))
 
--- 'K[0] = 0; K[i+1] is the greatest whole number whose square is at most (2^30+K[i])·2^29, up to K[8]'
+-- 'K[0] = 0; K[i+1] is the greatest whole number whose square is at most (2^30+K[i])·2^29, up to
+-- K[8]'
 pub record RuleOfK (table : List ℕ) : Type 0 where
   pub entries : length table ≡ 9
   pub first : getD table 0 0 ≡ 0
   pub next : (i : ℕ) → i < 8 → IsRoot (getD table (i + 1) 0) ((2 ^ 30 + getD table i 0) * 2 ^ 29)
 
--- 'R has 257 entries: R[0] = 0, R[256] = 2^30, and the middle of a span a..b of width 256/2^s, s in 0..7, is floor((R[a]+R[b])·2^29/K[s+1])':
--- the spans of one width lie side by side, and span i is the one from i times the width
+-- 'R has 257 entries: R[0] = 0, R[256] = 2^30, and the middle of a span a..b of width 256/2^s, s in
+-- 0..7, is floor((R[a]+R[b])·2^29/K[s+1])':
+-- span i of a width starts at i times the width
 pub record RuleOfR (table : List ℕ) : Type 0 where
   pub entries : length table ≡ 257
   pub first : getD table 0 0 ≡ 0

@@ -1,4 +1,5 @@
--- Sine and cosine by the table R, in document 01's steps from an angle θ: u, U, q, p, the turned p, v, sin and cos. Assumes nothing.
+-- Sine and cosine by the table R, in document 01's steps from an angle θ: u, U, q, p, the turned p,
+-- v, sin and cos. Assumes nothing.
 use mathlib.Core.Bool.{cond, _&&_}
 use Prim.Native.Nat.{ℕ, _+_, _-_, _/_, _%_, _^_}
 use lib.Dec.{leb, ltb, eqb}
@@ -7,7 +8,7 @@ use Rattle.float32.specs.Value.{moved}
 use Rattle.lists.specs.Interpolation.{interp}
 use Rattle.sine.specs.Table.{R}
 
--- 0.15915494, the turns in a radian
+-- 0.15915494, turns per radian
 abbrev pub TURNS-PER-RADIAN : Float
 TURNS-PER-RADIAN = ofBits binary32 0x3e22_f983
 
@@ -15,8 +16,9 @@ TURNS-PER-RADIAN = ofBits binary32 0x3e22_f983
 abbrev pub u : Float → Float
 u θ = mul binary32 θ TURNS-PER-RADIAN
 
--- U = floor(u·2^24) mod 2^24. `moved (2 ^ 128) x` is floor((x + 2^128)·2^24): whole turns more change nothing mod 2^24, and
--- 2^128 of them bring every finite u above 0, so that the floor is one of whole numbers. A u that is infinite or no number gives 0.
+-- U = floor(u·2^24) mod 2^24. `moved (2 ^ 128) x` is floor((x + 2^128)·2^24): adding whole turns
+-- changes nothing mod 2^24, and 2^128 of them make every finite u positive, so that the floor is
+-- one of natural numbers. A u that is infinite or NaN gives 0.
 unfoldable pub U : Float → ℕ
 U θ = moved (2 ^ 128) (u θ) % 2 ^ 24
 
@@ -24,7 +26,7 @@ U θ = moved (2 ^ 128) (u θ) % 2 ^ 24
 abbrev pub q : ℕ → ℕ
 q U = U / 2 ^ 22
 
--- p = U mod 2^22, the way into the quarter
+-- p = U mod 2^22, the position in the quarter
 abbrev pub p : ℕ → ℕ
 p U = U % 2 ^ 22
 
@@ -36,7 +38,8 @@ turned U = cond (eqb (q U % 2) 1) (2 ^ 22 - p U) (p U)
 abbrev pub v : ℕ → ℕ
 v U = interp 14 R (turned U)
 
--- floor(v/64)/2^24, negative for q of 2 and 3, zero positive. The rounding changes nothing: floor(v/64) is at most 2^24
+-- floor(v/64)/2^24, negative for q of 2 and 3, zero positive. The rounding changes nothing:
+-- floor(v/64) is at most 2^24
 unfoldable pub wave : ℕ → Float
 wave U = round binary32 (leb 2 (q U) && ltb 0 (v U / 64)) (v U / 64) (2 ^ 24)
 

@@ -1,9 +1,10 @@
--- K and R as constants, entry by entry. Their rules are in `Rules.antt`, each one test over the whole table. Assumes nothing.
+-- K and R as constants, entry by entry. Their rules are in `Rules.antt`, each one test over the
+-- whole table. Assumes nothing.
 use Prim.Native.Nat.{ℕ}
 use mathlib.Core.List.{List, [], _∷_}
 use lib.ListN.{getD}
 
--- K: the cosines of a quarter turn halved again and again, in units of 2 ^ -30
+-- K: the cosines of a quarter turn halved 0 to 8 times, in units of 2 ^ -30
 unfoldable pub halfAngleCosines : List ℕ
 halfAngleCosines =
     0 ∷ 759250124 ∷ 992008094 ∷ 1053110175 ∷ 1068571463 ∷ 1072448454 ∷ 1073418432 ∷ 1073660972 ∷

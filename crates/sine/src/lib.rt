@@ -1,13 +1,12 @@
-// Sine and cosine of an f32 angle in radians, over the table R that the caller makes once and
-// lends.
+// Sine and cosine of an f32 angle in radians, by the table R that the caller makes once and lends.
 //
-// Method. The angle becomes U, its place in the turn in units of 2^-24 of a turn (turns.rt). A
-// quarter of the turn is read from R, forwards or backwards, with the straight line between two
-// entries, and given its sign (wave.rt).
-// R holds the sines of a quarter turn in 256 steps, in units of 2^-30 (table.rt). The result is
-// exact as an f32.
-// Over the places of the first quarter, whose values the others repeat, it is within 4.8e-6 of the
-// sine (measured).
+// Method. The angle is reduced to U, its position in the turn in units of 2^-24 of a turn
+// (turns.rt, by fixed_point). R holds the sines of a quarter turn in 256 steps, in units of 2^-30
+// (table.rt). Each quarter is read from it, forwards or backwards, with linear interpolation, and
+// given its sign (wave.rt); the 24 bits kept are exact as an f32. sine_rows does the same for a row
+// of angles.
+// Error, measured over the positions of the first quarter, whose values the others repeat: at most
+// 4.8e-6.
 ghost use mathlib.Core.Path.{_≡_};
 ghost use Rattle.sine.specs.Table.{sineTable};
 ghost use Rattle.sine.specs.Sine.{sinOf, cosOf};
@@ -28,7 +27,7 @@ pub fn sin(sines: &SineTable, angle: f32) -> f32
     wave_at(sines, place_in_turn(angle))
 }
 
-// A quarter of a turn ahead of the sine.
+// The sine a quarter turn ahead.
 pub fn cos(sines: &SineTable, angle: f32) -> f32
     requires { ⌜ now sines ≡ sineTable ⌝ }
     ensures { λ r. ⌜ r ≡ cosOf angle ⌝ }

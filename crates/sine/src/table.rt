@@ -1,12 +1,13 @@
 // The tables K and R, as constants.
 //
-// Method. R halves its spans: the middle of a span is the mean of its ends divided by the cosine of
-// half the span's angle. K holds those cosines, each the root of the mean of 1 and the one before.
-// Both are cut to whole numbers, in units of 2^-30, and proved equal to their rules entry by entry.
+// Method. R is made by bisection: the middle of a span is the mean of its ends divided by the
+// cosine of half the span's angle. K holds those cosines, each the square root of the mean of 1 and
+// the one before. Both are rounded down to whole numbers, in units of 2^-30, and proved to follow
+// their rules at every entry (specs/Rules.antt).
 ghost use mathlib.Core.Path.{_≡_};
 ghost use Rattle.sine.specs.Table.{halfAngleCosines, sineTable};
 
-// R, as `sin` and `cos` are lent it.
+// The type of R.
 pub type SineTable = [u32; 257];
 
 // The table K, from which R's rule is checked.
@@ -16,8 +17,7 @@ pub fn half_angle_cosines() -> [u32; 9]
     HALF_ANGLE_COSINES
 }
 
-// The table R. A constant array is written out anew at each mention, so a caller makes it once and
-// lends it.
+// The table R. Each use of a constant array copies it, so a caller makes it once and lends it.
 pub fn sine_table() -> SineTable
     ensures { λ r. ⌜ r ≡ sineTable ⌝ }
 {

@@ -1,9 +1,8 @@
-// The sine of a place in the turn.
+// The sine at a position in the turn.
 //
-// Method. The place U has the quarter q in its two top bits and the way p into it in the 22 others;
-// odd quarters are read backwards. The 8 top bits of p pick an entry of R and the 14 others the
-// part of the step to the next, rounded down. Of the 30 digits 24 are kept, which an f32 holds
-// exactly.
+// Method. The two top bits of U are the quarter q, the other 22 the position p in it; odd quarters
+// are read backwards. The 8 top bits of p choose an entry of R, and the 14 others interpolate to
+// the next, rounded down. Of the 30 bits 24 are kept, which an f32 holds exactly.
 ghost use mathlib.Core.Path.{_≡_};
 ghost use mathlib.Core.Bool.{cond};
 ghost use Prim.Native.Nat.{_^_, _<_, _≤_};
@@ -15,7 +14,7 @@ ghost use Rattle.sine.specs.Rows.{levelAt};
 use super::table::SineTable;
 use super::turns::QUARTER;
 
-// R[256], the sine of a whole quarter.
+// R[256], the sine of a quarter turn.
 const LAST_ENTRY: u64 = 1073741824;
 
 // R[j]
@@ -26,7 +25,7 @@ pub fn entry(sines: &SineTable, j: usize) -> u64
     sines[j] as u64
 }
 
-// Between the entries of R, over steps of 2^14. The last entry has none after it.
+// Linear interpolation in R, over steps of 2^14. There is no entry after the last.
 fn interpolated(sines: &SineTable, p: u64) -> u64
     requires { ⌜ (now sines ≡ sineTable) × (p ≤ 2 ^ 22) ⌝ }
     ensures { λ r. ⌜ r ≡ interp 14 R p ⌝ }
@@ -40,7 +39,7 @@ fn interpolated(sines: &SineTable, p: u64) -> u64
     a + (((b - a) * (p & 0x3fff)) >> 14)
 }
 
-// p, turned for an odd quarter.
+// p, turned to 2^22 - p for an odd quarter.
 fn turned_place(place: u64) -> u64
     requires { ⌜ place < 2 ^ 24 ⌝ }
     ensures { λ r. ⌜ r ≡ turned place ⌝ }
@@ -52,8 +51,7 @@ fn turned_place(place: u64) -> u64
     p
 }
 
-// w, or -w where it is to be negative: a choice between two numbers, and not a branch that no
-// processor can foresee.
+// w or -w. The compiler turns this into a select, not into a branch, which would be unpredictable.
 fn signed(negative: bool, w: u32) -> i32
     requires { ⌜ w ≤ 16777216 ⌝ }
     ensures { λ r. ⌜ r ≡ cond negative (negℤ (pos w)) (pos w) ⌝ }
@@ -65,7 +63,7 @@ fn signed(negative: bool, w: u32) -> i32
     v
 }
 
-// w / 2^24, negative in the quarters 2 and 3, but for zero.
+// w / 2^24, negative in the quarters 2 and 3; zero is positive.
 pub fn level(place: u32, w: u32) -> f32
     requires { ⌜ w ≤ 16777216 ⌝ }
     ensures { λ r. ⌜ r ≡ levelAt place w ⌝ }

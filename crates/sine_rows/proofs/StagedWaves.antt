@@ -1,4 +1,5 @@
--- The stages of a row of angles, one after the other, give each angle its wave: what a stage holds for an angle depends on that angle alone. Assumes nothing.
+-- The stages of a row of angles, one after the other, give each angle its wave: what a stage holds
+-- for an angle depends on that angle alone. Assumes nothing.
 use mathlib.Core.Path.{_≡_, sym, ap, _∙_, subst}
 use mathlib.Core.List.{List}
 use Prim.Native.Nat.{ℕ, _+_, _-_, _/_, _≤_, _<_}

@@ -1,4 +1,5 @@
--- The value at a place by the step of R that it lies in: of an odd quarter the way back is one unit short of the turned place, and the part of the step one unit more. Assumes nothing.
+-- The value at a place by the step of R that it lies in: of an odd quarter the way back is one unit
+-- short of the turned place, and the part of the step one unit more. Assumes nothing.
 use mathlib.Core.Path.{_≡_, sym, ap, _∙_, subst}
 use mathlib.Core.Logic.{inl, inr}
 use mathlib.Core.Bool.{Bool, true, false, cond}

@@ -1,9 +1,9 @@
-// Sine and cosine of the angles of a row, in their place.
+// Sine and cosine of a row of angles, in place.
 //
-// Method. One short loop after the other over at most 64 angles: their places in the turn, the
-// steps of R that these lie in, the values there, the waves. All but the one that reads R are done
-// for several angles at once: none branches, and an angle so large that its place is 0, or none,
-// becomes 0 turns.
+// Method. `sine::sin` for up to 64 angles at a time, one short loop per stage: positions in the
+// turn, steps of R, values read from R, signed results. All loops but the one that reads R are
+// vectorized: none branches, and an angle beyond 2^23 turns, infinite or NaN, counts as 0 turns.
+// Exact: each result is that of `sin`, bit for bit.
 ghost use mathlib.Core.Path.{_≡_};
 ghost use mathlib.Core.Bool.{cond};
 ghost use Prim.Native.Nat.{ℕ, _+_, _-_, _^_, _≤_, _<_};
@@ -21,10 +21,10 @@ use sine::turns::place_ahead;
 use sine::wave::entry;
 use sine::wave::level;
 
-// The angles that are worked out together.
+// How many angles are computed together.
 const ROW: usize = 64;
 
-// The places of the angles from `start` on.
+// The positions of the angles from `start` on.
 fn places(row: &[f32], found: &mut [u32], start: usize, count: usize, ahead: u64)
     requires { ⌜ (start + count ≤ length (now row))
         × (count ≤ length (now found))
@@ -40,13 +40,14 @@ fn places(row: &[f32], found: &mut [u32], start: usize, count: usize, ahead: u64
     }
 }
 
-// An entry of R, and the part of the step from there to the next in units of 2^-14.
+// An entry of R, and the fraction of the step from there to the next, in units of 2^-14.
 struct Step {
     index: u32,
     part: u32,
 }
 
-// The way into the quarter, or back from its end.
+// The position in the quarter, counted back from its end in an odd one: there one unit short, which
+// `step_of` adds, so that an entry of R always follows.
 fn way_into(odd: u32, p: u32) -> u32
     requires { ⌜ p < 4194304 ⌝ }
     ensures { λ r. ⌜ r ≡ cond (eqb odd 1) (4194303 - p) p ⌝ }
@@ -96,7 +97,7 @@ fn value_at(sines: &SineTable, index: u32, part: u32) -> u32
     ((a + (((b - a) * part as u64) >> 14)) >> 6) as u32
 }
 
-// The value at each step, in the room of its index.
+// Replaces each index by the value at its step.
 fn values(indexes: &mut [u32], parts: &[u32], sines: &SineTable, count: usize)
     requires { ⌜ (now sines ≡ sineTable)
         × (count ≤ length (now indexes))
@@ -114,7 +115,7 @@ fn values(indexes: &mut [u32], parts: &[u32], sines: &SineTable, count: usize)
     }
 }
 
-// The waves of the angles from `start` on, by their places and the values there.
+// The sines of the angles from `start` on, from their positions and the values there.
 fn levels(row: &mut [f32], places: &[u32], values: &[u32], start: usize, count: usize)
     requires { ⌜ (start + count ≤ length (now row))
         × (count ≤ length (now places))
@@ -132,7 +133,7 @@ fn levels(row: &mut [f32], places: &[u32], values: &[u32], start: usize, count: 
     }
 }
 
-// The waves of the angles from `start` on, as many as there is room for in what is lent.
+// The sines of `count` angles from `start` on, for which the lent buffers have room.
 fn waves(
     row: &mut [f32],
     found: &mut [u32],
@@ -158,7 +159,7 @@ fn waves(
     levels(row, found, indexes, start, count);
 }
 
-// The waves of the first `count` angles, a part of a turn ahead of each.
+// The sines of the first `count` angles, each moved on by `ahead`.
 fn waves_ahead(row: &mut [f32], sines: &SineTable, count: usize, ahead: u64)
     requires { ⌜ (now sines ≡ sineTable) × (count ≤ length (now row)) × (ahead ≤ 2 ^ 22) ⌝ }
     ensures { λ _. ⌜ now (row .exit)
@@ -192,7 +193,7 @@ pub fn sin_row(row: &mut [f32], sines: &SineTable, count: usize)
     waves_ahead(row, sines, count, 0);
 }
 
-// A quarter of a turn ahead of the sine.
+// The sines a quarter turn ahead.
 pub fn cos_row(row: &mut [f32], sines: &SineTable, count: usize)
     requires { ⌜ (now sines ≡ sineTable) × (count ≤ length (now row)) ⌝ }
     ensures { λ _. ⌜ now (row .exit)

@@ -1,4 +1,5 @@
--- The stages of a row of bins: the decibels of its gains, and the gains that are moved or softened by them, which are the definition's. Assumes nothing.
+-- The stages of a row of bins: the decibels of its gains, and the gains that are moved or softened
+-- by them, which are the definition's. Assumes nothing.
 use mathlib.Core.Path.{_≡_, refl, ap, _∙_}
 use mathlib.Core.List.{List}
 use Prim.Native.Nat.{ℕ, _+_, _-_, _≤_, _<_}
@@ -32,7 +33,7 @@ softened-inside start count source before {row} xs first room e w =
     ∙ stage-same (λ b x. softened (getD row (b - start) nan) (getD row (b - start + 1) nan) (getD row (b - start + 2) nan)) (λ b x. softenedAt source b) start (start + count) xs
     (λ b x l u. same b l u)
   where
-    -- the entry that stands for the bin i
+    -- the entry of the bin i
     entry : (i k : ℕ) → start ≤ i + 1 → i ≤ start + count → k ≡ i - (start - 1) → getD row k nan ≡ decibelsOf (getD source i nan)
     entry i k l u z = ap (λ (j : ℕ). getD row j nan) z ∙ decibels-at (start - 1) (count + 2) source before room e i (omega arith) (omega arith)
 

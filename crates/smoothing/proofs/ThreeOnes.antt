@@ -1,4 +1,6 @@
--- A proved case of document 01: "softening 1, 1, 1 keeps it". The logarithm of 1 is 0 by a law, since the search for F is no computation to run; so are its decibels, and their gain is 1. Assumes nothing.
+-- A proved case of document 01: "softening 1, 1, 1 keeps it". The logarithm of 1 is 0 by a law,
+-- since the search for F is no computation to run; so are its decibels, and their gain is 1.
+-- Assumes nothing.
 use mathlib.Core.Path.{_≡_, refl}
 use mathlib.Core.Bool.{false}
 use mathlib.Core.List.{[], _∷_}

@@ -1,4 +1,5 @@
--- `soften_spectral_edges` and `smooth_mask_in_db` of document 01, in the Rust's order of operations. Assumes nothing.
+-- `soften_spectral_edges` and `smooth_mask_in_db` of document 01, in the Rust's order of
+-- operations. Assumes nothing.
 use mathlib.Core.List.{List}
 use Prim.Native.Nat.{ℕ, _+_, _-_}
 use lib.ListN.{length, getD}
@@ -46,21 +47,21 @@ softened left center right = gainOf (add binary32 (add binary32 (mul binary32 le
 abbrev pub softenedAt : List Float → ℕ → Float
 softenedAt source b = softened (decibelsOf (getD source (b - 1) nan)) (decibelsOf (getD source b nan)) (decibelsOf (getD source (b + 1) nan))
 
--- the first and the last bin are kept, and so are all of fewer than three
+-- the first and the last bin are kept; with fewer than three bins all are
 unfoldable pub softenedOf : List Float → List Float
 softenedOf source = mapRange (λ b x. softenedAt source b) 1 (length source - 1) source
 
 -- ---- gains that approach a target
 
--- the part of the way that a time takes
+-- the fraction of the distance that is covered in the seconds elapsed
 abbrev pub blendOf : Float → Float
 blendOf elapsed = clamp ZERO ONE (sub binary32 ONE (exp (div binary32 (neg elapsed) SMOOTH-MASK-TIME-SECONDS)))
 
--- that part of the way from one number of decibels to another, as a gain
+-- the gain at that fraction of the distance between two levels in decibels
 abbrev pub nearer : Float → Float → Float → Float
 nearer blend current target = gainOf (add binary32 current (mul binary32 (sub binary32 target current) blend))
 
--- that part of the way from one gain to another, in decibels
+-- that fraction of the distance from one gain to another, in decibels
 abbrev pub toward : Float → Float → Float → Float
 toward blend current target = gainOf (add binary32 (decibelsOf current) (mul binary32 (sub binary32 (decibelsOf target) (decibelsOf current)) blend))
 

@@ -1,5 +1,4 @@
-// Gains of neighbouring bins brought closer to each other, and gains that approach a target with
-// time: both in decibels.
+// Smoothing of gains in decibels: between neighbouring bins, and over time toward a target.
 ghost use mathlib.Core.Path.{_≡_};
 ghost use Prim.Native.Nat.{ℕ, _+_, _-_, _≤_, _<_};
 ghost use lib.ListN.{length, getD};
@@ -17,23 +16,23 @@ use power::decimal::exp;
 use power::table::PowerTable;
 use power::table::power_table;
 
-// A gain below this counts as this, so that silence has decibels too.
+// A smaller gain counts as this, so that silence has decibels too.
 const LEAST_GAIN: f32 = 1.0e-6;
 
-// What a bin takes of each neighbour's decibels, and of its own.
+// The weights of each neighbour's decibels and of the bin's own.
 const SIDE_SHARE: f32 = 0.2;
 
 const CENTER_SHARE: f32 = 0.6;
 
 const SMOOTH_MASK_TIME_SECONDS: f32 = 0.03;
 
-// How many bins are worked out together.
+// How many bins are computed together.
 const ROW: usize = 64;
 
-// A row less a neighbour on each side.
+// A row without its two outer neighbours.
 const INSIDE: usize = 62;
 
-// The gains from `start` on, silence as the least that has decibels.
+// The gains from `start` on, at least LEAST_GAIN.
 fn audible(row: &mut [f32], gains: &[f32], start: usize, count: usize)
     requires { ⌜ (count ≤ length (now row)) × (start + count ≤ length (now gains)) ⌝ }
     ensures { λ _. ⌜ now (row .exit) ≡ mapRange
@@ -47,7 +46,7 @@ fn audible(row: &mut [f32], gains: &[f32], start: usize, count: usize)
     }
 }
 
-// The decibels of gains whose logarithms are given.
+// From the base-2 logarithms of gains to their decibels.
 fn scaled(row: &mut [f32], count: usize)
     requires { ⌜ count ≤ length (now row) ⌝ }
     ensures { λ _. ⌜ now (row .exit) ≡ mapRange
@@ -61,7 +60,7 @@ fn scaled(row: &mut [f32], count: usize)
     }
 }
 
-// The decibels of the gains from `start` on, one short loop after the other.
+// The decibels of the gains from `start` on, one short loop per stage.
 fn decibel_row(row: &mut [f32], gains: &[f32], powers: &PowerTable, start: usize, count: usize)
     requires { ⌜ (now powers ≡ powerTable)
         × (count ≤ length (now row))
@@ -75,7 +74,7 @@ fn decibel_row(row: &mut [f32], gains: &[f32], powers: &PowerTable, start: usize
     scaled(row, count);
 }
 
-// The gain between two neighbours, of the decibels of all three.
+// A bin's softened gain, from its own decibels and its neighbours'.
 fn softened(powers: &PowerTable, left_db: f32, center_db: f32, right_db: f32) -> f32
     requires { ⌜ now powers ≡ powerTable ⌝ }
     ensures { λ r. ⌜ r ≡ softened «left_db» «center_db» «right_db» ⌝ }
@@ -86,7 +85,8 @@ fn softened(powers: &PowerTable, left_db: f32, center_db: f32, right_db: f32) ->
     )
 }
 
-// The bins from `start` on, by a row of decibels that begins with the neighbour on the left.
+// Softens the bins from `start` on. The row of decibels begins with the left neighbour of the
+// first.
 fn soften_row(output: &mut [f32], row: &[f32], powers: &PowerTable, start: usize, stop: usize)
     requires { ⌜ (now powers ≡ powerTable)
         × (start ≤ stop)
@@ -124,7 +124,8 @@ fn soften_inside(powers: &PowerTable, source: &[f32], output: &mut [f32])
     }
 }
 
-// Adjacent gains smoothed in decibels, the ends kept. Fewer than three bins have no inside.
+// Smooths adjacent gain bins in decibels, retaining the edge bins. Fewer than three bins are all
+// edges.
 pub fn soften(source: &[f32], output: &mut [f32])
     requires { ⌜ length (now source) ≡ length (now output) ⌝ }
     ensures { λ _. ⌜ now (output .exit) ≡ softenedOf (now (source .entry)) ⌝ }
@@ -137,7 +138,7 @@ pub fn soften(source: &[f32], output: &mut [f32])
     soften_inside(&powers, source, output);
 }
 
-// The part of the way to the target that a time takes.
+// The fraction of the distance to the target that is covered in the seconds elapsed.
 fn blend(powers: &PowerTable, elapsed_seconds: f32) -> f32
     requires { ⌜ now powers ≡ powerTable ⌝ }
     ensures { λ r. ⌜ r ≡ blendOf «elapsed_seconds» ⌝ }
@@ -146,7 +147,7 @@ fn blend(powers: &PowerTable, elapsed_seconds: f32) -> f32
     float32::order::clamp(way, 0.0, 1.0)
 }
 
-// The gain that part of the way from one number of decibels to another.
+// The gain at that fraction of the distance between two levels in decibels.
 fn nearer(powers: &PowerTable, current_db: f32, target_db: f32, blend: f32) -> f32
     requires { ⌜ now powers ≡ powerTable ⌝ }
     ensures { λ r. ⌜ r ≡ nearer blend «current_db» «target_db» ⌝ }
@@ -154,7 +155,7 @@ fn nearer(powers: &PowerTable, current_db: f32, target_db: f32, blend: f32) -> f
     gain(powers, current_db + (target_db - current_db) * blend)
 }
 
-// The gains from `start` on, moved toward their targets by the decibels of both.
+// Moves the gains from `start` on toward their targets; both are given in decibels.
 fn move_row(
     current: &mut [f32],
     current_db: &[f32],
@@ -182,7 +183,7 @@ fn move_row(
     }
 }
 
-// The loop over rows of bins, for the table that `smooth` lends it.
+// The loop over rows of bins.
 fn smooth_all(powers: &PowerTable, current: &mut [f32], target: &[f32], elapsed_seconds: f32)
     requires { ⌜ (now powers ≡ powerTable) × (length (now current) ≡ length (now target)) ⌝ }
     ensures { λ _. ⌜ now (current .exit)
@@ -202,7 +203,7 @@ fn smooth_all(powers: &PowerTable, current: &mut [f32], target: &[f32], elapsed_
     }
 }
 
-// Each gain moved toward its target with a 30 ms time constant.
+// Approaches a target gain mask with a 30 ms time constant.
 pub fn smooth(current: &mut [f32], target: &[f32], elapsed_seconds: f32)
     requires { ⌜ length (now current) ≡ length (now target) ⌝ }
     ensures { λ _. ⌜ now (current .exit)

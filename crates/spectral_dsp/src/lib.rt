@@ -1,5 +1,6 @@
-// The open calls of spectral-dsp, under the Rust's names and paths. Each stands, with its contract,
-// its tests and its one call of the core, in `number_calls`, `list_calls` or `mask_calls`.
+// The open calls of spectral-dsp, under the Rust's names and paths. Each is defined, with its
+// contract, its tests and its one call of the core, in `number_calls`, `list_calls` or
+// `mask_calls`.
 pub mod processing;
 
 pub use list_calls::MaskWorkspace;

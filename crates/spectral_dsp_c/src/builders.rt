@@ -1,5 +1,5 @@
-// The mask builders. The voices cross as a slice of records and the settings as one record by
-// value, each laid out as in C.
+// The mask builders. Voices are passed as a slice of records and the settings as one record by
+// value, both with C's layout.
 ghost use mathlib.Core.Path.{_≡_};
 ghost use Prim.Native.Nat.{_*_};
 ghost use lib.ListN.{length, take, drop};
@@ -213,7 +213,8 @@ pub extern "C" fn dovetable_build_stereo_masks_with_voices_precomputed(
     )
 }
 
-// By the frequency table of a prepared spectrum, which begins after the four windows of its block.
+// Uses the frequency table of a prepared spectrum, which begins after the four windows of its
+// block.
 fn prepared(
     left: &mut [f32],
     right: &mut [f32],

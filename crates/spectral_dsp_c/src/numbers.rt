@@ -13,7 +13,7 @@ ghost use Rattle.power.specs.Decimal.{pow10, exp, log10};
 ghost use Rattle.sine.specs.Sine.{sinOf, cosOf};
 use elementary::Function;
 
-// Each `_all` function puts the value at an entry in the entry's place.
+// Each `_all` function replaces every entry by the value there.
 
 #[no_mangle]
 pub extern "C" fn dovetable_exp2_all(xs: &mut [f32])

@@ -1,4 +1,4 @@
-// The open calls of spectral-dsp's lib but the mask builders.
+// The open calls of spectral-dsp's lib.rs other than the mask builders.
 ghost use mathlib.Core.Path.{_≡_};
 ghost use lib.ListN.{length};
 ghost use Rattle.lists.specs.Maps.{tabulate};

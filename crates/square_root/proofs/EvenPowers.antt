@@ -1,4 +1,5 @@
--- A number above zero by its digits and a power of four: the leading zeros say how far the digits move up, and one place more makes the exponent even. Assumes nothing.
+-- A number above zero by its digits and a power of four: the leading zeros say how far the digits
+-- move up, and one place more makes the exponent even. Assumes nothing.
 use mathlib.Core.Path.{_≡_, sym, ap, _∙_}
 use Prim.Native.Nat.{ℕ, suc, _+_, _-_, _*_, _/_, _%_, _^_, _≤_, _<_}
 use native.Mathlib.Nat.{mul-assoc, le-trans, le-of-eq, lt-of-lt-of-le, mul-le-mul, mul-le-mul-right, mul-lt-mul-of-pos-right, not-le-of-lt, lt-of-not-le, mod-eq-of-lt}

@@ -1,4 +1,5 @@
--- The square root case by case, for a float taken apart: each way out of the code gives what the definition gives. Assumes nothing.
+-- The square root case by case, for a float taken apart: each way out of the code gives what the
+-- definition gives. Assumes nothing.
 use mathlib.Core.Path.{_≡_, refl, sym, ap, _∙_, subst}
 use mathlib.Core.Bool.{Bool, true, false, true≢false}
 use Prim.Native.Nat.{ℕ, zero, suc, _+_, _*_, _^_, _≤_, _<_}

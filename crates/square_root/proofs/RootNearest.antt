@@ -1,5 +1,7 @@
--- No value of a format is as near to the real root of a positive value as what `squareRoot` gives, and none is at a tie. For between the root's leading digits and the next number up
--- there is no value of the format; and a root midway would have one digit more than the format keeps, the last of them odd, so its square would have more digits than any value. Assumes nothing.
+-- No value of a format is as near to the real root of a positive value as what `squareRoot` gives,
+-- and none is at a tie. For between the root's leading digits and the next number up there is no
+-- value of the format; and a root midway would have one digit more than the format keeps, the last
+-- of them odd, so its square would have more digits than any value. Assumes nothing.
 use mathlib.Core.Path.{_≡_, refl, sym, ap, _∙_, subst}
 use mathlib.Core.Logic.{_⊎_, inl, inr}
 use mathlib.Core.Bool.{Bool, true, false, true≢false}
@@ -137,7 +139,8 @@ no-tie f x h q k w e =
     go (inr l) m a O A M F t s = omega arith
 
 -- ---- the nearer of two
--- No value is as near to the root of N as Y: for any other value Z the root lies on Y's side of the middle between the two, (Y + Z) / 2.
+-- No value is as near to the root of N as Y: for any other value Z the root lies on Y's side of the
+-- middle between the two, (Y + Z) / 2.
 pub record Nearer (N Y Z : ℕ) : Type 0 where
   pub below-middle : Y < Z → 4 * N < (Y + Z) * (Y + Z)
   pub above-middle : Z < Y → (Y + Z) * (Y + Z) < 4 * N

@@ -1,4 +1,5 @@
--- What callers need of the square root: of a positive value it is positive and finite, it never falls, and between 0 and 1 it stays there and is no less than its argument.
+-- What callers need of the square root: of a positive value it is positive and finite, it never
+-- falls, and between 0 and 1 it stays there and is no less than its argument.
 -- Each follows from nearness: were it otherwise, another value would be nearer. Assumes nothing.
 use mathlib.Core.Path.{_≡_, refl, sym, ap, _∙_, subst}
 use mathlib.Core.Logic.{inl, inr}

@@ -1,5 +1,6 @@
--- The root of digits * 4 ^ fours rounded to an f32: it keeps the whole number nearest to the root of the digits, and drops `fours` places. So the code's bits are those of the
--- definition's value. Assumes nothing.
+-- The root of digits * 4 ^ fours rounded to an f32: it keeps the whole number nearest to the root
+-- of the digits, and drops `fours` places. So the code's bits are those of the definition's value.
+-- Assumes nothing.
 use mathlib.Core.Path.{_≡_, refl, sym, ap, _∙_, subst}
 use mathlib.Core.Bool.{Bool, false, not, cond}
 use Prim.Native.Nat.{ℕ, zero, suc, _+_, _-_, _*_, _/_, _%_, _^_, _≤_, _<_, compare, Ordering, Ordering·lt, Ordering·eq, Ordering·gt}
@@ -21,7 +22,8 @@ use Rattle.square_root.specs.Root.{IsRoot, IsNearestRoot, wholeRoot, nea
 use Rattle.square_root.proofs.WholeRoot.{at-most-root, above-root, square-of-next, square-of-odd, four-is-square, whole-root-is}
 use Rattle.float32.proofs.Made.{made, made-no-nan}
 
--- ---- the parts of `nearestRoot`: the places dropped, the digits above them, and those digits rounded
+-- ---- the parts of `nearestRoot`: the places dropped, the digits above them, and those digits
+-- rounded
 abbrev pub dropped : Format → ℕ → ℕ
 dropped f N = size (wholeRoot N) - prec f
 

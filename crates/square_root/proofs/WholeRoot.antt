@@ -1,4 +1,5 @@
--- The whole part of a square root: the definition gives it, and a loop that tries a binary digit at a time, from the highest down, finds it.
+-- The whole part of a square root: the definition gives it, and a loop that tries a binary digit at
+-- a time, from the highest down, finds it.
 -- Each step is one comparison of squares. Assumes nothing.
 use mathlib.Core.Path.{_≡_, refl, sym, ap, _∙_, subst}
 use mathlib.Core.Bool.{Bool, true, false, not, cond}

@@ -1,9 +1,10 @@
-// The square root, as IEEE 754 has it.
+// IEEE 754's square root: the nearest f32, so the error is at most half a unit of the last place.
 //
-// Method: a number above zero is digits * 4^fours in squares of the smallest value, with digits of
-// 47 or 48 places; so the root of the digits has the 24 places that an f32 keeps, and fours is the
-// exponent of the answer. The root is found digit by digit and rounded by what is left: the answer
-// is never midway between two values.
+// Method: a positive number is digits * 4^fours, in units of the square of the smallest f32, with
+// digits of 47 or 48 bits (`even_power`). So the root of the digits has the 24 bits of an f32, and
+// fours is the result's exponent. The root is found bit by bit, without a table (`whole_root`), and
+// rounded by the remainder (`nearest_root`): no root lies midway between two values, so there are
+// no ties.
 ghost use mathlib.Core.Path.{_≡_};
 ghost use Prim.Native.Nat.{_*_, _^_, _<_, _≤_};
 ghost use lib.Ieee.{binary32};
@@ -15,8 +16,8 @@ struct EvenPower {
     fours: u32,
 }
 
-// mant * 2^(expo + 149): what the digits lack of 47 places is taken from the exponent, and one
-// place more where it would be odd.
+// mant * 2^(expo + 149): mant is shifted up to 47 bits, and by one more where the exponent left
+// over would be odd.
 fn even_power(mant: u32, expo: u32) -> EvenPower
     requires { ⌜ (0 < mant) × (mant < 2 ^ 24) × (expo ≤ 253) ⌝ }
     ensures { λ r. ⌜ ByFours (mant * 2 ^ expo * 2 ^ 149) (r .digits) (r .fours) ⌝ }
@@ -29,7 +30,7 @@ fn even_power(mant: u32, expo: u32) -> EvenPower
     }
 }
 
-// The whole part of the root of n, from its highest digit down.
+// The integer part of the root of n, from its highest bit down.
 fn whole_root(n: u64) -> u64
     requires { ⌜ n < 2 ^ 48 ⌝ }
     ensures { λ r. ⌜ IsRoot n r ⌝ }
@@ -46,7 +47,7 @@ fn whole_root(n: u64) -> u64
     r
 }
 
-// The whole number nearest to the root of n.
+// The whole number nearest to the root of n: q + 1 where n is above (q + 1/2)^2.
 fn nearest_root(n: u64) -> u64
     requires { ⌜ (0 < n) × (n < 2 ^ 48) ⌝ }
     ensures { λ r. ⌜ IsNearestRoot n r ⌝ }
@@ -55,7 +56,8 @@ fn nearest_root(n: u64) -> u64
     if q < n - q * q { q + 1 } else { q }
 }
 
-// The root of mant * 2^(expo - 149), a number above zero.
+// The root of mant * 2^(expo - 149), a positive number. The leading bit of q carries into the
+// exponent field.
 fn root_of_positive(mant: u32, expo: u32) -> f32
     requires { ⌜ (0 < mant) × (mant < 2 ^ 24) × (expo ≤ 253) ⌝ }
     ensures { λ r. ⌜ r ≡ nearestRoot binary32 (mant * 2 ^ expo * 2 ^ 149) ⌝ }

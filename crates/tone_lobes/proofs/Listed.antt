@@ -1,4 +1,5 @@
--- The lobes of a tone's partials in a list: how many there are, and which stands at a place. Assumes nothing.
+-- The lobes of a tone's partials in a list: their number, and which one is at an index.
+-- Assumes nothing.
 use mathlib.Core.Path.{_≡_, refl, sym, ap, _∙_, subst}
 use mathlib.Core.Bool.{Bool, true, false, cond}
 use mathlib.Core.List.{List, [], _∷_, map}
@@ -80,7 +81,7 @@ module _ (grid : Grid) (logs : Logs) (tone : Tone) where
       ap (λ (l : List ℕ). getD (map (lobeOf grid logs tone) l) k noLobe) (until-range (above grid tone) 1 (grid .partials))
       ∙ at-range (lobeOf grid logs tone) 1 (length (partialsOf grid tone)) k noLobe h ∙ ap (lobeOf grid logs tone) z
 
-  -- a list whose first n entries are worked out
+  -- a list whose first n entries are computed
   pub lobes-taken : (n : ℕ) {xs₀ xs : List Lobe} {i : ℕ} → Turned nth 0 xs₀ xs i → i ≡ n → n ≡ length (partialsOf grid tone) → n ≤ length xs₀ → take n xs ≡ lobesOf grid logs tone
   lobes-taken n {xs₀} {xs} {i} t z e room =
       let l : length xs ≡ length xs₀ = t .len in

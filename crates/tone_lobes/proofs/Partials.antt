@@ -1,4 +1,5 @@
--- The lobe of a tone's partial: where it begins and ends, and what its fields have. Assumes nothing.
+-- The lobe of a tone's partial: where it begins and ends, and what its fields have. Assumes
+-- nothing.
 use mathlib.Core.Path.{_≡_, refl}
 use Prim.Native.Nat.{ℕ, _≤_}
 use native.Mathlib.Omega.{arith}

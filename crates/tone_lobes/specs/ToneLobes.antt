@@ -10,7 +10,7 @@ use Rattle.lobes.specs.Tone.{centerOf}
 use Rattle.lobes.specs.Distance.{Logs}
 use Rattle.lobes.specs.Lobe.{lobeOf}
 
--- the partials 1, 2, .. of a tone, ending at the first whose centre is above nyquist
+-- the partials 1, 2, .. of a tone, before the first whose centre is above nyquist
 abbrev pub partialsOf : Grid → Tone → List ℕ
 partialsOf grid tone = takeUntil (λ partial. lt (grid .nyquist) (centerOf tone partial)) (range 1 (grid .partials))
 

@@ -1,4 +1,5 @@
-// The lobes of a tone's partials, worked out once: both ways of raising the tone begin with them.
+// The lobes of a tone's partials, computed once: the plain and the compact way both start from
+// them.
 ghost use mathlib.Core.Path.{_≡_};
 ghost use mathlib.Core.Bool.{true};
 ghost use Prim.Native.Nat.{_^_, _≤_, _<_};
@@ -17,7 +18,7 @@ use lobes::reach::lobe_of;
 use lobes::tones::center_of;
 use power::table::PowerTable;
 
-// How many partials there are up to the first above nyquist.
+// The number of partials before the first above nyquist.
 pub fn partials_of(grid: Grid, tone: Tone) -> usize
     requires { ⌜ grid .partials ≤ MAX-PARTIALS ⌝ }
     ensures { λ r. ⌜ (r ≡ length (partialsOf grid tone)) × (r ≤ grid .partials) ⌝ }
@@ -46,7 +47,7 @@ fn empty_lobes() -> [Lobe; MAX_PARTIALS]
     [lobe; MAX_PARTIALS]
 }
 
-// The lobes of the first `count` partials, which are all that the tone has.
+// The lobes of the first `count` partials, which are all of the tone's.
 pub fn lobes_of(
     powers: &PowerTable,
     octaves: &PartialOctaves,

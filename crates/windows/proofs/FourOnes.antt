@@ -1,4 +1,5 @@
--- A proved case of document 01: "four ones with overlap 2 have dual 0.5 each". Computed. Assumes nothing.
+-- A proved case of document 01: "four ones with overlap 2 have dual 0.5 each". Computed. Assumes
+-- nothing.
 use mathlib.Core.Path.{_≡_, refl}
 use mathlib.Core.Bool.{false}
 use mathlib.Core.List.{[], _∷_}

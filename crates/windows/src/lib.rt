@@ -5,11 +5,11 @@ ghost use lib.ListN.{length};
 ghost use Rattle.limits.specs.Lengths.{MOST-WINDOW};
 ghost use Rattle.windows.specs.Windows.{denominatorAt, dualOf, sumOf, coherentGain};
 
-// A sum of squares below this counts as this.
+// A smaller sum of squares counts as this, so that no division is by 0.
 const LEAST_DIVISOR: f32 = 1.0e-12;
 
-// The index a hop after `at`, round the end of a window. One comparison: a remainder by a number
-// that is not known takes longer than the rest of a term.
+// The index one hop after `at`, wrapping around at the end of the window. The comparison is faster
+// than a remainder by a variable.
 fn a_hop_on(at: usize, hop: usize, size: usize) -> usize
     requires { ⌜ (at < size) × (hop ≤ size) × (size < 2 ^ 61) ⌝ }
     ensures { λ r. ⌜ (r < size) × (r ≡ (at + hop) % size) ⌝ }
@@ -18,8 +18,8 @@ fn a_hop_on(at: usize, hop: usize, size: usize) -> usize
     if next < size { next } else { next - size }
 }
 
-// What the value at an index is divided by. The sum starts at the index itself, so that each index
-// of a class has its own.
+// What the value at an index is divided by. As in the Rust, the sum starts at the index itself, so
+// each index of a residue class has its own rounding.
 pub fn denominator(analysis: &[f32], hop: usize, overlap: usize, index: usize) -> f32
     requires { ⌜ (index < length (now analysis)) × (hop ≤ length (now analysis)) ⌝ }
     ensures { λ r. ⌜ r ≡ denominatorAt (now (analysis .entry)) hop overlap index ⌝ }
@@ -35,7 +35,7 @@ pub fn denominator(analysis: &[f32], hop: usize, overlap: usize, index: usize) -
     float32::order::max(sum, LEAST_DIVISOR)
 }
 
-// The dual of a window: at each index the value over its denominator.
+// The canonical dual window for the given overlap: at each index the value over its denominator.
 pub fn dual_window(analysis: &[f32], synthesis: &mut [f32], overlap: usize)
     requires { ⌜ (length (now analysis) ≡ length (now synthesis)) × (0 < overlap) ⌝ }
     ensures { λ _. ⌜ now (synthesis .exit) ≡ dualOf (now (analysis .entry)) overlap ⌝ }
@@ -48,7 +48,7 @@ pub fn dual_window(analysis: &[f32], synthesis: &mut [f32], overlap: usize)
     }
 }
 
-// The values summed left to right.
+// The sum of the values, left to right.
 fn sum(window: &[f32]) -> f32
     ensures { λ r. ⌜ r ≡ sumOf (now (window .entry)) ⌝ }
 {
@@ -61,7 +61,7 @@ fn sum(window: &[f32]) -> f32
     total
 }
 
-// The mean of a window's values: what it does to a steady tone's level.
+// The mean of a window's values: its gain on a steady tone.
 pub fn coherent_gain(window: &[f32]) -> f32
     requires { ⌜ length (now window) ≤ MOST-WINDOW ⌝ }
     ensures { λ r. ⌜ r ≡ coherentGain (now (window .entry)) ⌝ }

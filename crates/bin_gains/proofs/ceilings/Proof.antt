@@ -1,4 +1,5 @@
--- `ceilings` is its stages, one after the other, with the moving field and without. Assumes nothing.
+-- `ceilings` is its stages, one after the other, with the moving field and without. Assumes
+-- nothing.
 use mathlib.Core.Path.{_≡_, _∙_}
 use Rattle.bin_gains.specs.Shared.{sharedOf}
 use Rattle.bin_gains.proofs.RowCeilings.{ceilings-at-rest, ceilings-moved}

@@ -1,4 +1,5 @@
--- `finish_row` replaces the entries from `start` on and below `end`: of those below the one at hand each has its gain. Assumes nothing.
+-- `finish_row` replaces the entries from `start` on and below `end`: each bin before the current
+-- one has its gain. Assumes nothing.
 use mathlib.Core.Path.{ap}
 use mathlib.Core.Logic.{inl}
 use Prim.Native.Nat.{_-_, _≤_}

@@ -1,4 +1,5 @@
--- `move_row` replaces the first `count` entries: of those below k each is times what the field leaves, made up for. Assumes nothing.
+-- `move_row` replaces the first `count` entries: each entry below k is multiplied by the field's
+-- compensated gain. Assumes nothing.
 use mathlib.Core.Logic.{inl}
 use Prim.Native.Nat.{_-_, _≤_}
 use native.Mathlib.Omega.{arith}

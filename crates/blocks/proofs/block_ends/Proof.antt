@@ -1,4 +1,5 @@
--- `block_ends` finds the ends of every block: at the head of the loop those of the blocks before the one at hand stand. Assumes nothing.
+-- `block_ends` finds the ends of every block: at the head of the loop those of the blocks before
+-- the current one are written. Assumes nothing.
 use mathlib.Core.Path.{_≡_, refl, _∙_}
 use Prim.Native.Nat.{_+_, _-_, _*_}
 use native.Mathlib.Omega.{arith}

@@ -1,4 +1,5 @@
--- `greatest_from` finds the greatest of the run: that of a row that has all of the run and nothing else, by way of the negated row. Assumes nothing.
+-- `greatest_from` finds the greatest of the run: that of a row that has all of the run and nothing
+-- else, by the negated row. Assumes nothing.
 use mathlib.Core.Path.{refl, _∙_}
 use native.Mathlib.Omega.{arith}
 use Rattle.blocks.proofs.Runs.{greatest-of-none, row-numbers, greatest-of-run, negated-length, negated-numbers, least-negated}

@@ -1,4 +1,5 @@
--- `least_from` finds the least of the run: that of a row that has all of the run and nothing else. Assumes nothing.
+-- `least_from` finds the least of the run: that of a row that has all of the run and nothing else.
+-- Assumes nothing.
 use mathlib.Core.Path.{refl, _∙_}
 use native.Mathlib.Omega.{arith}
 use Rattle.blocks.proofs.Runs.{least-of-none, row-numbers, least-of-run}

@@ -1,4 +1,5 @@
--- `take_row` leaves the run in the row: first its first entry everywhere, then as many of its entries as there are. Assumes nothing.
+-- `take_row` leaves the run in the row: first its first entry everywhere, then as many of its
+-- entries as there are. Assumes nothing.
 use mathlib.Core.Path.{_∙_}
 use native.Mathlib.Omega.{arith}
 use Rattle.blocks.proofs.Runs.{row-of}

@@ -1,4 +1,5 @@
--- `millionths` meets its contract: by the exponent, the digits are all dropped, shifted right, or left, or the answer is the most. Assumes nothing.
+-- `millionths` meets its contract: by the exponent, the digits are all dropped, shifted right, or
+-- left, or the answer is the most. Assumes nothing.
 use mathlib.Core.Path.{sym, _∙_, subst}
 use mathlib.Core.Bool.{Bool, false}
 use Prim.Native.Nat.{ℕ}

@@ -1,4 +1,4 @@
--- `shifted` meets its contract: the dropped places are filled to round up. Assumes nothing.
+-- `shifted` meets its contract: the dropped bits are set to round up. Assumes nothing.
 use native.Mathlib.Omega.{arith}
 use lib.Pow.{pow-pos}
 use borrow.Author.Needs.{needs}

@@ -1,4 +1,5 @@
--- `to_count` meets its contract: by the exponent, the digits are shifted right, or left, or the count is the largest. Assumes nothing.
+-- `to_count` meets its contract: by the exponent, the digits are shifted right, or left, or the
+-- count is the largest. Assumes nothing.
 use mathlib.Core.Path.{sym, ap, _∙_, subst}
 use mathlib.Core.Bool.{Bool, false}
 use Prim.Native.Nat.{ℕ, _^_}

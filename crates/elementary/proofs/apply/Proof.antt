@@ -1,4 +1,5 @@
--- `elementary::apply` meets its contract: each arm does what the function names over the whole list. Assumes nothing.
+-- `elementary::apply` meets its contract: each arm does what the function names over the whole
+-- list. Assumes nothing.
 use mathlib.Core.Path.{_≡_, _∙_}
 use mathlib.Core.List.{List}
 use Prim.Native.Nat.{ℕ}

@@ -1,4 +1,5 @@
--- `elementary::apply_one_by_one` meets its contract: after i turns the first i entries are done, and the others are as they were. Assumes nothing.
+-- `elementary::apply_one_by_one` meets its contract: after i iterations the first i entries are
+-- done, and the others are as they were. Assumes nothing.
 use Prim.Native.Nat.{_≤_, _-_}
 use native.Mathlib.Omega.{arith}
 use lib.ListN.{length}

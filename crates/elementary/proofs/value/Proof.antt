@@ -1,4 +1,5 @@
--- `elementary::value` meets its contract: each arm calls the function that its name says. Assumes nothing.
+-- `elementary::value` meets its contract: each arm calls the function that its name says. Assumes
+-- nothing.
 use borrow.Author.Needs.{needs}
 use Rattle.elementary.proofs.value.Statement.{statement}
 use Rattle.elementary.proofs.value.Tie as tie

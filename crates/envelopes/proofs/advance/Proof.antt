@@ -1,4 +1,5 @@
--- `envelopes::advance` meets its contract, by those of the functions it calls: the targets' entry at a note is the note's target. Assumes nothing.
+-- `envelopes::advance` meets its contract, by those of the functions it calls: the targets' entry
+-- at a note is the note's target. Assumes nothing.
 use mathlib.Core.Path.{_≡_, ap, _∙_}
 use mathlib.Core.List.{List}
 use Prim.Native.Nat.{ℕ}

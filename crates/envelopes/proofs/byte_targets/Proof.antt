@@ -1,4 +1,5 @@
--- `envelopes::byte_targets` meets its contract: after n turns the targets of the byte's first n notes are written. Assumes nothing.
+-- `envelopes::byte_targets` meets its contract: after n iterations the targets of the byte's first
+-- n notes are written. Assumes nothing.
 use mathlib.Core.Path.{_≡_, sym, ap, subst, _∙_}
 use mathlib.Core.Logic.{inl}
 use Prim.Native.Nat.{ℕ, _+_, _-_, _*_, _/_, _%_, _^_, _≤_, _<_}

@@ -1,4 +1,5 @@
--- `envelopes::settle` meets its contract: its two tests are the one on the magnitude. Assumes nothing.
+-- `envelopes::settle` meets its contract: its two tests are the one on the magnitude. Assumes
+-- nothing.
 use Rattle.envelopes.specs.Envelope.{settled}
 use Rattle.envelopes.proofs.Silence.{silence-is}
 use Rattle.envelopes.proofs.settle.Statement.{statement}

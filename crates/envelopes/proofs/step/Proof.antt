@@ -1,4 +1,5 @@
--- `envelopes::step` meets its contract: after n turns the levels of the first n notes have made their step, and the others are as they were. Assumes nothing.
+-- `envelopes::step` meets its contract: after n iterations the levels of the first n notes have
+-- made their step, and the others are as they were. Assumes nothing.
 use mathlib.Core.Path.{_≡_, _∙_}
 use Prim.Native.Nat.{_-_}
 use native.Mathlib.Omega.{arith}

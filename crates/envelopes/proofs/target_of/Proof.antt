@@ -1,4 +1,5 @@
--- `envelopes::target_of` meets its contract: a shift and a mask of one bit are a division and a remainder, and as a number a bit is 0 or 1. Assumes nothing.
+-- `envelopes::target_of` meets its contract: a shift and a mask of one bit are a division and a
+-- remainder, and as a number a bit is 0 or 1. Assumes nothing.
 use mathlib.Core.Path.{_≡_, refl, ap, _∙_}
 use Prim.Native.Nat.{ℕ, zero, suc, _-_, _/_, _%_, _^_, _<_}
 use native.Mathlib.Omega.{arith}

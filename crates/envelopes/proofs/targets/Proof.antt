@@ -1,4 +1,5 @@
--- `envelopes::targets` meets its contract: after n turns the targets of the notes of the first n bytes are written. Assumes nothing.
+-- `envelopes::targets` meets its contract: after n iterations the targets of the notes of the first
+-- n bytes are written. Assumes nothing.
 use mathlib.Core.Path.{_≡_, refl, sym, ap, subst, _∙_}
 use mathlib.Core.List.{List}
 use Prim.Native.Nat.{ℕ, _+_, _-_, _*_, _/_, _%_, _^_, _≤_, _<_}

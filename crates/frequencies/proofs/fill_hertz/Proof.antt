@@ -1,4 +1,5 @@
--- `fill_hertz` meets its contract: after b turns the first b entries are written, and the others are as they were. Assumes nothing.
+-- `fill_hertz` meets its contract: after b iterations the first b entries are written, and the
+-- others are as they were. Assumes nothing.
 use Prim.Native.Nat.{_≤_, _-_}
 use native.Mathlib.Omega.{arith}
 use lib.ListN.{length}

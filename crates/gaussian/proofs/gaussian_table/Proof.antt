@@ -1,4 +1,5 @@
--- `gaussian_table` meets its contract: the code's entries are those of specs/Table.antt. Assumes nothing.
+-- `gaussian_table` meets its contract: the code's entries are those of specs/Table.antt. Assumes
+-- nothing.
 use mathlib.Core.Path.{refl}
 use Rattle.gaussian.specs.Table.{gaussianTable, gaussianBits}
 use Rattle.gaussian.proofs.gaussian_table.Statement.{statement}

@@ -1,4 +1,5 @@
--- `gaussian::line` meets its contract: its steps are the definition's, over the table that it is lent. Both entries are at most the last. Assumes nothing.
+-- `gaussian::line` meets its contract: its steps are the definition's, over the table that it is
+-- lent. Both entries are at most the last. Assumes nothing.
 use borrow.Author.Needs.{needs}
 use Rattle.gaussian.proofs.line.Statement.{statement}
 use Rattle.gaussian.proofs.line.Tie as tie

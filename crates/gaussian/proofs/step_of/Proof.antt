@@ -1,4 +1,5 @@
--- `gaussian::step_of` meets its contract: proofs/Index.antt says what the bits of its sum count. Assumes nothing.
+-- `gaussian::step_of` meets its contract: proofs/Index.antt says what the bits of its sum count.
+-- Assumes nothing.
 use mathlib.Core.Path.{ap}
 use Prim.Native.Nat.{ℕ}
 use native.Mathlib.Omega.{arith}

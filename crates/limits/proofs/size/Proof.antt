@@ -1,4 +1,5 @@
--- `limits::size` meets its contract: a `match` on a list of numbers tests whether a number is one of them. Assumes nothing.
+-- `limits::size` meets its contract: a `match` on a list of numbers tests whether a number is one
+-- of them. Assumes nothing.
 use mathlib.Core.Path.{_≡_, refl}
 use mathlib.Core.Logic.{inl, inr}
 use mathlib.Core.Bool.{Bool, true, false, _||_}

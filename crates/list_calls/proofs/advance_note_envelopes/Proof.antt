@@ -1,4 +1,5 @@
--- `advance_note_envelopes` meets its contract, test by test; what the core advances is the bank that is handed back. Assumes nothing.
+-- `advance_note_envelopes` meets its contract, test by test; what the core advances is the bank
+-- that is handed back. Assumes nothing.
 use mathlib.Core.Path.{_≡_}
 use native.Mathlib.Omega.{arith}
 use borrow.Author.Needs.{needs}

@@ -1,4 +1,6 @@
--- `build_dual_synthesis_window` answers as the chain of its tests says, leaves the synthesis window as it was where it refuses, and where it is done leaves the dual, which is one in document 01's sense. Assumes nothing.
+-- `build_dual_synthesis_window` answers as the chain of its tests says, leaves the synthesis window
+-- as it was where it refuses, and where it is done leaves the dual, which is one in document 01's
+-- sense. Assumes nothing.
 use mathlib.Core.Path.{refl, subst}
 use Prim.Native.Nat.{ℕ, _≤_}
 use borrow.Author.Needs.{needs}

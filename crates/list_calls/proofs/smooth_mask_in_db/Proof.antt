@@ -1,4 +1,5 @@
--- `smooth_mask_in_db` answers as the chain of its tests says, leaves the gains as they were where it refuses, and moves them where it is done. Assumes nothing.
+-- `smooth_mask_in_db` answers as the chain of its tests says, leaves the gains as they were where
+-- it refuses, and moves them where it is done. Assumes nothing.
 use mathlib.Core.Path.{refl}
 use borrow.Author.Needs.{needs}
 use Rattle.list_calls.specs.Processing.{smoothReply}

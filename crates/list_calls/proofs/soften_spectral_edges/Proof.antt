@@ -1,4 +1,5 @@
--- `soften_spectral_edges` answers as the chain of its tests says, leaves the output as it was where it refuses, and softens where it is done. Assumes nothing.
+-- `soften_spectral_edges` answers as the chain of its tests says, leaves the output as it was where
+-- it refuses, and softens where it is done. Assumes nothing.
 use mathlib.Core.Path.{refl}
 use borrow.Author.Needs.{needs}
 use Rattle.list_calls.specs.Processing.{softenReply}

@@ -1,4 +1,5 @@
--- `bounds_at_places` replaces the first `count` entries: of those below p each is the bound at the place that stood there. Assumes nothing.
+-- `bounds_at_places` replaces the first `count` entries: each entry below p is the bound at the
+-- position that was there. Assumes nothing.
 use mathlib.Core.Logic.{inl}
 use Prim.Native.Nat.{_-_, _≤_}
 use native.Mathlib.Omega.{arith}

@@ -1,4 +1,5 @@
--- `greatest_at` walks up: none of the numbers below p is above the one at the place that it holds on to. Assumes nothing.
+-- `greatest_at` finds the greatest: none of the numbers below p is above the one at the index that
+-- it keeps. Assumes nothing.
 use mathlib.Core.Path.{_≡_, refl}
 use Prim.Native.Nat.{_-_, _≤_}
 use native.Mathlib.Omega.{arith}

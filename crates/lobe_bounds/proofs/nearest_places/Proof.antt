@@ -1,4 +1,5 @@
--- `nearest_places` replaces the first `count` entries: of those below p each is the place of the least distance. Assumes nothing.
+-- `nearest_places` replaces the first `count` entries: each entry below p is the place of the least
+-- distance. Assumes nothing.
 use mathlib.Core.Logic.{inl}
 use Prim.Native.Nat.{_-_, _≤_}
 use native.Mathlib.Omega.{arith}

@@ -1,4 +1,5 @@
--- `build_two` meets its contract: where every voice stands at the centre the mono mask is both, and else each side is built from its own openness. Assumes nothing.
+-- `build_two` meets its contract: where every voice is at the centre the mono mask is both,
+-- otherwise each side is built from its own openness. Assumes nothing.
 use mathlib.Core.Path.{sym, subst, _∙_}
 use lib.Dec.{T}
 use Rattle.lobes.specs.Pan.{left, right}

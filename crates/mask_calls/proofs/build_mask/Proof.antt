@@ -1,4 +1,5 @@
--- `build_mask` answers as its tests say, leaves the mask as it was where it refuses, and builds it where it is done. Assumes nothing.
+-- `build_mask` answers as its tests say, leaves the mask as it was where it refuses, and builds it
+-- where it is done. Assumes nothing.
 use mathlib.Core.Path.{_≡_, refl, sym, ap, _∙_}
 use mathlib.Core.List.{List}
 use lib.Ieee.{Float, nan}

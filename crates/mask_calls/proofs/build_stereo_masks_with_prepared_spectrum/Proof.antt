@@ -1,4 +1,5 @@
--- `build_stereo_masks_with_prepared_spectrum` lends the part of the block that stands after the four windows. Assumes nothing.
+-- `build_stereo_masks_with_prepared_spectrum` lends the part of the block that stands after the
+-- four windows. Assumes nothing.
 use mathlib.Core.Path.{_≡_, sym, ap, _∙_}
 use mathlib.Core.List.{List}
 use Prim.Native.Nat.{ℕ, _-_, _*_, _<_, min}

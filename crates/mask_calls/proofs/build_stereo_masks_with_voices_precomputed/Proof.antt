@@ -1,4 +1,5 @@
--- `build_stereo_masks_with_voices_precomputed` answers as its tests say, leaves both masks as they were where it refuses, and builds them where it is done. Assumes nothing.
+-- `build_stereo_masks_with_voices_precomputed` answers as its tests say, leaves both masks as they
+-- were where it refuses, and builds them where it is done. Assumes nothing.
 use mathlib.Core.Path.{refl, sym, ap, _∙_}
 use lib.ListN.{length}
 use Rattle.answer.specs.Reply.{ofOutcome}

@@ -1,4 +1,5 @@
--- `motion::compensation::compensation_gain` meets its contract: 1 where the field rests, else the definition with what its callees ensure put in. Assumes nothing.
+-- `motion_compensation::compensation_gain` meets its contract: 1 where the field rests, else the
+-- definition with what its callees ensure put in. Assumes nothing.
 use mathlib.Core.Path.{_∙_}
 use Rattle.motion_compensation.specs.Compensation.{compensation}
 use borrow.Author.Needs.{needs}

@@ -1,5 +1,7 @@
--- `motion::compensation::mean_square` meets its contract. The loop's invariant: the run over the samples that are left, from the sum so far, is the whole run. The measure is the
--- number of samples left. That the whole run is the definition's is said in proofs/Samples.antt. Assumes nothing.
+-- `motion_compensation::mean_square` meets its contract. The loop's invariant: the run over the
+-- samples that are left, from the sum so far, is the whole run. The measure is the number of
+-- samples left. That the whole run is the definition's is said in proofs/Samples.antt. Assumes
+-- nothing.
 use mathlib.Core.Path.{_≡_, refl, sym, ap, _∙_}
 use mathlib.Core.List.{List}
 use Prim.Native.Nat.{ℕ, _≤_, _<_, _-_}

@@ -1,4 +1,5 @@
--- `lowerings` replaces the first `count` entries: of those below k each is in decibels. Assumes nothing.
+-- `lowerings` replaces the first `count` entries: each entry below k is in decibels. Assumes
+-- nothing.
 use mathlib.Core.Logic.{inl}
 use Prim.Native.Nat.{_-_, _≤_}
 use native.Mathlib.Omega.{arith}

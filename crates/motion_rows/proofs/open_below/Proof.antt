@@ -1,4 +1,5 @@
--- `open_below` replaces the first `count` entries: of those below k each is open if its frequency is below the lowest shown. Assumes nothing.
+-- `open_below` replaces the first `count` entries: each entry below k is open if its frequency is
+-- below the lowest shown. Assumes nothing.
 use mathlib.Core.Logic.{inl}
 use Prim.Native.Nat.{_+_, _-_, _≤_}
 use native.Mathlib.Omega.{arith}

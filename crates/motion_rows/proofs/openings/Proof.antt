@@ -1,4 +1,5 @@
--- `openings` is its four stages, one after the other; where the shape is made of events every bin is open. Assumes nothing.
+-- `openings` is its four stages, one after the other; where the shape is event-driven every bin is
+-- open. Assumes nothing.
 use mathlib.Core.Path.{sym, _∙_}
 use Rattle.motion_rows.proofs.StagedField.{openings-staged, openings-of-events}
 use borrow.Author.Needs.{needs}

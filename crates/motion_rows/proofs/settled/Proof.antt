@@ -1,4 +1,5 @@
--- `motion::compensation::settled` meets its contract: the definition with what its callees ensure put in. Assumes nothing.
+-- `motion_rows::settled` meets its contract: the definition with what its callees ensure put in.
+-- Assumes nothing.
 use Rattle.motion_rows.specs.Settled.{settled}
 use borrow.Author.Needs.{needs}
 use Rattle.motion_rows.proofs.settled.Statement.{statement}

@@ -1,4 +1,5 @@
--- `manual_gain_at_bin` refuses where one of its tests fails, in the order of the refusals, and else answers what its core call ensures. Assumes nothing.
+-- `manual_gain_at_bin` refuses where one of its tests fails, in the order of the refusals, and else
+-- answers what its core call ensures. Assumes nothing.
 use mathlib.Core.Path.{sym, _∙_}
 use borrow.Author.Needs.{needs}
 use borrow.Author.Tests.{not-true, not-false, eq-eqb, ne-eqb}

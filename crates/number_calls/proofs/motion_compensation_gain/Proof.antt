@@ -1,4 +1,5 @@
--- `motion_compensation_gain` meets its contract: a refusal where the test fails, else what the core ensures. Assumes nothing.
+-- `motion_compensation_gain` meets its contract: a refusal where the test fails, else what the core
+-- ensures. Assumes nothing.
 use borrow.Author.Tests.{not-true, not-false}
 use borrow.Author.Needs.{needs}
 use Rattle.number_calls.proofs.motion_compensation_gain.Statement.{statement}

@@ -1,4 +1,5 @@
--- `note_gate_gain` refuses where one of its tests fails, and else answers what its core call ensures. Assumes nothing.
+-- `note_gate_gain` refuses where one of its tests fails, and else answers what its core call
+-- ensures. Assumes nothing.
 use mathlib.Core.Path.{sym, _∙_}
 use borrow.Author.Needs.{needs}
 use borrow.Author.Tests.{not-true, not-false}

@@ -1,4 +1,5 @@
--- `pitch::note_hertz` is `noteHertz`: the code's steps are the definition's, and `exp2` is E2. Assumes nothing.
+-- `pitch::note_hertz` is `noteHertz`: the code's steps are the definition's, and `exp2` is E2.
+-- Assumes nothing.
 use mathlib.Core.Path.{ap}
 use borrow.Author.Needs.{needs}
 use lib.Ieee.{binary32, mul}

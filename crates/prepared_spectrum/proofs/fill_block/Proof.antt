@@ -1,4 +1,5 @@
--- `fill_block` leaves the whole block: the two pairs fill it from its front, and the table what is left. Assumes nothing.
+-- `fill_block` leaves the whole block: the two pairs fill it from its front, and the table what is
+-- left. Assumes nothing.
 use mathlib.Core.Path.{_≡_, sym, ap, _∙_}
 use mathlib.Core.List.{List, _++_, append-assoc}
 use Prim.Native.Nat.{ℕ, _*_, _/_}

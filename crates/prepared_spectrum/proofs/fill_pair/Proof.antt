@@ -1,4 +1,5 @@
--- `fill_pair` leaves the window and then its dual: the copy fills the front, and the dual the rest. Assumes nothing.
+-- `fill_pair` leaves the window and then its dual: the copy fills the front, and the dual the rest.
+-- Assumes nothing.
 use mathlib.Core.Path.{refl, sym}
 use native.Mathlib.Omega.{arith}
 use lib.ListN.{length, drop}

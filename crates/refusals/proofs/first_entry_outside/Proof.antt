@@ -1,4 +1,5 @@
--- `first_entry_outside` meets its contract: the search from here on finds what the whole search finds. Assumes nothing.
+-- `first_entry_outside` meets its contract: the search from here on finds what the whole search
+-- finds. Assumes nothing.
 use mathlib.Core.Path.{refl, sym, _∙_}
 use Prim.Native.Nat.{_≤_, _-_}
 use native.Mathlib.Omega.{arith}

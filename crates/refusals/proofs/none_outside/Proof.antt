@@ -1,4 +1,5 @@
--- `none_outside` meets its contract: while nothing was counted, the search from here on finds what the whole search finds. Assumes nothing.
+-- `none_outside` meets its contract: while nothing was counted, the search from here on finds what
+-- the whole search finds. Assumes nothing.
 use mathlib.Core.Path.{_≡_, refl, sym, _∙_, subst}
 use mathlib.Core.Bool.{Bool, true, false, not}
 use Prim.Native.Nat.{ℕ, _+_, _-_, _≤_}

@@ -1,4 +1,5 @@
--- `scene::first_voice_outside` meets its contract: the search from here on, among the first `count` voices, finds what the whole search finds. Assumes nothing.
+-- `scene::first_voice_outside` meets its contract: the search from here on, among the first `count`
+-- voices, finds what the whole search finds. Assumes nothing.
 use mathlib.Core.Path.{_≡_, refl, sym, _∙_}
 use mathlib.Core.Bool.{Bool}
 use Prim.Native.Nat.{ℕ, _≤_, _-_}

@@ -1,4 +1,5 @@
--- `sine::cos` meets its contract: the wave a quarter of a turn past the angle's place. Assumes nothing.
+-- `sine::cos` meets its contract: the wave a quarter of a turn past the angle's place. Assumes
+-- nothing.
 use borrow.Author.Needs.{needs}
 use mathlib.Core.Path.{ap, _∙_}
 use Prim.Native.Nat.{ℕ, _+_, _%_, _<_}

@@ -1,4 +1,5 @@
--- `levels` replaces `count` angles from `start` on: of those below i each is what `level` ensures of its place and value. Assumes nothing.
+-- `levels` replaces `count` angles from `start` on: each entry below i is what `level` ensures of
+-- its place and value. Assumes nothing.
 use mathlib.Core.Logic.{inl}
 use Prim.Native.Nat.{_+_, _-_, _≤_}
 use native.Mathlib.Omega.{arith}

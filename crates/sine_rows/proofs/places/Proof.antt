@@ -1,4 +1,5 @@
--- `places` fills the first `count` entries: of those below k each is what `place_ahead` ensures of its angle. Assumes nothing.
+-- `places` fills the first `count` entries: each entry below k is what `place_ahead` ensures of its
+-- angle. Assumes nothing.
 use mathlib.Core.Logic.{inl}
 use Prim.Native.Nat.{_+_, _-_, _≤_}
 use native.Mathlib.Omega.{arith}

@@ -1,4 +1,4 @@
--- `step_of` cuts the way at its 14 low digits: the masks are remainders. Assumes nothing.
+-- `step_of` splits the way at its 14 low bits: the masks are remainders. Assumes nothing.
 use mathlib.Core.Path.{_≡_, ap, _∙_}
 use Prim.Native.Nat.{ℕ, _+_, _/_}
 use native.Mathlib.Omega.{arith}

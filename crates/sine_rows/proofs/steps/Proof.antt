@@ -1,4 +1,5 @@
--- `steps` fills the first `count` indexes and parts: of those below k each is what `step_of` ensures. Assumes nothing.
+-- `steps` fills the first `count` indexes and parts: each entry below k is what `step_of` ensures.
+-- Assumes nothing.
 use mathlib.Core.Logic.{inl}
 use Prim.Native.Nat.{_-_, _≤_}
 use native.Mathlib.Omega.{arith}

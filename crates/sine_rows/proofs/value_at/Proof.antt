@@ -1,4 +1,5 @@
--- `value_at` is a part of the way between two entries of R, which never fall (Stepped.antt), so that all of it fits. Assumes nothing.
+-- `value_at` is a part of the way between two entries of R, which never fall (Stepped.antt), so
+-- that all of it fits. Assumes nothing.
 use mathlib.Core.Path.{ap}
 use Prim.Native.Nat.{ℕ, _+_, _-_, _*_, _/_, _^_, _≤_}
 use native.Mathlib.Omega.{arith}

@@ -1,4 +1,5 @@
--- `values` replaces the first `count` indexes: of those below k each is the value that `value_at` ensures of its step. Assumes nothing.
+-- `values` replaces the first `count` indexes: each entry below k is the value that `value_at`
+-- ensures of its step. Assumes nothing.
 use mathlib.Core.Path.{sym, subst}
 use mathlib.Core.Logic.{inl}
 use Prim.Native.Nat.{ℕ, _-_, _≤_, _<_}

@@ -7,7 +7,7 @@ use borrow.Author.Needs.{needs}
 use Rattle.sine_rows.proofs.waves.Statement.{statement}
 use Rattle.sine_rows.proofs.waves.Tie as tie
 
--- there is room in what is lent
+-- the lent buffers have room
 rooms : (s : tie.Start) → (s .args .count ≤ length (s .args .found .now)) × (s .args .count ≤ length (s .args .indexes .now)) × (s .args .count ≤ length (s .args .parts .now))
 rooms s = (s .pre .2, s .pre .3, s .pre .4)
 

@@ -1,4 +1,4 @@
--- `way_into` chooses by the low bit of the quarter. Assumes nothing.
+-- `way_into` decides by the low bit of the quarter. Assumes nothing.
 use borrow.Author.Tests.{eq-eqb, ne-eqb}
 use borrow.Author.Needs.{needs}
 use Rattle.sine_rows.proofs.way_into.Statement.{statement}

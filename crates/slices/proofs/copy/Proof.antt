@@ -1,4 +1,5 @@
--- `copy` leaves the source in the output: of the entries below the index each is the source's, and at the end that is all of them. Assumes nothing.
+-- `copy` leaves the source in the output: each entry below the index is the source's, and at the
+-- end that is all of them. Assumes nothing.
 use mathlib.Core.Path.{refl, sym, ap, _∙_}
 use Prim.Native.Nat.{ℕ, _-_}
 use native.Mathlib.Omega.{arith}

@@ -1,4 +1,5 @@
--- `fill` leaves the value everywhere: each entry below the index is it, and at the end that is all of them. Assumes nothing.
+-- `fill` leaves the value everywhere: each entry below the index is it, and at the end that is all
+-- of them. Assumes nothing.
 use mathlib.Core.Path.{refl}
 use Prim.Native.Nat.{_-_}
 use native.Mathlib.Omega.{arith}

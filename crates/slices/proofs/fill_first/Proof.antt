@@ -1,4 +1,5 @@
--- `fill_first` leaves the value in the first `count` places: each entry below the index is it. Assumes nothing.
+-- `fill_first` leaves the value in the first `count` places: each entry below the index is it.
+-- Assumes nothing.
 use mathlib.Core.Path.{refl}
 use mathlib.Core.Logic.{inl}
 use Prim.Native.Nat.{_-_, _≤_}

@@ -1,4 +1,5 @@
--- `audible` fills the first `count` entries: of those below k each is its own gain, silence as the least. Assumes nothing.
+-- `audible` fills the first `count` entries: each entry below k is its own gain, at least
+-- LEAST-GAIN. Assumes nothing.
 use mathlib.Core.Logic.{inl}
 use Prim.Native.Nat.{_+_, _-_, _≤_}
 use native.Mathlib.Omega.{arith}

@@ -1,4 +1,5 @@
--- `move_row` replaces the entries from `start` on: of those below i each is moved toward its target. Assumes nothing.
+-- `move_row` replaces the entries from `start` on: each entry below i is moved toward its target.
+-- Assumes nothing.
 use mathlib.Core.Path.{ap, _∙_}
 use mathlib.Core.Logic.{inl}
 use Prim.Native.Nat.{_-_, _≤_}

@@ -1,4 +1,5 @@
--- `scaled` replaces the first `count` entries: of those below k each logarithm is in decibels. Assumes nothing.
+-- `scaled` replaces the first `count` entries: each logarithm below k is in decibels.
+-- Assumes nothing.
 use mathlib.Core.Logic.{inl}
 use Prim.Native.Nat.{_-_, _≤_}
 use native.Mathlib.Omega.{arith}

@@ -1,4 +1,5 @@
--- `smooth_all` moves every gain: of the gains below `start` each is moved, and the others are as they were (proofs/Rows.antt). Assumes nothing.
+-- `smooth_all` moves every gain: each gain below `start` is moved, and the others are as they were
+-- (proofs/Rows.antt). Assumes nothing.
 use mathlib.Core.Path.{_≡_}
 use Prim.Native.Nat.{_-_, _≤_}
 use native.Mathlib.Omega.{arith}

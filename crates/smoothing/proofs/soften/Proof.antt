@@ -1,4 +1,5 @@
--- `soften` keeps the copy where there are fewer than three bins, which have no inside, and else the softened inside of it. Assumes nothing.
+-- `soften` keeps the copy where there are fewer than three bins, which have no inside, otherwise it
+-- softens the inside of the copy. Assumes nothing.
 use mathlib.Core.Path.{refl, ap, _∙_}
 use mathlib.Core.Logic.{inr}
 use mathlib.Core.List.{List}

@@ -1,4 +1,5 @@
--- `soften_inside` softens every bin with two neighbours: of the bins below `start` each is done (proofs/Rows.antt). Assumes nothing.
+-- `soften_inside` softens every bin with two neighbours: each bin below `start` is done
+-- (proofs/Rows.antt). Assumes nothing.
 use mathlib.Core.Path.{_≡_}
 use mathlib.Core.Logic.{inl}
 use Prim.Native.Nat.{_+_, _-_, _≤_}

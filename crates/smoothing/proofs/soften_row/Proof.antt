@@ -1,4 +1,5 @@
--- `soften_row` replaces the bins from `start` on: of those below the one at hand each is softened. Assumes nothing.
+-- `soften_row` replaces the bins from `start` on: each bin before the current one is softened.
+-- Assumes nothing.
 use mathlib.Core.Logic.{inl}
 use Prim.Native.Nat.{_+_, _-_, _≤_}
 use native.Mathlib.Omega.{arith}

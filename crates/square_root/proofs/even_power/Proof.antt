@@ -1,4 +1,5 @@
--- `even_power` meets its contract: the leading zeros of mant are 8 to 31, and what the digits gain the exponent loses. Assumes nothing.
+-- `even_power` meets its contract: the leading zeros of mant are 8 to 31, and what the digits gain
+-- the exponent loses. Assumes nothing.
 use native.Mathlib.Omega.{arith}
 use borrow.Author.Needs.{needs}
 use Rattle.square_root.proofs.EvenPowers.{zeros-least, zeros-most, by-fours}

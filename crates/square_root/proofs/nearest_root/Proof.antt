@@ -1,4 +1,5 @@
--- `nearest_root` meets its contract: with q the whole part of the root, the next number is nearer exactly where the rest is above q. Assumes nothing.
+-- `nearest_root` meets its contract: with q the whole part of the root, the next number is nearer
+-- exactly where the rest is above q. Assumes nothing.
 use native.Mathlib.Omega.{arith}
 use borrow.Author.Needs.{needs}
 use Rattle.square_root.proofs.RootRounding.{whole-is-nearest}

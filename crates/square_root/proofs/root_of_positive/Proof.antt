@@ -1,4 +1,5 @@
--- `root_of_positive` meets its contract: the nearest root of the digits has 24 places, and with the exponent above it makes the definition's value. Assumes nothing.
+-- `root_of_positive` meets its contract: the nearest root of the digits has 24 places, and with the
+-- exponent above it makes the definition's value. Assumes nothing.
 use mathlib.Core.Path.{sym, ap, _∙_}
 use Prim.Native.Nat.{ℕ}
 use native.Mathlib.Omega.{arith}

@@ -1,4 +1,5 @@
--- `whole_root` meets its contract. The loop's invariant: the digits found so far are those of the root from the place k up. Assumes nothing.
+-- `whole_root` meets its contract. The loop's invariant: the digits found so far are those of the
+-- root from the place k up. Assumes nothing.
 use mathlib.Core.Path.{_≡_, subst}
 use Prim.Native.Nat.{ℕ}
 use native.Mathlib.Omega.{arith}

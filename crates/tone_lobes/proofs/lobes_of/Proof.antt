@@ -1,4 +1,4 @@
--- `lobes_of` works out each lobe below the place at hand. Assumes nothing.
+-- `lobes_of` computes every lobe: those below the current index are done. Assumes nothing.
 use mathlib.Core.Path.{_≡_, _∙_}
 use Prim.Native.Nat.{_-_, _≤_}
 use native.Mathlib.Omega.{arith}

@@ -1,4 +1,5 @@
--- `partials_of` counts: those before the one at hand, and those from it on, are all. Assumes nothing.
+-- `partials_of` counts: the partials before the current one and those from it on are all. Assumes
+-- nothing.
 use mathlib.Core.Path.{_≡_}
 use Prim.Native.Nat.{_+_, _-_, _≤_}
 use native.Mathlib.Omega.{arith}

@@ -1,4 +1,5 @@
--- `a_hop_on` is the remainder: below the size a number is its own, and from the size up, where it is below twice the size, it is less by the size. Assumes nothing.
+-- `a_hop_on` is the remainder: a number below the size is its own remainder, and for one from the
+-- size up and below twice the size it is less by the size. Assumes nothing.
 use mathlib.Core.Path.{sym, _∙_}
 use native.Mathlib.Nat.{mod-eq-of-lt, mod-eq-sub-mod}
 use native.Mathlib.Omega.{arith}

@@ -1,4 +1,5 @@
--- `coherent_gain` is the definition's quotient: a size of at most 2 ^ 24 is a value of f32. Assumes nothing.
+-- `coherent_gain` is the definition's quotient: a size of at most 2 ^ 24 is a value of f32. Assumes
+-- nothing.
 use mathlib.Core.Path.{ap}
 use native.Mathlib.Omega.{arith}
 use lib.IntN.{pos}

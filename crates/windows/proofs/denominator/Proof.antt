@@ -1,4 +1,5 @@
--- `denominator` is the definition's: the sum so far, run on over the offsets that are left, is the whole sum, and `at` is the index that the next offset reads. Assumes nothing.
+-- `denominator` is the definition's: the sum so far, run on over the offsets that are left, is the
+-- whole sum, and `at` is the index that the next offset reads. Assumes nothing.
 use mathlib.Core.Path.{_≡_, sym, ap, _∙_}
 use Prim.Native.Nat.{ℕ, _+_, _-_, _*_, _%_, _<_}
 use native.Mathlib.Nat.{zero-mul, add-zero, add-mul, one-mul, mod-eq-of-lt, mod-add-mod, sub-zero}

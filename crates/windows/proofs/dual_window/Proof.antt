@@ -1,4 +1,5 @@
--- `dual_window` writes the dual at every index: of the entries below the index each is done, and the others are as they were. Assumes nothing.
+-- `dual_window` writes the dual at every index: each entry below the index is done, and the others
+-- are as they were. Assumes nothing.
 use mathlib.Core.Path.{sym, ap, _∙_}
 use Prim.Native.Nat.{ℕ, _-_, _/_}
 use native.Mathlib.Nat.{div-le-self}

@@ -1,4 +1,5 @@
--- `sum` is the fold from 0: the sum so far, run on over the values that are left, is the whole sum. Assumes nothing.
+-- `sum` is the fold from 0: the sum so far, run on over the values that are left, is the whole sum.
+-- Assumes nothing.
 use mathlib.Core.Path.{_≡_, refl, sym, ap, _∙_}
 use mathlib.Core.List.{_∷_}
 use Prim.Native.Nat.{ℕ, _-_}

@@ -1,4 +1,5 @@
--- `copy_row` replaces the first `count` numbers: of those below k each is the slice's. Assumes nothing.
+-- `copy_row` replaces the first `count` numbers: each entry below k is the slice's. Assumes
+-- nothing.
 use mathlib.Core.Path.{refl}
 use mathlib.Core.Logic.{inl}
 use Prim.Native.Nat.{_+_, _-_, _≤_}

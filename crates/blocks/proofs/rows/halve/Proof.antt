@@ -1,4 +1,5 @@
--- `halve` replaces the first `count` numbers: of those below k each is the smaller of the two, and the others, among them all that are still to be read, are as they were. Assumes nothing.
+-- `halve` replaces the first `count` numbers: each entry below k is the smaller of the two, and the
+-- others, among them all that are still to be read, are as they were. Assumes nothing.
 use mathlib.Core.Logic.{inl}
 use Prim.Native.Nat.{_+_, _-_, _≤_}
 use native.Mathlib.Omega.{arith}

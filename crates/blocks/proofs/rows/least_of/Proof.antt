@@ -1,4 +1,5 @@
--- `least_of` finds the least: each halving keeps what lies below all of the row, and one number is left. Assumes nothing.
+-- `least_of` finds the least: each halving keeps what lies below all of the row, and one number is
+-- left. Assumes nothing.
 use Rattle.blocks.proofs.Halved.{covers-all, covers-half, covers-one}
 use borrow.Author.Needs.{needs}
 use Rattle.blocks.proofs.rows.least_of.Statement.{statement}

@@ -1,4 +1,5 @@
--- `negate` negates every entry: of those below k each is negated, and the others are as they were. Assumes nothing.
+-- `negate` negates every entry: each entry below k is negated, and the others are as they were.
+-- Assumes nothing.
 use mathlib.Core.Path.{ap}
 use Prim.Native.Nat.{_-_}
 use native.Mathlib.Omega.{arith}

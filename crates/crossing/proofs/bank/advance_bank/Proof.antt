@@ -1,4 +1,5 @@
--- `crossing::bank::advance_bank` meets its contract, test by test; then the bank that the open call hands back is copied to the slice. Assumes nothing.
+-- `crossing::bank::advance_bank` meets its contract, test by test; then the bank that the open call
+-- hands back is copied to the slice. Assumes nothing.
 use mathlib.Core.Path.{_≡_, refl, subst, _∙_}
 use mathlib.Core.Bool.{Bool, false, not}
 use native.Mathlib.Omega.{arith}

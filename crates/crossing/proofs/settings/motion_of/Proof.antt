@@ -1,4 +1,5 @@
--- `crossing::settings::motion_of` meets its contract: the shape is the one of its number. Assumes nothing.
+-- `crossing::settings::motion_of` meets its contract: the shape is the one of its number. Assumes
+-- nothing.
 use borrow.Author.Needs.{needs}
 use Rattle.crossing.proofs.settings.motion_of.Statement.{statement}
 use Rattle.crossing.proofs.settings.motion_of.Tie as tie

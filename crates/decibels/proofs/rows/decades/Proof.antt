@@ -1,4 +1,5 @@
--- `decades` replaces the first `count` entries: of those below k each is over 20. Assumes nothing.
+-- `decades` replaces the first `count` entries: each entry below k is divided by 20. Assumes
+-- nothing.
 use mathlib.Core.Logic.{inl}
 use Prim.Native.Nat.{_-_, _≤_}
 use native.Mathlib.Omega.{arith}

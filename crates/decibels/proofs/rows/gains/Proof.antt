@@ -1,4 +1,5 @@
--- `gains` is its two stages, one after the other; of a level row the first entry's gain is every entry's. Assumes nothing.
+-- `gains` is its two stages, one after the other; of a level row the first entry's gain is every
+-- entry's. Assumes nothing.
 use mathlib.Core.Path.{_∙_}
 use native.Mathlib.Omega.{arith}
 use Rattle.lists.specs.Stages.{stages}

@@ -1,4 +1,5 @@
--- `float32::bits::bits_of` meets its contract: a float that differs from itself is NaN. Assumes nothing.
+-- `float32::bits::bits_of` meets its contract: a float that differs from itself is NaN. Assumes
+-- nothing.
 use lib.Ieee.{toBits}
 use borrow.Author.Needs.{needs}
 use Rattle.float32.proofs.Patterns.{tested-nan, tested-number}

@@ -1,4 +1,5 @@
--- `float32::bits::decode` meets its contract: an exponent field of 0 has no leading digit, any other has it. Assumes nothing.
+-- `float32::bits::decode` meets its contract: an exponent field of 0 has no leading digit, any
+-- other has it. Assumes nothing.
 use mathlib.Core.Path.{sym, subst}
 use lib.Dec.{T}
 use lib.Ieee.{binary32, fits}

@@ -1,4 +1,5 @@
--- `float32::bits::fraction` meets its contract: f is a whole number that f32 holds, so the quotient is rounded once. Assumes nothing.
+-- `float32::bits::fraction` meets its contract: f is a whole number that f32 holds, so the quotient
+-- is rounded once. Assumes nothing.
 use mathlib.Core.Path.{_≡_, sym, ap, _∙_, subst}
 use native.Mathlib.Omega.{arith}
 use Prim.Native.Nat.{ℕ, _≤_}

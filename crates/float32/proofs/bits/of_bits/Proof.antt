@@ -1,4 +1,5 @@
--- `float32::bits::of_bits` meets its contract: the patterns above an infinity's are those of NaN, which 0 / 0 gives. Assumes nothing.
+-- `float32::bits::of_bits` meets its contract: the patterns above an infinity's are those of NaN,
+-- which 0 / 0 gives. Assumes nothing.
 use mathlib.Core.Path.{sym}
 use lib.Ieee.{div, ofBits, ofFields, odd}
 use borrow.Author.Needs.{needs}

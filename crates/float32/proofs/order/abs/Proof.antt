@@ -1,4 +1,5 @@
--- `float32::order::abs` meets its contract: a mask clears the sign, and the pattern stays that of a number. Assumes nothing.
+-- `float32::order::abs` meets its contract: a mask clears the sign, and the pattern stays that of a
+-- number. Assumes nothing.
 use mathlib.Core.Path.{sym, subst}
 use lib.Dec.{T}
 use lib.Ieee.{binary32, fits}

@@ -1,4 +1,5 @@
--- `float32::order::is_finite` meets its contract: the difference of a float with itself equals 0 exactly where the float is finite. Assumes nothing.
+-- `float32::order::is_finite` meets its contract: the difference of a float with itself equals 0
+-- exactly where the float is finite. Assumes nothing.
 use mathlib.Core.Path.{sym, subst}
 use lib.Dec.{T}
 use Rattle.float32.proofs.FiniteTest.{difference-test}

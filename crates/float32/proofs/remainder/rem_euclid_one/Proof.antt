@@ -1,4 +1,5 @@
--- `float32::remainder::rem_euclid_one` meets its contract, test by test: proofs/RemainderByOne.antt has each arm. Assumes nothing.
+-- `float32::remainder::rem_euclid_one` meets its contract, test by test: proofs/RemainderByOne.antt
+-- has each arm. Assumes nothing.
 use mathlib.Core.Path.{_≡_, refl, sym, ap, _∙_, subst}
 use mathlib.Core.Bool.{Bool, true, false, not}
 use lib.Dec.{T}

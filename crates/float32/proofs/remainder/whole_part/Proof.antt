@@ -1,4 +1,5 @@
--- `float32::remainder::whole_part` meets its contract: the nearest whole number is the whole part, or one more. Assumes nothing.
+-- `float32::remainder::whole_part` meets its contract: the nearest whole number is the whole part,
+-- or one more. Assumes nothing.
 use mathlib.Core.Path.{sym, subst}
 use lib.Dec.{T}
 use lib.Ieee.{binary32, fits}

@@ -1,4 +1,5 @@
--- `ratios` replaces the first `count` entries: of those below k each is its bin's frequency, divided. Assumes nothing.
+-- `ratios` replaces the first `count` entries: each entry below k is its bin's frequency, divided.
+-- Assumes nothing.
 use mathlib.Core.Logic.{inl}
 use Prim.Native.Nat.{_+_, _-_, _≤_}
 use native.Mathlib.Omega.{arith}

@@ -1,4 +1,5 @@
--- `limits::slices::first_outside` meets its contract: the search from here on finds what the whole search finds. Assumes nothing.
+-- `limits::slices::first_outside` meets its contract: the search from here on finds what the whole
+-- search finds. Assumes nothing.
 use mathlib.Core.Path.{refl, sym, _∙_}
 use mathlib.Core.Bool.{Bool}
 use Prim.Native.Nat.{ℕ, _≤_, _-_}

@@ -1,5 +1,5 @@
--- `limits::slices::first_pair_outside` meets its contract: the search from here on finds what the whole search finds, and a place is good where both
--- entries are. Assumes nothing.
+-- `limits::slices::first_pair_outside` meets its contract: the search from here on finds what the
+-- whole search finds, and a place is good where both entries are. Assumes nothing.
 use mathlib.Core.Path.{refl, sym, _∙_}
 use mathlib.Core.Bool.{Bool, _&&_}
 use mathlib.Core.List.{List}

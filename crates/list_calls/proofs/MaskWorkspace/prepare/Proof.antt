@@ -1,4 +1,5 @@
--- `MaskWorkspace::prepare` answers as the chain of its tests says, leaves the table as it was where it refuses, and fills it where it is done. Assumes nothing.
+-- `MaskWorkspace::prepare` answers as the chain of its tests says, leaves the table as it was where
+-- it refuses, and fills it where it is done. Assumes nothing.
 use mathlib.Core.Path.{refl, sym, _∙_}
 use native.Mathlib.Omega.{arith}
 use borrow.Author.Needs.{needs}

@@ -1,4 +1,5 @@
--- `PreparedSpectrum::new` answers as the chain of its tests says, leaves the block as it was where it refuses, and fills it where it is done. Assumes nothing.
+-- `PreparedSpectrum::new` answers as the chain of its tests says, leaves the block as it was where
+-- it refuses, and fills it where it is done. Assumes nothing.
 use mathlib.Core.Path.{refl, sym, _∙_}
 use Prim.Native.Nat.{_≤_}
 use native.Mathlib.Omega.{arith}

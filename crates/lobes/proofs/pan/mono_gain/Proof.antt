@@ -1,4 +1,5 @@
--- `lobes::pan::mono_gain` meets its contract: a mono mask has the balance 1, at the centre and elsewhere. Assumes nothing.
+-- `lobes::pan::mono_gain` meets its contract: a mono mask has the balance 1, at the centre and
+-- elsewhere. Assumes nothing.
 use mathlib.Core.Path.{_≡_, refl, ap, _∙_}
 use mathlib.Core.Bool.{Bool, true, false, cond}
 use borrow.Author.Needs.{needs}

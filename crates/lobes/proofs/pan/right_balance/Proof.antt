@@ -1,4 +1,5 @@
--- `lobes::pan::right_balance` meets its contract: its tests are the arms of the definition. Assumes nothing.
+-- `lobes::pan::right_balance` meets its contract: its tests are the arms of the definition. Assumes
+-- nothing.
 use borrow.Author.Needs.{needs}
 use Rattle.lobes.specs.Pan.{balance}
 use Rattle.lobes.proofs.pan.right_balance.Statement.{statement}

@@ -1,4 +1,5 @@
--- `lobes::peaks::closest_bin_in_cents` meets its contract: its test is the definition's. Assumes nothing.
+-- `lobes::peaks::closest_bin_in_cents` meets its contract: its test is the definition's. Assumes
+-- nothing.
 use borrow.Author.Needs.{needs}
 use Rattle.lobes.proofs.Closest.{chosen}
 use Rattle.lobes.proofs.peaks.closest_bin_in_cents.Statement.{statement}

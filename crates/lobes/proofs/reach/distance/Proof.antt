@@ -1,4 +1,5 @@
--- `lobes::reach::distance` meets its contract: its test says where the logarithms come from. Assumes nothing.
+-- `lobes::reach::distance` meets its contract: its test says where the logarithms come from.
+-- Assumes nothing.
 use mathlib.Core.Path.{_∙_}
 use borrow.Author.Needs.{needs}
 use Rattle.lobes.specs.Distance.{distance}

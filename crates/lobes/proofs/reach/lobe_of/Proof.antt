@@ -1,4 +1,5 @@
--- `lobes::reach::lobe_of` meets its contract, field by field. The peak bin is at most the last, so the table reaches it. Assumes nothing.
+-- `lobes::reach::lobe_of` meets its contract, field by field. The peak bin is at most the last, so
+-- the table reaches it. Assumes nothing.
 use mathlib.Core.Path.{sym, subst}
 use Prim.Native.Nat.{ℕ, _≤_}
 use native.Mathlib.Nat.{le-trans, lt-of-le-of-lt}

@@ -1,4 +1,5 @@
--- `lobes::tones::fundamental_of` meets its contract: it is the note's frequency at the voice's tuning. Assumes nothing.
+-- `lobes::tones::fundamental_of` meets its contract: it is the note's frequency at the voice's
+-- tuning. Assumes nothing.
 use borrow.Author.Needs.{needs}
 use Rattle.lobes.specs.Tone.{fundamentalOf}
 use Rattle.lobes.proofs.tones.fundamental_of.Statement.{statement}

@@ -1,4 +1,5 @@
--- `lobes::tones::harmonic_gain` meets its contract: the entry that it reads is the partial's logarithm. Assumes nothing.
+-- `lobes::tones::harmonic_gain` meets its contract: the entry that it reads is the partial's
+-- logarithm. Assumes nothing.
 use mathlib.Core.Path.{_∙_}
 use native.Mathlib.Omega.{arith}
 use borrow.Author.Needs.{needs}

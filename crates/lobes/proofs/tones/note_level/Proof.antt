@@ -1,4 +1,5 @@
--- `lobes::tones::note_level` meets its contract: its factors stand in the definition's order. Assumes nothing.
+-- `lobes::tones::note_level` meets its contract: its factors are in the definition's order.
+-- Assumes nothing.
 use borrow.Author.Needs.{needs}
 use Rattle.lobes.specs.Tone.{noteLevel}
 use Rattle.lobes.proofs.tones.note_level.Statement.{statement}

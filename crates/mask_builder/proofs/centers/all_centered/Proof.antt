@@ -1,4 +1,5 @@
--- `all_centered` meets its contract: the test of the voices from here on is the test of all. Assumes nothing.
+-- `all_centered` meets its contract: the test of the voices from here on is the test of all.
+-- Assumes nothing.
 use mathlib.Core.Path.{_≡_, refl, sym, _∙_}
 use mathlib.Core.Bool.{Bool}
 use Prim.Native.Nat.{ℕ, _≤_, _-_}

@@ -1,4 +1,5 @@
--- `width_position` is `widthPosition`: of a narrow width the clamp of 0 is 0, and of any other the steps are the definition's. Assumes nothing.
+-- `width_position` is `widthPosition`: of a narrow width the clamp of 0 is 0, and of any other the
+-- steps are the definition's. Assumes nothing.
 use borrow.Author.Needs.{needs}
 use lib.Ieee.{lt, ofBits}
 use Rattle.float32.specs.Order.{clamp}

@@ -1,4 +1,5 @@
--- `curve_point` is `curvePoint`: half of size / 2 is size / 4, and where size / 2 is 0 the quotient counts as 0. Assumes nothing.
+-- `curve_point` is `curvePoint`: half of size / 2 is size / 4, and where size / 2 is 0 the quotient
+-- counts as 0. Assumes nothing.
 use mathlib.Core.Path.{sym}
 use borrow.Author.Needs.{needs}
 use native.Mathlib.Omega.{arith}

@@ -1,4 +1,5 @@
--- `counted_values` replaces the first `count` entries: of those below k each is what it counts as. Assumes nothing.
+-- `counted_values` replaces the first `count` entries: each entry below k is what it counts as.
+-- Assumes nothing.
 use mathlib.Core.Logic.{inl}
 use Prim.Native.Nat.{_-_, _≤_}
 use native.Mathlib.Omega.{arith}

@@ -1,4 +1,5 @@
--- `curve_values` is either loop: where the step is not 0 the points by it are the points. Assumes nothing.
+-- `curve_values` is either loop: where the step is not 0 the points by it are the points. Assumes
+-- nothing.
 use mathlib.Core.Path.{_∙_}
 use native.Mathlib.Omega.{arith}
 use Rattle.masks.proofs.StagedCurve.{by-step}

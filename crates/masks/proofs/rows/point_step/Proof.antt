@@ -1,4 +1,5 @@
--- `point_step` is 0, or its product with the bins is the number of points, as its last test says. Assumes nothing.
+-- `point_step` is 0, or its product with the bins is the number of points, as its last test says.
+-- Assumes nothing.
 use mathlib.Core.Path.{refl}
 use mathlib.Core.Logic.{inl, inr}
 use Prim.Native.Nat.{_/_}

@@ -1,4 +1,5 @@
--- `values_by_quotient` replaces the first `count` entries: of those below k each is the curve value that its bin reads. Assumes nothing.
+-- `values_by_quotient` replaces the first `count` entries: each entry below k is the curve value
+-- that its bin reads. Assumes nothing.
 use mathlib.Core.Logic.{inl}
 use Prim.Native.Nat.{_+_, _-_, _≤_}
 use native.Mathlib.Omega.{arith}

@@ -1,4 +1,5 @@
--- `values_by_step` replaces the first `count` entries: of those below k each is the curve value at its product. Assumes nothing.
+-- `values_by_step` replaces the first `count` entries: each entry below k is the curve value at its
+-- product. Assumes nothing.
 use mathlib.Core.Logic.{inl}
 use Prim.Native.Nat.{_+_, _*_, _-_, _≤_, min}
 use native.Mathlib.Nat.{mul-le-mul}

@@ -1,4 +1,5 @@
--- `motion::field::attenuation_db` meets its contract: the definition with what its callees ensure put in. Assumes nothing.
+-- `motion::field::attenuation_db` meets its contract: the definition with what its callees ensure
+-- put in. Assumes nothing.
 use Rattle.motion.specs.Field.{attenuation}
 use borrow.Author.Needs.{needs}
 use Rattle.motion.proofs.field.attenuation_db.Statement.{statement}

@@ -1,4 +1,5 @@
--- `motion::field::openness` meets its contract: each test is one of the two resting states. Assumes nothing.
+-- `motion::field::openness` meets its contract: each test is one of the two resting states. Assumes
+-- nothing.
 use mathlib.Core.Path.{_∙_}
 use Rattle.motion.specs.Field.{openness}
 use borrow.Author.Needs.{needs}

@@ -1,4 +1,5 @@
--- `motion::field::shape_at` meets its contract: each arm calls the function that its shape names. Assumes nothing.
+-- `motion::field::shape_at` meets its contract: each arm calls the function that its shape names.
+-- Assumes nothing.
 use borrow.Author.Needs.{needs}
 use Rattle.motion.proofs.field.shape_at.Statement.{statement}
 use Rattle.motion.proofs.field.shape_at.Tie as tie

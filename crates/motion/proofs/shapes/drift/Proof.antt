@@ -1,4 +1,5 @@
--- `motion::shapes::drift` meets its contract: the three layers are what `sin` ensures of their angles. Assumes nothing.
+-- `motion::shapes::drift` meets its contract: the three layers are what `sin` ensures of their
+-- angles. Assumes nothing.
 use mathlib.Core.Path.{_∙_}
 use Rattle.motion.specs.Shapes.{drift, broad, middle, detail}
 use borrow.Author.Needs.{needs}

@@ -1,4 +1,5 @@
--- `motion::shapes::harmonic` meets its contract: the fifth power of what `ripple` ensures. Assumes nothing.
+-- `motion::shapes::harmonic` meets its contract: the fifth power of what `ripple` ensures. Assumes
+-- nothing.
 use mathlib.Core.Path.{_∙_}
 use Rattle.motion.specs.Shapes.{harmonic}
 use borrow.Author.Needs.{needs}

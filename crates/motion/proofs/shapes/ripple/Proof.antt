@@ -1,4 +1,5 @@
--- `motion::shapes::ripple` meets its contract: the definition with what `cos` and `clamp` ensure put in. Assumes nothing.
+-- `motion::shapes::ripple` meets its contract: the definition with what `cos` and `clamp` ensure
+-- put in. Assumes nothing.
 use mathlib.Core.Path.{_∙_}
 use Rattle.motion.specs.Shapes.{ripple}
 use borrow.Author.Needs.{needs}

@@ -1,4 +1,5 @@
--- `motion::shapes::saw` meets its contract: which of the two parts of the cycle it is, is what the test says. Assumes nothing.
+-- `motion::shapes::saw` meets its contract: which of the two parts of the cycle it is, is what the
+-- test says. Assumes nothing.
 use Rattle.motion.specs.Shapes.{saw, sawAt}
 use borrow.Author.Needs.{needs}
 use Rattle.motion.proofs.shapes.saw.Statement.{statement}

@@ -1,4 +1,5 @@
--- `motion::shapes::window` meets its contract: the exponential of what `window_exponent` ensures. Assumes nothing.
+-- `motion::shapes::window` meets its contract: the exponential of what `window_exponent` ensures.
+-- Assumes nothing.
 use mathlib.Core.Path.{_∙_}
 use Rattle.motion.specs.Shapes.{window}
 use borrow.Author.Needs.{needs}

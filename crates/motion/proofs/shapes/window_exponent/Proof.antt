@@ -1,4 +1,5 @@
--- `motion::shapes::window_exponent` meets its contract: each step is what its callee ensures. Assumes nothing.
+-- `motion::shapes::window_exponent` meets its contract: each step is what its callee ensures.
+-- Assumes nothing.
 use Rattle.motion.specs.Shapes.{wrapped}
 use borrow.Author.Needs.{needs}
 use Rattle.motion.proofs.shapes.window_exponent.Statement.{statement}

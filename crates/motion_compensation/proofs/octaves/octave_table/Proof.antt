@@ -1,4 +1,5 @@
--- `motion::octaves::octave_table` meets its contract: the code's entries are those of specs/Octaves.antt. Assumes nothing.
+-- `motion_compensation::octaves::octave_table` meets its contract: the code's entries are those of
+-- specs/Octaves.antt. Assumes nothing.
 use mathlib.Core.Path.{refl}
 use Rattle.motion_compensation.specs.Octaves.{octaveBits, octaveTable}
 use Rattle.motion_compensation.proofs.octaves.octave_table.Statement.{statement}

@@ -1,4 +1,5 @@
--- `angles` replaces the first `count` entries: of those below k each is the angle of its place. Assumes nothing.
+-- `angles` replaces the first `count` entries: each entry below k is the angle of its place.
+-- Assumes nothing.
 use mathlib.Core.Logic.{inl}
 use Prim.Native.Nat.{_-_, _≤_}
 use native.Mathlib.Omega.{arith}

@@ -1,4 +1,5 @@
--- `complements` replaces the first `count` entries: of those below k each is 1 less what it was. Assumes nothing.
+-- `complements` replaces the first `count` entries: each entry below k is 1 less what it was.
+-- Assumes nothing.
 use mathlib.Core.Logic.{inl}
 use Prim.Native.Nat.{_-_, _≤_}
 use native.Mathlib.Omega.{arith}

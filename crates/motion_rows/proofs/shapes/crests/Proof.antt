@@ -1,4 +1,5 @@
--- `crests` replaces the first `count` entries: of those below k each is moved to 0..1. Assumes nothing.
+-- `crests` replaces the first `count` entries: each entry below k is moved to 0..1. Assumes
+-- nothing.
 use mathlib.Core.Logic.{inl}
 use Prim.Native.Nat.{_-_, _≤_}
 use native.Mathlib.Omega.{arith}

@@ -1,4 +1,4 @@
--- `few_drifts` is the angles, their sines, and the waves joined. Assumes nothing.
+-- `few_drifts` is the angles, their sines, and the sum of the layers. Assumes nothing.
 use Prim.Native.Nat.{_+_}
 use lib.ListN.{getD}
 use lib.Ieee.{nan}

@@ -1,4 +1,5 @@
--- `fifth_powers` replaces the first `count` entries: of those below k each is its fifth power. Assumes nothing.
+-- `fifth_powers` replaces the first `count` entries: each entry below k is its fifth power.
+-- Assumes nothing.
 use mathlib.Core.Logic.{inl}
 use Prim.Native.Nat.{_-_, _≤_}
 use native.Mathlib.Omega.{arith}

@@ -1,4 +1,5 @@
--- `layer_angles` fills the first `count` entries of each layer: of those below k each is the angle at its place. Assumes nothing.
+-- `layer_angles` fills the first `count` entries of each layer: each entry below k is the angle at
+-- its place. Assumes nothing.
 use mathlib.Core.Logic.{inl}
 use Prim.Native.Nat.{_+_, _-_, _≤_}
 use native.Mathlib.Omega.{arith}

@@ -1,4 +1,5 @@
--- `layers` replaces `count` places from `start` on: of those below i each is the drift, which its waves joined are. Assumes nothing.
+-- `layers` replaces `count` places from `start` on: each entry below i is the drift, the sum of its
+-- layers. Assumes nothing.
 use mathlib.Core.Path.{_≡_, ap, _∙_}
 use mathlib.Core.Logic.{inl}
 use Prim.Native.Nat.{ℕ, _+_, _-_, _≤_}

@@ -1,4 +1,5 @@
--- `saws` replaces the first `count` entries: of those below k each is the saw at its place. Assumes nothing.
+-- `saws` replaces the first `count` entries: each entry below k is the saw at its place. Assumes
+-- nothing.
 use mathlib.Core.Logic.{inl}
 use Prim.Native.Nat.{_-_, _≤_}
 use native.Mathlib.Omega.{arith}

@@ -1,4 +1,5 @@
--- `shape_row` meets its contract: each arm calls the function that its shape names. Assumes nothing.
+-- `shape_row` meets its contract: each arm calls the function that its shape names. Assumes
+-- nothing.
 use borrow.Author.Needs.{needs}
 use Rattle.motion_rows.proofs.shapes.shape_row.Statement.{statement}
 use Rattle.motion_rows.proofs.shapes.shape_row.Tie as tie

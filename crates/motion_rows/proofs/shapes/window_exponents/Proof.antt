@@ -1,4 +1,5 @@
--- `window_exponents` replaces the first `count` entries: of those below k each is the exponent of its place. Assumes nothing.
+-- `window_exponents` replaces the first `count` entries: each entry below k is the exponent of its
+-- place. Assumes nothing.
 use mathlib.Core.Logic.{inl}
 use Prim.Native.Nat.{_-_, _≤_}
 use native.Mathlib.Omega.{arith}

@@ -1,4 +1,5 @@
--- `log10` meets its contract: it is the product of what `log2` ensures and the constant. Assumes nothing.
+-- `log10` meets its contract: it is the product of what `log2` ensures and the constant. Assumes
+-- nothing.
 use borrow.Author.Needs.{needs}
 use mathlib.Core.Path.{ap}
 use lib.Ieee.{Float, binary32, mul}

@@ -1,4 +1,5 @@
--- `exp2` meets its contract: the steps that it hands over are floor ((x + 128) * 2 ^ 24), whose high and low bits are N and F. Assumes nothing.
+-- `exp2` meets its contract: the steps that it hands over are floor ((x + 128) * 2 ^ 24), whose
+-- high and low bits are N and F. Assumes nothing.
 use mathlib.Core.Path.{_≡_, sym, ap, subst, _∙_}
 use mathlib.Core.Bool.{Bool, true, false, not, true≢false}
 use Prim.Native.Nat.{ℕ, _+_, _-_, _*_, _/_, _%_, _^_}

@@ -1,4 +1,5 @@
--- `power_of_steps` meets its contract: the high and low bits of y are N and F, from which the bits are made as proofs/Made.antt says. Assumes nothing.
+-- `power_of_steps` meets its contract: the high and low bits of y are N and F, from which the bits
+-- are made as proofs/Made.antt says. Assumes nothing.
 use native.Mathlib.Nat.{lt-of-le-of-lt}
 use lib.Bits.{and-le-r}
 use lib.Dec.{lit<}

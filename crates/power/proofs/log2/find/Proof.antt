@@ -1,4 +1,5 @@
--- `find` meets its contract: t lies in the step h, and there `place` gives the low bits. Assumes nothing.
+-- `find` meets its contract: t lies in the step h, and there `place` gives the low bits. Assumes
+-- nothing.
 use mathlib.Core.Path.{ap, _∙_, sym, subst}
 use Prim.Native.Nat.{ℕ, _+_, _*_, _%_, _^_, _<_}
 use borrow.Author.Needs.{needs}

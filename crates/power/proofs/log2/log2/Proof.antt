@@ -1,4 +1,5 @@
--- `log2` meets its contract: a v that passes both tests is positive and normal, and of any other the logarithm is 0 (proofs/LogMade.antt). Assumes nothing.
+-- `log2` meets its contract: a v that passes both tests is positive and normal, and of any other
+-- the logarithm is 0 (proofs/LogMade.antt). Assumes nothing.
 use lib.Dec.{T}
 use borrow.Author.Needs.{needs}
 use Rattle.power.specs.Log.{positiveNormal}

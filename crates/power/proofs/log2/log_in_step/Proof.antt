@@ -1,4 +1,5 @@
--- `log_in_step` meets its contract: proofs/LogParts.antt has the parts of v, and proofs/LogMade.antt what is made of them. Assumes nothing.
+-- `log_in_step` meets its contract: proofs/LogParts.antt has the parts of v, and
+-- proofs/LogMade.antt what is made of them. Assumes nothing.
 use mathlib.Core.Path.{_≡_, sym, subst, ap, _∙_}
 use mathlib.Core.Bool.{false}
 use Prim.Native.Nat.{ℕ, suc, _-_, _/_, _^_, _<_}

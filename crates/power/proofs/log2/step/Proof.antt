@@ -1,4 +1,5 @@
--- `step` meets its contract: it is the step that the digits lie in, which a u32 has room for. Assumes nothing.
+-- `step` meets its contract: it is the step that the digits lie in, which a u32 has room for.
+-- Assumes nothing.
 use mathlib.Core.Path.{_≡_, ap, _∙_}
 use Prim.Native.Nat.{ℕ, _^_}
 use native.Mathlib.Omega.{arith}

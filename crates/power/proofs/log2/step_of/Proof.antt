@@ -1,4 +1,5 @@
--- `step_of` meets its contract: proofs/Guess.antt says it of the guess and the test. Assumes nothing.
+-- `step_of` meets its contract: proofs/Guess.antt says it of the guess and the test. Assumes
+-- nothing.
 use mathlib.Core.Path.{ap, _∙_}
 use mathlib.Core.Bool.{Bool, true, false}
 use borrow.Author.Needs.{needs}

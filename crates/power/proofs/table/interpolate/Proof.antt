@@ -1,4 +1,5 @@
--- `interpolate` meets its contract: the two entries never fall and are at most 2 ^ 31, so nothing wraps, and the mask and the shift are the remainder and the quotient by 2 ^ lowBits.
+-- `interpolate` meets its contract: the two entries never fall and are at most 2 ^ 31, so nothing
+-- wraps, and the mask and the shift are the remainder and the quotient by 2 ^ lowBits.
 -- Assumes nothing.
 use borrow.Author.Needs.{needs}
 use Prim.Native.Nat.{_^_, _≤_}

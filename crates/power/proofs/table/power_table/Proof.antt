@@ -1,4 +1,5 @@
--- `power_table` meets its contract: the code's entries are those of specs/Table.antt. Assumes nothing.
+-- `power_table` meets its contract: the code's entries are those of specs/Table.antt. Assumes
+-- nothing.
 use mathlib.Core.Path.{refl}
 use Rattle.power.specs.Table.{powerTable}
 use Rattle.power.proofs.table.power_table.Statement.{statement}

@@ -1,4 +1,5 @@
--- `clip` fills the first `count` entries: of those below k each is what `clipped` ensures. Assumes nothing.
+-- `clip` fills the first `count` entries: each entry below k is what `clipped` ensures. Assumes
+-- nothing.
 use mathlib.Core.Logic.{inl}
 use Prim.Native.Nat.{_+_, _-_, _≤_}
 use native.Mathlib.Omega.{arith}

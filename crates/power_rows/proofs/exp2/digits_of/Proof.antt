@@ -1,4 +1,5 @@
--- `digits_of` is what `interpolate` ensures of the low digits, without its own 7 last. Assumes nothing.
+-- `digits_of` is what `interpolate` ensures of the 24 low bits, without its 7 last bits. Assumes
+-- nothing.
 use mathlib.Core.Path.{ap, _∙_}
 use Prim.Native.Nat.{ℕ, _/_}
 use native.Mathlib.Omega.{arith}

@@ -7,7 +7,7 @@ use borrow.Author.Needs.{needs}
 use Rattle.power_rows.proofs.exp2.few_powers.Statement.{statement}
 use Rattle.power_rows.proofs.exp2.few_powers.Tie as tie
 
--- there is room in what is lent
+-- the lent buffers have room
 rooms : (s : tie.Start) → (s .args .count ≤ length (s .args .inside .now)) × (s .args .count ≤ length (s .args .found .now)) × (s .args .count ≤ length (s .args .values .now))
 rooms s = (s .pre .2, s .pre .3, s .pre .4)
 

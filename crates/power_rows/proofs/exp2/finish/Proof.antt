@@ -1,4 +1,5 @@
--- `finish` replaces `count` numbers from `start` on: of those below i each is the power that `power_of` ensures. Assumes nothing.
+-- `finish` replaces `count` numbers from `start` on: each entry below i is the power that
+-- `power_of` ensures. Assumes nothing.
 use mathlib.Core.Path.{_≡_, sym, ap, subst, _∙_}
 use mathlib.Core.Logic.{inl}
 use Prim.Native.Nat.{ℕ, _+_, _-_, _≤_}

@@ -1,4 +1,5 @@
--- `power_of` meets its contract: beyond the ends by a test, and between them what was found is the power. Assumes nothing.
+-- `power_of` meets its contract: beyond the ends by a test, and between them what was found is the
+-- power. Assumes nothing.
 use mathlib.Core.Path.{_≡_, sym, subst, _∙_}
 use mathlib.Core.Bool.{Bool, true, false, not, true≢false}
 use lib.Dec.{T}

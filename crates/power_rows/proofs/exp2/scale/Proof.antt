@@ -1,4 +1,5 @@
--- `scale` replaces the first `count` entries: of those below k each is its product with the factor. Assumes nothing.
+-- `scale` replaces the first `count` entries: each entry below k is its product with the factor.
+-- Assumes nothing.
 use mathlib.Core.Path.{refl}
 use mathlib.Core.Logic.{inl}
 use Prim.Native.Nat.{_-_, _≤_}

@@ -1,4 +1,5 @@
--- `steps` fills the first `count` entries: of those below k each is what `steps_of` ensures. Assumes nothing.
+-- `steps` fills the first `count` entries: each entry below k is what `steps_of` ensures.
+-- Assumes nothing.
 use mathlib.Core.Logic.{inl}
 use Prim.Native.Nat.{_-_, _≤_}
 use native.Mathlib.Omega.{arith}

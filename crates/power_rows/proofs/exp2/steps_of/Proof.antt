@@ -1,4 +1,4 @@
--- `steps_of` takes away what `far_steps` moves x up by beyond 128. Assumes nothing.
+-- `steps_of` subtracts the excess over 128 that `far_steps` adds to x. Assumes nothing.
 use mathlib.Core.Path.{_≡_, sym, subst, _∙_}
 use Prim.Native.Nat.{_+_, _*_, _^_}
 use native.Mathlib.Omega.{arith}

@@ -1,4 +1,5 @@
--- `find_steps` fills the first `count` entries: of those below k each is the step of its own number. Assumes nothing.
+-- `find_steps` fills the first `count` entries: each entry below k is the step of its own number.
+-- Assumes nothing.
 use mathlib.Core.Logic.{inl}
 use Prim.Native.Nat.{_+_, _-_, _≤_}
 use native.Mathlib.Omega.{arith}

@@ -1,4 +1,5 @@
--- `log2_part` is its three stages, one after the other: what the first leaves has logarithms, and the second has found their steps (proofs/Ready.antt). Assumes nothing.
+-- `log2_part` is its three stages, one after the other: what the first leaves has logarithms, and
+-- the second has found their steps (proofs/Ready.antt). Assumes nothing.
 use mathlib.Core.Path.{ap, _∙_}
 use mathlib.Core.List.{List}
 use native.Mathlib.Omega.{arith}

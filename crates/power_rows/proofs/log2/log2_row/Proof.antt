@@ -1,4 +1,4 @@
--- `log2_row` meets its contract: of the numbers below `start` each is its logarithm. Assumes nothing.
+-- `log2_row` meets its contract: each number below `start` is its logarithm. Assumes nothing.
 use mathlib.Core.Path.{_≡_}
 use mathlib.Core.Logic.{inl}
 use Prim.Native.Nat.{_-_, _≤_}

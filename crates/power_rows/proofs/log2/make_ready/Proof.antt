@@ -1,4 +1,4 @@
--- `make_ready` replaces the entries from `start` on: of those below i each is ready. Assumes nothing.
+-- `make_ready` replaces the entries from `start` on: each entry below i is ready. Assumes nothing.
 use mathlib.Core.Logic.{inl}
 use Prim.Native.Nat.{_-_, _≤_}
 use native.Mathlib.Omega.{arith}

@@ -1,4 +1,5 @@
--- `ready` meets its contract: a v that passes both tests is positive and normal, and no other is (proofs/LogMade.antt). Assumes nothing.
+-- `ready` meets its contract: a v that passes both tests is positive and normal, and no other is
+-- (proofs/LogMade.antt). Assumes nothing.
 use mathlib.Core.Path.{refl}
 use lib.Ieee.Bits.{is-true}
 use Rattle.power.specs.Log.{positiveNormal}

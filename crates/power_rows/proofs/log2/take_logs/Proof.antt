@@ -1,4 +1,5 @@
--- `take_logs` replaces the entries from `start` on: of those below i each is its logarithm. Assumes nothing.
+-- `take_logs` replaces the entries from `start` on: each entry below i is its logarithm. Assumes
+-- nothing.
 use mathlib.Core.Logic.{inl}
 use Prim.Native.Nat.{_-_, _≤_}
 use native.Mathlib.Omega.{arith}

@@ -1,4 +1,5 @@
--- `sine::table::half_angle_cosines` meets its contract: the constant is K, entry by entry. Assumes nothing.
+-- `sine::table::half_angle_cosines` meets its contract: the constant is K, entry by entry. Assumes
+-- nothing.
 use mathlib.Core.Path.{refl}
 use Rattle.sine.specs.Table.{halfAngleCosines}
 use Rattle.sine.proofs.table.half_angle_cosines.Statement.{statement}

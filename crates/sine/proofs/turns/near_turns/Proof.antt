@@ -1,4 +1,5 @@
--- `near_turns` answers u where it is in range; beyond it the place is 0 (Places.antt), as is that of 0 turns. Assumes nothing.
+-- `near_turns` answers u where it is in range; beyond it the place is 0 (Places.antt), as is that
+-- of 0 turns. Assumes nothing.
 use mathlib.Core.Path.{refl, sym, subst, _∙_}
 use mathlib.Core.Bool.{not}
 use lib.Dec.{T}

@@ -1,4 +1,5 @@
--- `place_ahead` adds to the place that `near_turns` keeps, and the mask takes a whole turn away again. Assumes nothing.
+-- `place_ahead` adds to the place that `near_turns` keeps, and the mask takes a whole turn away
+-- again. Assumes nothing.
 use mathlib.Core.Path.{_≡_, ap, _∙_}
 use Prim.Native.Nat.{ℕ, _+_, _%_}
 use native.Mathlib.Omega.{arith}

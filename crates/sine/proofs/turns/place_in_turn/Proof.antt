@@ -1,4 +1,5 @@
--- `sine::turns::place_in_turn` meets its contract: the steps of u, masked, are its floor in units of 2 ^ -24 mod 2 ^ 24 (Places.antt). Assumes nothing.
+-- `sine::turns::place_in_turn` meets its contract: the steps of u, masked, are its floor in units
+-- of 2 ^ -24 mod 2 ^ 24 (Places.antt). Assumes nothing.
 use borrow.Author.Needs.{needs}
 use mathlib.Core.Path.{sym, ap, subst, _∙_}
 use mathlib.Core.Bool.{not}

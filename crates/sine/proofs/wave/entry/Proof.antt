@@ -1,4 +1,5 @@
--- `sine::wave::entry` meets its contract: the lent table is R, whose entries are at most 2 ^ 30 and so fit. Assumes nothing.
+-- `sine::wave::entry` meets its contract: the lent table is R, whose entries are at most 2 ^ 30 and
+-- so fit. Assumes nothing.
 use borrow.Author.Needs.{needs}
 use mathlib.Core.Path.{sym, subst, ap}
 use mathlib.Core.List.{List}

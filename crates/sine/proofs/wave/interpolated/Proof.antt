@@ -1,4 +1,6 @@
--- `sine::wave::interpolated` meets its contract: entries never fall, so the difference is a whole number, and product and sum fit 64 bits; at p = 2 ^ 22 the last entry is the answer. Assumes nothing.
+-- `sine::wave::interpolated` meets its contract: entries never fall, so the difference is a whole
+-- number, and product and sum fit 64 bits; at p = 2 ^ 22 the last entry is the answer. Assumes
+-- nothing.
 use borrow.Author.Needs.{needs}
 use Prim.Native.Nat.{ℕ, _≤_}
 use native.Mathlib.Omega.{arith}

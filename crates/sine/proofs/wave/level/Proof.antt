@@ -1,4 +1,5 @@
--- `sine::wave::level` meets its contract: w is at most 2 ^ 24, so it fits with either sign, which zero does not keep. Assumes nothing.
+-- `sine::wave::level` meets its contract: w is at most 2 ^ 24, so it fits with either sign, which
+-- zero does not keep. Assumes nothing.
 use mathlib.Core.Path.{_≡_, sym, ap, _∙_, subst}
 use mathlib.Core.Bool.{Bool}
 use Prim.Native.Nat.{ℕ}

@@ -1,4 +1,5 @@
--- `sine::wave::signed` meets its contract: the numbers are small, so that their bits say them. Assumes nothing.
+-- `sine::wave::signed` meets its contract: the numbers are small, so that their bits say them.
+-- Assumes nothing.
 use mathlib.Core.Path.{_≡_, sym, ap, _∙_, subst}
 use mathlib.Core.Bool.{Bool, true}
 use borrow.Author.Needs.{needs}

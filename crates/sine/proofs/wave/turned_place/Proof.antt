@@ -1,4 +1,5 @@
--- `sine::wave::turned_place` meets its contract: the masks are remainders, and the quarter is odd where its low bit is 1. Assumes nothing.
+-- `sine::wave::turned_place` meets its contract: the masks are remainders, and the quarter is odd
+-- where its low bit is 1. Assumes nothing.
 use native.Mathlib.Nat.{le-of-lt}
 use lib.Bits.{mask-lt}
 use Rattle.sine.proofs.Waves.{turned-odd, turned-even}

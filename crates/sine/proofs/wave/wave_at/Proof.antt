@@ -1,4 +1,5 @@
--- `sine::wave::wave_at` meets its contract: the value at the turned place is at most 2 ^ 24, and `level` gives it the sign of the quarter. Assumes nothing.
+-- `sine::wave::wave_at` meets its contract: the value at the turned place is at most 2 ^ 24, and
+-- `level` gives it the sign of the quarter. Assumes nothing.
 use mathlib.Core.Path.{_≡_, ap, _∙_, subst, sym}
 use Prim.Native.Nat.{ℕ, _/_, _≤_}
 use native.Mathlib.Omega.{arith}

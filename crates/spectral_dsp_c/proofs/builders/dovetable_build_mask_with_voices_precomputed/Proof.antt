@@ -1,5 +1,8 @@
--- `spectral_dsp_c::builders::dovetable_build_mask_with_voices_precomputed` meets its contract: a walk of its MIR, by hand. The slice of records goes to `gather`, and all the rest, with the array that it gives, to `tabled`.
--- What is lent to be written is given up to that call for good, at its own lifetime; the other slices are Copy, and one copy of each is kept for the exit. Assumes nothing.
+-- `spectral_dsp_c::builders::dovetable_build_mask_with_voices_precomputed` meets its contract: a
+-- walk of its MIR, by hand. The slice of records goes to `gather`, and all the rest, with the array
+-- that it gives, to `tabled`.
+-- What is lent to be written is given up to that call for good, at its own lifetime; the other
+-- slices are Copy, and one copy of each is kept for the exit. Assumes nothing.
 use mathlib.Core.Path.{_≡_, refl, _∙_, subst}
 use Prim.Native.Nat.{ℕ}
 use mathlib.Core.List.{List, [], _∷_}

@@ -1,4 +1,5 @@
--- `spectral_dsp_c::oiko::dovetable_note_frequency_with_tuning` gives what the open call answers. Assumes nothing.
+-- `spectral_dsp_c::oiko::dovetable_note_frequency_with_tuning` gives what the open call answers.
+-- Assumes nothing.
 use borrow.Author.Needs.{needs}
 use Rattle.crossing.proofs.Replies.{given-value}
 use Rattle.spectral_dsp_c.proofs.oiko.dovetable_note_frequency_with_tuning.Statement.{statement}

@@ -1,4 +1,5 @@
--- `spectral_dsp_c::processing::dovetable_build_dual_synthesis_window` gives what the call answers, and leaves the synthesis window as that leaves it. Assumes nothing.
+-- `spectral_dsp_c::processing::dovetable_build_dual_synthesis_window` gives what the call answers,
+-- and leaves the synthesis window as that leaves it. Assumes nothing.
 use borrow.Author.Needs.{needs}
 use Rattle.crossing.proofs.Replies.{given, left}
 use Rattle.spectral_dsp_c.proofs.processing.dovetable_build_dual_synthesis_window.Statement.{statement}

@@ -1,4 +1,5 @@
--- `spectral_dsp_c::processing::dovetable_prepared_spectrum_new` gives what the call answers, and leaves the block as that leaves it. Assumes nothing.
+-- `spectral_dsp_c::processing::dovetable_prepared_spectrum_new` gives what the call answers, and
+-- leaves the block as that leaves it. Assumes nothing.
 use borrow.Author.Needs.{needs}
 use Rattle.crossing.proofs.Replies.{given-values, left}
 use Rattle.spectral_dsp_c.proofs.processing.dovetable_prepared_spectrum_new.Statement.{statement}

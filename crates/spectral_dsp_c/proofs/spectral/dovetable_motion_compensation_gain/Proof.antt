@@ -1,4 +1,5 @@
--- `spectral_dsp_c::spectral::dovetable_motion_compensation_gain` gives what the open call answers for a shape of 0..7, and else refusal 2. Assumes nothing.
+-- `spectral_dsp_c::spectral::dovetable_motion_compensation_gain` gives what the open call answers
+-- for a shape of 0..7, otherwise refusal 2. Assumes nothing.
 use mathlib.Core.Path.{sym, ap, _∙_}
 use borrow.Author.Needs.{needs}
 use Rattle.number_calls.specs.Motion.{compensationReply}

@@ -1,4 +1,5 @@
--- `spectral_dsp_c::spectral::dovetable_note_gate_gain` gives what the open call answers. Assumes nothing.
+-- `spectral_dsp_c::spectral::dovetable_note_gate_gain` gives what the open call answers. Assumes
+-- nothing.
 use borrow.Author.Needs.{needs}
 use Rattle.crossing.proofs.Replies.{given-value}
 use Rattle.spectral_dsp_c.proofs.spectral.dovetable_note_gate_gain.Statement.{statement}

@@ -1,4 +1,5 @@
--- `spectral_dsp_c::spectral::dovetable_prepare` gives what the call answers, and leaves the table as that leaves it. Assumes nothing.
+-- `spectral_dsp_c::spectral::dovetable_prepare` gives what the call answers, and leaves the table
+-- as that leaves it. Assumes nothing.
 use borrow.Author.Needs.{needs}
 use Rattle.crossing.proofs.Replies.{given, left}
 use Rattle.spectral_dsp_c.proofs.spectral.dovetable_prepare.Statement.{statement}
