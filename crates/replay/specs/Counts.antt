@@ -1,4 +1,4 @@
--- What `slice::within` ensures. Assumes nothing.
+-- What `slice::length` ensures. Assumes nothing.
 use Prim.Native.Nat.{ℕ, _≤_}
 use mathlib.Core.Path.{_≡_}
 use mathlib.Core.List.{List}

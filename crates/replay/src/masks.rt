@@ -1,74 +1,23 @@
 // The lists `masks` and `mask_refusals`. A record is its call's number, the settings, the lengths
 // of the masks, the curve, and what else the call takes.
-ghost use Prim.Native.Nat.{_<_};
 use crate::list;
 use crate::settings;
 use crate::slice;
 use crate::text;
+use std::num::wrapping_add_usize;
 
 // What each entry of a mask holds before the call.
 const BEFORE: f32 = 7.0;
 
-// Only the stereo call has a second mask.
-fn right_count(call: u32, bytes: &[u8], at: usize) -> usize {
-    match call {
-        3 => list::count(bytes, at, 13),
-        _ => 0,
-    }
-}
-
-// The place of the curve's words in a record.
-fn curve_past(call: u32) -> usize {
-    match call {
-        3 => 14,
-        _ => 13,
-    }
-}
-
-// The place of the words of a bank of levels, or of a table, after its rate.
-fn table_past(call: u32) -> usize
-    ensures { λ r. ⌜ 0 < r ⌝ }
-{
-    match call {
-        0 => 21,
-        2 => 22,
-        _ => 23,
-    }
-}
-
-fn table_count(call: u32, bytes: &[u8], at: usize) -> usize {
-    match call {
-        1 => 0,
-        _ => list::count(bytes, at, table_past(call)),
-    }
-}
-
-// The place of the voices' words.
-fn voices_past(call: u32) -> usize
-    ensures { λ r. ⌜ r < 32 ⌝ }
-{
-    match call {
-        1 => 21,
-        2 => 30,
-        _ => 31,
-    }
-}
-
-// The number of words of a call's record.
-fn words_of(call: u32, bytes: &[u8], at: usize) -> usize {
-    match call {
-        0 => 29,
-        _ => voices_past(call) + settings::voice_words(bytes, at, voices_past(call)),
-    }
-}
-
-// Prepares the table where its rate is not 0, and puts its two values in once more.
-fn prepare(call: u32, bytes: &[u8], at: usize, table: &mut [f32]) {
-    let past = table_past(call);
-    let rate = list::float(bytes, at, past - 1);
+// A table is a rate and a slice. Where the rate is not 0, the table is prepared at it, and its two
+// values are put in once more.
+fn fill_table(bytes: &[u8], at: usize, past: usize, table: &mut [f32]) {
+    let first = wrapping_add_usize(at, past);
+    slice::fill(bytes, first, 1, table);
+    let rate = list::float(bytes, first, 0);
     if rate != 0.0 {
         spectral_dsp::MaskWorkspace::prepare(table, rate, list::count(bytes, at, 2));
-        slice::put_both(bytes, at, past, table);
+        slice::put_both(bytes, first, 1, table);
     }
 }
 
@@ -89,34 +38,68 @@ fn print_mask(mask: &[f32]) {
     }
 }
 
-fn print_build_mask(bytes: &[u8], at: usize, output: &mut [f32], curve: &[f32], levels: &[f32]) {
-    text::print(b"build_mask");
+fn print_build_mask_on(
+    bytes: &[u8],
+    at: usize,
+    output: &mut [f32],
+    curve: &mut [f32],
+    levels: &mut [f32],
+) {
+    slice::fill(bytes, at, 13, curve);
+    slice::fill(bytes, at, 21, levels);
     let config = settings::config_at(bytes, at, 1);
     text::print_outcome(spectral_dsp::build_mask(output, curve, levels, config));
     print_mask(output);
 }
 
-fn print_with_voices(bytes: &[u8], at: usize, output: &mut [f32], curve: &[f32]) {
-    text::print(b"build_mask_with_voices");
+// The longest slices of the lists have 8,194 entries.
+fn print_build_mask(bytes: &[u8], at: usize) {
+    text::print(b"build_mask");
+    let mut output = [BEFORE; 8194];
+    let mut curve = [0.0f32; 8194];
+    let mut levels = [0.0f32; 8194];
+    let n = slice::length(bytes, at, 12, &output);
+    let points = slice::length(bytes, at, 13, &curve);
+    let notes = slice::length(bytes, at, 21, &levels);
+    print_build_mask_on(
+        bytes,
+        at,
+        &mut output[..n],
+        &mut curve[..points],
+        &mut levels[..notes],
+    );
+}
+
+fn print_with_voices_on(bytes: &[u8], at: usize, output: &mut [f32], curve: &mut [f32]) {
+    slice::fill(bytes, at, 13, curve);
     let config = settings::config_at(bytes, at, 1);
-    let voices = settings::voices_at(bytes, at, voices_past(1));
-    let count = list::count(bytes, at, voices_past(1));
+    let count = list::count(bytes, at, 21);
+    let voices = settings::voices_at(bytes, at, 21);
     text::print_outcome(spectral_dsp::build_mask_with_voices(output, curve, voices, count, config));
     print_mask(output);
 }
 
-fn print_precomputed(
+fn print_with_voices(bytes: &[u8], at: usize) {
+    text::print(b"build_mask_with_voices");
+    let mut output = [BEFORE; 8194];
+    let mut curve = [0.0f32; 8194];
+    let n = slice::length(bytes, at, 12, &output);
+    let points = slice::length(bytes, at, 13, &curve);
+    print_with_voices_on(bytes, at, &mut output[..n], &mut curve[..points]);
+}
+
+fn print_precomputed_on(
     bytes: &[u8],
     at: usize,
     output: &mut [f32],
-    curve: &[f32],
+    curve: &mut [f32],
     table: &mut [f32],
 ) {
-    text::print(b"build_mask_with_voices_precomputed");
-    prepare(2, bytes, at, table);
+    slice::fill(bytes, at, 13, curve);
+    fill_table(bytes, at, 21, table);
     let config = settings::config_at(bytes, at, 1);
-    let voices = settings::voices_at(bytes, at, voices_past(2));
-    let count = list::count(bytes, at, voices_past(2));
+    let count = list::count(bytes, at, 30);
+    let voices = settings::voices_at(bytes, at, 30);
     text::print_outcome(spectral_dsp::build_mask_with_voices_precomputed(
         output,
         curve,
@@ -128,19 +111,36 @@ fn print_precomputed(
     print_mask(output);
 }
 
-fn print_stereo(
+fn print_precomputed(bytes: &[u8], at: usize) {
+    text::print(b"build_mask_with_voices_precomputed");
+    let mut output = [BEFORE; 8194];
+    let mut curve = [0.0f32; 8194];
+    let mut table = [0.0f32; 8194];
+    let n = slice::length(bytes, at, 12, &output);
+    let points = slice::length(bytes, at, 13, &curve);
+    let entries = slice::length(bytes, at, 22, &table);
+    print_precomputed_on(
+        bytes,
+        at,
+        &mut output[..n],
+        &mut curve[..points],
+        &mut table[..entries],
+    );
+}
+
+fn print_stereo_on(
     bytes: &[u8],
     at: usize,
     left: &mut [f32],
     right: &mut [f32],
-    curve: &[f32],
+    curve: &mut [f32],
     table: &mut [f32],
 ) {
-    text::print(b"build_stereo_masks_with_voices_precomputed");
-    prepare(3, bytes, at, table);
+    slice::fill(bytes, at, 14, curve);
+    fill_table(bytes, at, 22, table);
     let config = settings::config_at(bytes, at, 1);
-    let voices = settings::voices_at(bytes, at, voices_past(3));
-    let count = list::count(bytes, at, voices_past(3));
+    let count = list::count(bytes, at, 31);
+    let voices = settings::voices_at(bytes, at, 31);
     text::print_outcome(spectral_dsp::build_stereo_masks_with_voices_precomputed(
         left,
         right,
@@ -154,44 +154,17 @@ fn print_stereo(
     print_mask(right);
 }
 
-fn print_call_on(
-    call: u32,
-    bytes: &[u8],
-    at: usize,
-    left: &mut [f32],
-    right: &mut [f32],
-    curve: &mut [f32],
-    table: &mut [f32],
-) {
-    slice::fill(bytes, at, curve_past(call), curve);
-    slice::fill(bytes, at, table_past(call), table);
-    if call == 0 {
-        print_build_mask(bytes, at, left, curve, table);
-        return;
-    }
-    if call == 1 {
-        print_with_voices(bytes, at, left, curve);
-        return;
-    }
-    if call == 2 {
-        print_precomputed(bytes, at, left, curve, table);
-        return;
-    }
-    print_stereo(bytes, at, left, right, curve, table);
-}
-
-// The lists' longest slices have 8,194 entries.
-fn print_call(call: u32, bytes: &[u8], at: usize) {
+fn print_stereo(bytes: &[u8], at: usize) {
+    text::print(b"build_stereo_masks_with_voices_precomputed");
     let mut left = [BEFORE; 8194];
     let mut right = [BEFORE; 8194];
     let mut curve = [0.0f32; 8194];
     let mut table = [0.0f32; 8194];
-    let n = slice::within(list::count(bytes, at, 12), &left);
-    let m = slice::within(right_count(call, bytes, at), &right);
-    let points = slice::length(bytes, at, curve_past(call), &curve);
-    let entries = slice::within(table_count(call, bytes, at), &table);
-    print_call_on(
-        call,
+    let n = slice::length(bytes, at, 12, &left);
+    let m = slice::length(bytes, at, 13, &right);
+    let points = slice::length(bytes, at, 14, &curve);
+    let entries = slice::length(bytes, at, 23, &table);
+    print_stereo_on(
         bytes,
         at,
         &mut left[..n],
@@ -201,12 +174,29 @@ fn print_call(call: u32, bytes: &[u8], at: usize) {
     );
 }
 
+fn print_call(call: u32, bytes: &[u8], at: usize) {
+    match call {
+        0 => print_build_mask(bytes, at),
+        1 => print_with_voices(bytes, at),
+        2 => print_precomputed(bytes, at),
+        3 => print_stereo(bytes, at),
+        _ => text::print(b"no such call"),
+    }
+}
+
+// The number of words of a call's record: up to its voices, and theirs.
+fn words_of(call: u32, bytes: &[u8], at: usize) -> usize {
+    match call {
+        0 => 29,
+        1 => 21 + settings::voice_words(bytes, at, 21),
+        2 => 30 + settings::voice_words(bytes, at, 30),
+        3 => 31 + settings::voice_words(bytes, at, 31),
+        _ => 1,
+    }
+}
+
 pub fn print_record(bytes: &[u8], at: usize) -> usize {
     let call = list::word(bytes, at, 0);
-    if 3 < call {
-        text::print(b"no such call");
-        return 1;
-    }
     print_call(call, bytes, at);
     words_of(call, bytes, at)
 }

@@ -3,21 +3,15 @@ ghost use Rattle.replay.specs.Counts.{Counts};
 use crate::list;
 use std::num::wrapping_add_usize;
 
-// The count, or the length of the room where that is less.
-pub fn within(count: usize, room: &[f32]) -> usize
-    ensures { λ r. ⌜ Counts r (now (room .entry)) ⌝ }
-{
-    if count <= room.len() {
-        return count;
-    }
-    room.len()
-}
-
 // The slice's length, or that of the room for it where that is less.
 pub fn length(bytes: &[u8], at: usize, past: usize, room: &[f32]) -> usize
     ensures { λ r. ⌜ Counts r (now (room .entry)) ⌝ }
 {
-    within(list::count(bytes, at, past), room)
+    let n = list::count(bytes, at, past);
+    if n <= room.len() {
+        return n;
+    }
+    room.len()
 }
 
 // The generator's next state.
