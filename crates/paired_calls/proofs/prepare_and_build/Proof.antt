@@ -3,10 +3,10 @@
 use mathlib.Core.Path.{sym, subst}
 use lib.Dec.{T}
 use borrow.Author.Needs.{needs}
 use Rattle.prepared_law.specs.Calls.{newOf, stereoOf}
 use Rattle.prepared_law.proofs.TwoCalls.{block-left, built-by-block}
-use Rattle.prepared_law.proofs.prepare_and_build.Statement.{statement}
-use Rattle.prepared_law.proofs.prepare_and_build.Tie as tie
+use Rattle.paired_calls.proofs.prepare_and_build.Statement.{statement}
+use Rattle.paired_calls.proofs.prepare_and_build.Tie as tie
 
 new-requires : tie.Need-new-requires
 new-requires c κs = search needs

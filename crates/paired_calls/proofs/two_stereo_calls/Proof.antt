@@ -1,12 +1,12 @@
 -- `two_stereo_calls` meets its contract: the masks are those of the two calls, and the chord law
 -- holds of them. Assumes nothing.
 use lib.ListN.{length}
 use Rattle.chord_law.specs.Calls.{F32Call, callOf}
 use Rattle.mask_calls.proofs.Parameters.{voices-f32, settings-f32}
 use Rattle.chord_law.proofs.TwoCalls.{law-holds}
 use borrow.Author.Needs.{needs}
-use Rattle.chord_law.proofs.two_stereo_calls.Statement.{statement}
-use Rattle.chord_law.proofs.two_stereo_calls.Tie as tie
+use Rattle.paired_calls.proofs.two_stereo_calls.Statement.{statement}
+use Rattle.paired_calls.proofs.two_stereo_calls.Tie as tie
 
 build-stereo-masks-with-voices-precomputed-requires :
     tie.Need-build-stereo-masks-with-voices-precomputed-requires
