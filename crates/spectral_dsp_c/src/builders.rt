@@ -2,7 +2,7 @@
 // value, both with C's layout.
 ghost use mathlib.Core.Path.{_≡_};
 ghost use Prim.Native.Nat.{_*_};
-ghost use lib.ListN.{length, take, drop};
+ghost use lib.ListN.{length, drop};
 ghost use Rattle.answer.specs.Written.{written};
 ghost use Rattle.lobes.specs.Distance.{lent, none};
 ghost use Rattle.lobes.specs.Pan as side;
@@ -15,38 +15,7 @@ use crossing::answers::give_outcome;
 use crossing::settings::Settings;
 use crossing::settings::config_of;
 use crossing::settings::shape_refused;
-use limits::lengths::MOST_VOICES;
 use scene::MaskVoice;
-
-fn mono(
-    output: &mut [f32],
-    manual_mask_db: &[f32],
-    voices: [MaskVoice; MOST_VOICES],
-    count: usize,
-    settings: Settings,
-    place: &mut usize,
-) -> u32
-    ensures { λ r. ⌜ Given (withSettings settings (λ config. voicesMaskReply
-        (length (now (output .entry))) (now («manual_mask_db» .entry)) voices count config)) r
-        (now (place .entry)) (now (place .exit)) ⌝ }
-    ensures { λ _. ⌜ now (output .exit) ≡ written (withSettings settings (λ config. voicesMaskReply
-        (length (now (output .entry))) (now («manual_mask_db» .entry)) voices count config)) (maskOf
-        (now («manual_mask_db» .entry)) (configOf settings) none side.mono (take count voices))
-        (now (output .entry)) ⌝ }
-{
-    let config = config_of(settings);
-    if 7 < settings.motion_shape {
-        return give_outcome(shape_refused(config), place);
-    }
-    let outcome = spectral_dsp::build_mask_with_voices(
-        output,
-        manual_mask_db,
-        voices,
-        count,
-        config,
-    );
-    give_outcome(outcome, place)
-}
 
 #[no_mangle]
 pub extern "C" fn dovetable_build_mask_with_voices(
@@ -64,7 +33,7 @@ pub extern "C" fn dovetable_build_mask_with_voices(
         (length (now (voices .entry))) config)) (maskOf (now («manual_mask_db» .entry))
         (configOf settings) none side.mono (now (voices .entry))) (now (output .entry)) ⌝ }
 {
-    mono(
+    crossing_masks::mono(
         output,
         manual_mask_db,
         lent_voices::gather(voices),
@@ -72,38 +41,6 @@ pub extern "C" fn dovetable_build_mask_with_voices(
         settings,
         place,
     )
-}
-
-fn tabled(
-    output: &mut [f32],
-    manual_mask_db: &[f32],
-    voices: [MaskVoice; MOST_VOICES],
-    count: usize,
-    settings: Settings,
-    table: &[f32],
-    place: &mut usize,
-) -> u32
-    ensures { λ r. ⌜ Given (withSettings settings (λ config. tabledMaskReply
-        (length (now (output .entry))) (now («manual_mask_db» .entry)) voices count config
-        (now (table .entry)))) r (now (place .entry)) (now (place .exit)) ⌝ }
-    ensures { λ _. ⌜ now (output .exit) ≡ written (withSettings settings (λ config. tabledMaskReply
-        (length (now (output .entry))) (now («manual_mask_db» .entry)) voices count config
-        (now (table .entry)))) (maskOf (now («manual_mask_db» .entry)) (configOf settings)
-        (lent (now (table .entry))) side.mono (take count voices)) (now (output .entry)) ⌝ }
-{
-    let config = config_of(settings);
-    if 7 < settings.motion_shape {
-        return give_outcome(shape_refused(config), place);
-    }
-    let outcome = spectral_dsp::build_mask_with_voices_precomputed(
-        output,
-        manual_mask_db,
-        voices,
-        count,
-        config,
-        table,
-    );
-    give_outcome(outcome, place)
 }
 
 #[no_mangle]
@@ -125,7 +62,7 @@ pub extern "C" fn dovetable_build_mask_with_voices_precomputed(
         (now («manual_mask_db» .entry)) (configOf settings) (lent (now (table .entry))) side.mono
         (now (voices .entry))) (now (output .entry)) ⌝ }
 {
-    tabled(
+    crossing_masks::tabled(
         output,
         manual_mask_db,
         lent_voices::gather(voices),
@@ -134,46 +71,6 @@ pub extern "C" fn dovetable_build_mask_with_voices_precomputed(
         table,
         place,
     )
-}
-
-fn stereo(
-    left: &mut [f32],
-    right: &mut [f32],
-    manual_mask_db: &[f32],
-    voices: [MaskVoice; MOST_VOICES],
-    count: usize,
-    settings: Settings,
-    table: &[f32],
-    place: &mut usize,
-) -> u32
-    ensures { λ r. ⌜ Given (withSettings settings (λ config. stereoReply
-        (length (now (left .entry))) (length (now (right .entry))) (now («manual_mask_db» .entry))
-        voices count config (now (table .entry)))) r (now (place .entry)) (now (place .exit)) ⌝ }
-    ensures { λ _. ⌜ now (left .exit) ≡ written (withSettings settings (λ config. stereoReply
-        (length (now (left .entry))) (length (now (right .entry))) (now («manual_mask_db» .entry))
-        voices count config (now (table .entry)))) (maskOf (now («manual_mask_db» .entry))
-        (configOf settings) (lent (now (table .entry))) side.left (take count voices))
-        (now (left .entry)) ⌝ }
-    ensures { λ _. ⌜ now (right .exit) ≡ written (withSettings settings (λ config. stereoReply
-        (length (now (left .entry))) (length (now (right .entry))) (now («manual_mask_db» .entry))
-        voices count config (now (table .entry)))) (maskOf (now («manual_mask_db» .entry))
-        (configOf settings) (lent (now (table .entry))) side.right (take count voices))
-        (now (right .entry)) ⌝ }
-{
-    let config = config_of(settings);
-    if 7 < settings.motion_shape {
-        return give_outcome(shape_refused(config), place);
-    }
-    let outcome = spectral_dsp::build_stereo_masks_with_voices_precomputed(
-        left,
-        right,
-        manual_mask_db,
-        voices,
-        count,
-        config,
-        table,
-    );
-    give_outcome(outcome, place)
 }
 
 #[no_mangle]
@@ -201,7 +98,7 @@ pub extern "C" fn dovetable_build_stereo_masks_with_voices_precomputed(
         (now («manual_mask_db» .entry)) (configOf settings) (lent (now (table .entry))) side.right
         (now (voices .entry))) (now (right .entry)) ⌝ }
 {
-    stereo(
+    crossing_masks::stereo(
         left,
         right,
         manual_mask_db,
@@ -211,51 +108,6 @@ pub extern "C" fn dovetable_build_stereo_masks_with_voices_precomputed(
         table,
         place,
     )
-}
-
-// Uses the frequency table of a prepared spectrum, which begins after the four windows of its
-// block.
-fn prepared(
-    left: &mut [f32],
-    right: &mut [f32],
-    manual_mask_db: &[f32],
-    voices: [MaskVoice; MOST_VOICES],
-    count: usize,
-    settings: Settings,
-    block: &[f32],
-    place: &mut usize,
-) -> u32
-    ensures { λ r. ⌜ Given (withSettings settings (λ config. stereoReply
-        (length (now (left .entry))) (length (now (right .entry))) (now («manual_mask_db» .entry))
-        voices count config (drop (4 * config .«fft_size») (now (block .entry))))) r
-        (now (place .entry)) (now (place .exit)) ⌝ }
-    ensures { λ _. ⌜ now (left .exit) ≡ written (withSettings settings (λ config. stereoReply
-        (length (now (left .entry))) (length (now (right .entry))) (now («manual_mask_db» .entry))
-        voices count config (drop (4 * config .«fft_size») (now (block .entry))))) (maskOf
-        (now («manual_mask_db» .entry)) (configOf settings)
-        (lent (drop (4 * settings .«fft_size») (now (block .entry)))) side.left (take count voices))
-        (now (left .entry)) ⌝ }
-    ensures { λ _. ⌜ now (right .exit) ≡ written (withSettings settings (λ config. stereoReply
-        (length (now (left .entry))) (length (now (right .entry))) (now («manual_mask_db» .entry))
-        voices count config (drop (4 * config .«fft_size») (now (block .entry))))) (maskOf
-        (now («manual_mask_db» .entry)) (configOf settings)
-        (lent (drop (4 * settings .«fft_size») (now (block .entry)))) side.right
-        (take count voices)) (now (right .entry)) ⌝ }
-{
-    let config = config_of(settings);
-    if 7 < settings.motion_shape {
-        return give_outcome(shape_refused(config), place);
-    }
-    let outcome = spectral_dsp::build_stereo_masks_with_prepared_spectrum(
-        left,
-        right,
-        manual_mask_db,
-        voices,
-        count,
-        config,
-        block,
-    );
-    give_outcome(outcome, place)
 }
 
 #[no_mangle]
@@ -288,7 +140,7 @@ pub extern "C" fn dovetable_build_stereo_masks_with_prepared_spectrum(
         (lent (drop (4 * settings .«fft_size») (now (block .entry)))) side.right
         (now (voices .entry))) (now (right .entry)) ⌝ }
 {
-    prepared(
+    crossing_masks::prepared(
         left,
         right,
         manual_mask_db,
