@@ -1,5 +1,6 @@
 // The scene: C minor seventh, with the third on the left, the fifth on the right, and the seventh
 // near 7:4.
+use limits::lengths::MOST_VOICES;
 use scene::MaskConfig;
 use scene::MaskVoice;
 use scene::MotionConfig;
@@ -56,8 +57,8 @@ fn voice(note: u8, level: f32, tuning_semitones: f32, pan: f32) -> MaskVoice {
 }
 
 // The first four are the chord.
-pub fn voices() -> [MaskVoice; 128] {
-    let mut voices = [voice(0, 0.0, 0.0, 0.0); 128];
+pub fn voices() -> [MaskVoice; MOST_VOICES] {
+    let mut voices = [voice(0, 0.0, 0.0, 0.0); MOST_VOICES];
     voices[0] = voice(60, 1.0, 0.0, 0.0);
     voices[1] = voice(63, 0.75, 0.0, -1.0);
     voices[2] = voice(67, 0.875, 0.0, 1.0);

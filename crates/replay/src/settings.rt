@@ -1,6 +1,7 @@
 // Settings and voices, a word to each field.
 ghost use Prim.Native.Nat.{_≤_, _<_};
 use crate::list;
+use limits::lengths::MOST_VOICES;
 use scene::MaskConfig;
 use scene::MaskVoice;
 use scene::MotionConfig;
@@ -72,12 +73,12 @@ fn voice_of(bytes: &[u8], first: usize, number: usize) -> MaskVoice
     default_voice()
 }
 
-// The first 128 voices. A call with more is refused before it reads any.
-pub fn voices_at(bytes: &[u8], at: usize, past: usize) -> [MaskVoice; 128] {
+// The first voices, as many as a call takes. A call with more is refused before it reads any.
+pub fn voices_at(bytes: &[u8], at: usize, past: usize) -> [MaskVoice; MOST_VOICES] {
     let first = wrapping_add_usize(at, past);
-    let mut voices = [default_voice(); 128];
+    let mut voices = [default_voice(); MOST_VOICES];
     let mut number: usize = 0;
-    while number < 128 {
+    while number < MOST_VOICES {
         voices[number] = voice_of(bytes, first, number);
         number += 1;
     }

@@ -4,6 +4,8 @@ use crate::settings;
 use crate::slice;
 use crate::text;
 use answer::Envelopes;
+use limits::lengths::HELD_BYTES;
+use limits::lengths::MIDI_NOTES;
 use scene::MotionConfig;
 
 fn print_note_emphasis_gain(bytes: &[u8], at: usize) {
@@ -79,7 +81,7 @@ fn byte_of(word: u32, divisor: u32) -> u8 {
 }
 
 // The 16 bytes of four words.
-fn held_at(bytes: &[u8], at: usize) -> [u8; 16] {
+fn held_at(bytes: &[u8], at: usize) -> [u8; HELD_BYTES] {
     let a = list::word(bytes, at, 3);
     let b = list::word(bytes, at, 4);
     let c = list::word(bytes, at, 5);
@@ -113,7 +115,7 @@ fn print_envelopes(envelopes: Envelopes) {
 
 fn print_advance_note_envelopes(bytes: &[u8], at: usize) {
     text::print(b"advance_note_envelopes");
-    let mut levels = [0.0f32; 128];
+    let mut levels = [0.0f32; MIDI_NOTES];
     slice::fill(bytes, at, 7, &mut levels);
     print_envelopes(spectral_dsp::advance_note_envelopes(
         levels,
