@@ -61,7 +61,8 @@ pub fn config_of(settings: Settings) -> MaskConfig
 
 // A shape outside 0..7 is refusal 2, unless refusal 1 comes first.
 pub fn shape_refused(config: MaskConfig) -> Outcome
-    ensures { λ r. ⌜ ofOutcome r ≡ cond (sizeAccepted config) (refused SETTING 0) (refused SIZE-OR-RATE 0) ⌝ }
+    ensures { λ r. ⌜ ofOutcome r
+        ≡ cond (sizeAccepted config) (refused SETTING 0) (refused SIZE-OR-RATE 0) ⌝ }
 {
     if scene::size_accepted(config) {
         return Outcome::Refused(refusal::SETTING, 0);

@@ -2,7 +2,8 @@
 // an array has that length.
 ghost use mathlib.Core.Path.{_≡_};
 ghost use Prim.Native.Nat.{_≤_};
-ghost use Rattle.limits.specs.Lengths.{MOST-SIZE, bins, windowLength, gainsLength, blockLength};
+ghost use Rattle.limits.specs.Lengths.{MOST-SIZE, bins, windowLength, gainsLength};
+ghost use Rattle.limits.specs.Lengths.{blockLength};
 
 // A call takes at most this many voices.
 pub const MOST_VOICES: usize = 128;

@@ -1,7 +1,10 @@
 // Document 01's limits, ends included: one test for each, false of NaN. A limit's two ends are
 // constants.
 ghost use mathlib.Core.Path.{_≡_};
-ghost use Rattle.limits.specs.Limits.{decibels, frequency, noteDepth, width, rolloff, motionDepth, motionSize, elapsed, fade, rate, level, tuning, tableEntry, gain, note, partials, bin, size, overlap};
+ghost use Rattle.limits.specs.Limits.{decibels, frequency, noteDepth, width, rolloff};
+ghost use Rattle.limits.specs.Limits.{motionDepth, motionSize, elapsed, fade, rate, level};
+ghost use Rattle.limits.specs.Limits.{tuning, tableEntry, gain, note, partials, bin, size};
+ghost use Rattle.limits.specs.Limits.{overlap};
 use float32::order::in_range;
 
 pub mod lengths;

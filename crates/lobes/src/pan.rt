@@ -2,7 +2,8 @@
 // balance.
 ghost use mathlib.Core.Path.{_≡_};
 ghost use Rattle.sine.specs.Table.{sineTable};
-ghost use Rattle.lobes.specs.Pan.{mono, left, right, balance, panOf, expressionOf, channelGain};
+ghost use Rattle.lobes.specs.Pan.{mono, left, right, balance, panOf, expressionOf};
+ghost use Rattle.lobes.specs.Pan.{channelGain};
 use float32::constants::FRAC_PI_4;
 use float32::constants::SQRT_2;
 use float32::order::clamp;

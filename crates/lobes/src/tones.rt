@@ -3,7 +3,8 @@ ghost use mathlib.Core.Path.{_≡_};
 ghost use Prim.Native.Nat.{_^_, _≤_};
 ghost use Rattle.power.specs.Table.{powerTable};
 ghost use Rattle.limits.specs.Lengths.{MAX-PARTIALS};
-ghost use Rattle.lobes.specs.Tone.{pressureGain, noteLevel, timbreRolloff, fundamentalOf, toneOf, centerOf, partialOctaves, harmonicGain};
+ghost use Rattle.lobes.specs.Tone.{pressureGain, noteLevel, timbreRolloff, fundamentalOf};
+ghost use Rattle.lobes.specs.Tone.{toneOf, centerOf, partialOctaves, harmonicGain};
 use crate::Grid;
 use crate::Tone;
 use crate::grids::HALF;
@@ -78,7 +79,9 @@ pub fn harmonic_gain(
     rolloff: f32,
     partial: usize,
 ) -> f32
-    requires { ⌜ (now powers ≡ powerTable) × (now octaves ≡ partialOctaves) × (partial ≤ MAX-PARTIALS) ⌝ }
+    requires { ⌜ (now powers ≡ powerTable)
+        × (now octaves ≡ partialOctaves)
+        × (partial ≤ MAX-PARTIALS) ⌝ }
     ensures { λ r. ⌜ r ≡ harmonicGain rolloff partial ⌝ }
 {
     decibels::gain(powers, -rolloff * octaves[partial])

@@ -1,7 +1,8 @@
 // The gate of the note layer.
 ghost use mathlib.Core.Path.{_≡_};
 ghost use Rattle.power.specs.Table.{powerTable};
-ghost use Rattle.masks.specs.Gates.{widthPosition, emphasisGain, floorGain, gateGain, limitedGateGain};
+ghost use Rattle.masks.specs.Gates.{widthPosition, emphasisGain, floorGain, gateGain};
+ghost use Rattle.masks.specs.Gates.{limitedGateGain};
 use float32::order::clamp;
 use float32::order::max;
 use float32::powers::smoothstep;

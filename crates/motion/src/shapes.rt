@@ -4,7 +4,8 @@
 ghost use mathlib.Core.Path.{_≡_};
 ghost use Rattle.power.specs.Table.{powerTable};
 ghost use Rattle.sine.specs.Table.{sineTable};
-ghost use Rattle.motion.specs.Shapes.{ripple, harmonic, broadAngle, middleAngle, detailAngle, layered, drift, window, windowExponent, saw};
+ghost use Rattle.motion.specs.Shapes.{ripple, harmonic, broadAngle, middleAngle, detailAngle};
+ghost use Rattle.motion.specs.Shapes.{layered, drift, window, windowExponent, saw};
 use float32::constants::TAU;
 use float32::order::abs;
 use float32::order::clamp;

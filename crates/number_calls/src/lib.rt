@@ -4,7 +4,8 @@
 ghost use mathlib.Core.Path.{_≡_};
 ghost use Rattle.answer.specs.Reply.{ofAnswer};
 ghost use Rattle.number_calls.specs.Gates.{noteEmphasisGain, noteGateGain, manualGainAtBin};
-ghost use Rattle.number_calls.specs.Motion.{opennessReply, attenuationReply, compensationReply};
+ghost use Rattle.number_calls.specs.Motion.{opennessReply, attenuationReply};
+ghost use Rattle.number_calls.specs.Motion.{compensationReply};
 use answer::Answer;
 use answer::refusal;
 use limits::lengths::MANUAL_MASK_POINTS;

@@ -44,9 +44,8 @@ fn print_style() {
 
 fn print_words() {
     print(b"<text x='0' y='-680' style='font-size: 380px'>C minor seventh</text>\n");
-    print(
-        b"<text x='0' y='-270'>C4, E&#9837;4 on the left, G4 on the right, B&#9837;4 tuned down; 48 kHz, size 8,192</text>\n",
-    );
+    print(b"<text x='0' y='-270'>C4, E&#9837;4 on the left, G4 on the right, ");
+    print(b"B&#9837;4 tuned down; 48 kHz, size 8,192</text>\n");
     print(b"<path class='left' d='M7400 -770H7900'/><text x='8000' y='-680'>left</text>\n");
     print(b"<path class='right' d='M8800 -770H9300'/><text x='9400' y='-680'>right</text>\n");
     print(b"<text x='5000' y='6600' text-anchor='middle'>frequency</text>\n");

@@ -4,7 +4,8 @@ ghost use mathlib.Core.Bool.{_&&_};
 ghost use Prim.Native.Nat.{_≤_};
 ghost use lib.ListN.{replicate};
 ghost use Rattle.limits.specs.Lengths.{MOST-VOICES};
-ghost use Rattle.scene.specs.Accepted.{motionAccepted, sizeAccepted, settingsAccepted, voiceAccepted, firstVoiceOutside};
+ghost use Rattle.scene.specs.Accepted.{motionAccepted, sizeAccepted, settingsAccepted};
+ghost use Rattle.scene.specs.Accepted.{voiceAccepted, firstVoiceOutside};
 ghost use Rattle.scene.specs.Made.{shapeOf, silentVoice};
 use limits::lengths::MOST_VOICES;
 

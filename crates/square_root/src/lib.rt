@@ -8,7 +8,8 @@
 ghost use mathlib.Core.Path.{_≡_};
 ghost use Prim.Native.Nat.{_*_, _^_, _<_, _≤_};
 ghost use lib.Ieee.{binary32};
-ghost use Rattle.square_root.specs.Root.{IsRoot, IsNearestRoot, ByFours, nearestRoot, squareRoot};
+ghost use Rattle.square_root.specs.Root.{IsRoot, IsNearestRoot, ByFours, nearestRoot};
+ghost use Rattle.square_root.specs.Root.{squareRoot};
 
 // digits * 4^fours
 struct EvenPower {
