@@ -25,7 +25,8 @@ pub const MOST_SIZE: usize = 16384;
 // The bins of the largest size are 0..8,192.
 pub const MOST_BIN: usize = 8192;
 
-// The points of a drawn curve, as many as the largest size has bins.
+// A drawn curve has one point for every bin of the largest size. Smaller sizes land on exact
+// subsets of these points.
 pub const MANUAL_MASK_POINTS: usize = 8193;
 
 // The last point of a drawn curve.
