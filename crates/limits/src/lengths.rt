@@ -20,8 +20,6 @@ pub const MAX_PARTIALS: usize = 24;
 
 pub const MOST_OVERLAP: usize = 16;
 
-pub const MOST_SIZE: usize = 16384;
-
 // The bins of the largest size are 0..8,192.
 pub const MOST_BIN: usize = 8192;
 
