@@ -1,6 +1,6 @@
 -- What all lobes of a mask share: the bin spacing, and how far a lobe reaches. The Rust's
 -- `build_mask_with_voices_impl` computes it first. Assumes nothing.
-use Prim.Native.Nat.{ℕ, _/_, min, max}
+use Prim.Native.Nat.{_/_, min, max}
 use lib.Ieee.{Float, binary32, ofBits, neg, mul, div}
 use Rattle.float32.specs.Order.{maximum}
 use Rattle.float32.specs.Remainder.{one, half}

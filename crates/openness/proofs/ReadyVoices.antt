@@ -37,12 +37,12 @@ voice-gain : (side : Side) (voice : MaskVoice) → RealVoice voice → Upto bina
 voice-gain side voice u =
     channel-gain-rises side voice voice u u refl (le-refl-f binary32 (voice .«expression_gain») (real-number binary32 (voice .«expression_gain») (u .expression-real))) .from
 
-pub tone-ready : (grid : Grid) (table : List Float) (voice : MaskVoice) (left right : Side) {tone : Tone} {gains : Gains} → RealGrid grid → RealVoice voice → tone ≡ toneOf grid voice → gains .first ≡ channelGain left voice
-    → gains .second ≡ channelGain right voice → ToneReady grid tone gains table
-tone-ready grid table voice left right g u t a b =
+pub tone-ready : (grid : Grid) (table : List Float) (voice : MaskVoice) (one two : Side) {tone : Tone} {gains : Gains} → RealGrid grid → RealVoice voice → tone ≡ toneOf grid voice → gains .first ≡ channelGain one voice
+    → gains .second ≡ channelGain two voice → ToneReady grid tone gains table
+tone-ready grid table voice one two g u t a b =
     record {
       sound = subst (SoundTone grid table) (sym t) (λ lobes n e w. sound-lobes grid (lent table) voice (g .width-real) (g .width-above) (g .rolloff-real) (g .few) u lobes n e w);
-      gains = record { first-gain = subst (Upto binary32 3) (sym a) (voice-gain left voice u); second-gain = subst (Upto binary32 3) (sym b) (voice-gain right voice u) };
+      gains = record { first-gain = subst (Upto binary32 3) (sym a) (voice-gain one voice u); second-gain = subst (Upto binary32 3) (sym b) (voice-gain two voice u) };
     }
 
 fair : (grid : Grid) → RealGrid grid → Fair grid
