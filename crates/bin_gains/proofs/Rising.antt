@@ -14,6 +14,7 @@ use Rattle.float_laws.specs.Power.{power, mag-power, real-power}
 use Rattle.float_laws.specs.Rise.{Upto, Rise, upto-level, upto-weaken, rise-refl, rise-weaken, rise-mul, rise-add}
 use Rattle.float32.specs.Remainder.{one}
 use Rattle.scene.specs.declared.MaskConfig.{MaskConfig}
+use Rattle.scene.proofs.SettingsNumbers.{RealSettings}
 use Rattle.masks.specs.Gates.{emphasisGain, floorGain}
 use Rattle.masks.specs.Manual.{curvePoint, curveGain, manualGain}
 use Rattle.masks.proofs.Curve.{curve-gain-in-unit, curve-gain-never-falls}
@@ -21,12 +22,6 @@ use Rattle.masks.proofs.Emphasis.{floor-real, floor-nonneg, floor-at-most-one, 
 use Rattle.motion.specs.Field.{RESTING-DEPTH-DB}
 use Rattle.motion_compensation.proofs.Compensated.{compensated-gain-upto}
 use Rattle.bin_gains.specs.Gains.{motionAt, gateAt}
-
--- the settings, as far as these laws ask for them
-pub record RealSettings (config : MaskConfig) : Type 0 where
-  pub note-depth : T (fits binary32 (config .«note_depth_db»))
-  pub rolloff : T (real binary32 (config .«harmonic_rolloff_db_per_octave»))
-  pub motion-depth : T (real binary32 (config .motion .«depth_db»))
 
 unity : Upto binary32 0 one
 unfolding ofBits fits le mag

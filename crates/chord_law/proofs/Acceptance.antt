@@ -1,4 +1,4 @@
--- What an accepted call is given: what `mask_calls` knows of a scene that is built, said of a call.
+-- What an accepted call is given: what `refusals` knows of a scene that is built, said of a call.
 -- Assumes nothing.
 use mathlib.Core.Path.{_≡_}
 use Prim.Native.Nat.{ℕ, _<_}
@@ -11,7 +11,7 @@ use Rattle.limits.specs.Lengths.{MANUAL-MASK-POINTS}
 use Rattle.scene.specs.Accepted.{noVoice, sizeAccepted, settingsAccepted}
 use Rattle.scene.specs.Voices.{RealVoice}
 use Rattle.refusals.proofs.MaskAccepted.{Done, is-done, stereo-accepted, stereo-settings}
-use Rattle.mask_calls.proofs.RealScene.{RealScene, RealTable, stereo-scene, stereo-table}
+use Rattle.refusals.proofs.RealScene.{RealScene, RealTable, stereo-scene, stereo-table}
 use Rattle.refusals.specs.Masks.{bins}
 use Rattle.chord_law.specs.Calls.{Call, Accepted, replyTo, given, whole, F32Call}
 

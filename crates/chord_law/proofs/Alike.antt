@@ -24,8 +24,8 @@ use Rattle.mask_builder.proofs.ZeroSigns.{SameConfig}
 use Rattle.chord_law.specs.Calls.{Call, Accepted, whole, F32Call}
 use Rattle.chord_law.specs.Voices.{NoLower, Matched}
 use Rattle.chord_law.specs.Settings.{SameSettings, SameEntries}
-use Rattle.mask_calls.specs.F32.{F32Settings}
-use Rattle.mask_calls.proofs.SettingsNumbers as numbers
+use Rattle.scene.specs.F32.{F32Settings}
+use Rattle.scene.proofs.SettingsNumbers as numbers
 use Rattle.chord_law.proofs.Acceptance.{table-length, entry-number}
 
 -- ---- equal numbers that are at least a number above 0 are the same

@@ -39,7 +39,7 @@ use Rattle.chord_law.specs.Premises.{Comparable, Beneath}
 use Rattle.chord_law.specs.Law.{ChordLaw}
 use Rattle.chord_law.proofs.Acceptance.{size-accepted, settings-accepted, curve-length}
 use Rattle.chord_law.proofs.Acceptance.{given-real, all-real}
-use Rattle.mask_calls.proofs.SettingsNumbers as numbers
+use Rattle.scene.proofs.SettingsNumbers as numbers
 use Rattle.chord_law.proofs.Alike.{same-config, same-table, matched-raised}
 use Rattle.chord_law.proofs.Turned.{turned}
 

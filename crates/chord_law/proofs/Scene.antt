@@ -24,7 +24,7 @@ use Rattle.scene.specs.Accepted.{noVoice, sizeAccepted, settingsAccepted}
 use Rattle.scene.specs.Accepted.{motionAccepted, voiceAccepted}
 use Rattle.float32.specs.Remainder.{half}
 use Rattle.refusals.specs.Masks.{settingsReply, voicesReply, tableReply, stereoReply}
-use Rattle.mask_calls.specs.F32.{F32Voice, F32Settings}
+use Rattle.scene.specs.F32.{F32Voice, F32Settings}
 use Rattle.chord_law.specs.Calls.{Call, F32Call, Accepted, whole}
 use Rattle.chord_law.specs.Settings.{SameSettings}
 use Rattle.chord_law.specs.Curves.{NoNan, NowhereAbove}

@@ -13,8 +13,8 @@ use Rattle.chord_law.specs.Calls.{Call, whole, F32Call}
 use Rattle.chord_law.specs.Settings.{SameSettings, SameEntries}
 use Rattle.chord_law.specs.Premises.{Comparable}
 use Rattle.chord_law.proofs.Acceptance.{size-accepted, settings-accepted, entry-number}
-use Rattle.mask_calls.specs.F32.{F32Settings}
-use Rattle.mask_calls.proofs.SettingsNumbers as numbers
+use Rattle.scene.specs.F32.{F32Settings}
+use Rattle.scene.proofs.SettingsNumbers as numbers
 use Rattle.chord_law.proofs.Alike.{same-lengths}
 
 settings-turned :

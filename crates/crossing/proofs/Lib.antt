@@ -1,4 +1,3 @@
-pub mod Banks
 pub mod Configs
 pub mod Replies
 pub mod Shapes

@@ -38,7 +38,7 @@ pub fn mono(
     if 7 < settings.motion_shape {
         return give_outcome(shape_refused(config), place);
     }
-    let outcome = mask_calls::build_mask_with_voices(output, manual_mask_db, voices, count, config);
+    let outcome = mono_calls::build_mask_with_voices(output, manual_mask_db, voices, count, config);
     give_outcome(outcome, place)
 }
 
@@ -64,7 +64,7 @@ pub fn tabled(
     if 7 < settings.motion_shape {
         return give_outcome(shape_refused(config), place);
     }
-    let outcome = mask_calls::build_mask_with_voices_precomputed(
+    let outcome = mono_calls::build_mask_with_voices_precomputed(
         output,
         manual_mask_db,
         voices,

@@ -1,4 +1,2 @@
 pub mod Advanced
 pub mod Prepared
-pub mod Processing
-pub mod DualWindow

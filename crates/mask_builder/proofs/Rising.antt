@@ -15,9 +15,10 @@ use Rattle.scene.specs.declared.MaskVoice.{MaskVoice}
 use Rattle.scene.specs.declared.MaskConfig.{MaskConfig}
 use Rattle.scene.specs.Accepted.{noVoice}
 use Rattle.scene.specs.Voices.{RealVoice}
+use Rattle.scene.proofs.SettingsNumbers.{RealSettings}
 use Rattle.masks.specs.Manual.{manualGain}
 use Rattle.bin_gains.specs.Gains.{ceilingAt}
-use Rattle.bin_gains.proofs.Rising.{RealSettings, motion-upto, gate-rises}
+use Rattle.bin_gains.proofs.Rising.{motion-upto, gate-rises}
 use Rattle.lobes.specs.Grid.{gridOf}
 use Rattle.lobes.specs.Pan.{Side}
 use Rattle.lobes.specs.Distance.{lent}

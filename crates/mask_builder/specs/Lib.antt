@@ -1,3 +1,2 @@
 pub mod Mask
 pub mod Centered
-pub mod Levels

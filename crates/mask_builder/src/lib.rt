@@ -1,7 +1,6 @@
 // The real, non-negative gain masks for an RFFT spectrum: the gain of every bin. Nothing is
 // allocated, so the audio thread may call this.
 pub mod centers;
-pub mod levels;
 
 ghost use mathlib.Core.Path.{_≡_};
 ghost use mathlib.Core.Bool.{true};

@@ -1,15 +1,12 @@
-// The open calls that answer a number: each tests what it is given, in the order of document 01's
-// numbers, and then makes one call of the core. `spectral_dsp` passes them on under the Rust's
-// paths.
+// The open calls that answer a gain of the gate or of the drawn curve: each tests what it is given,
+// in the order of document 01's numbers, and then makes one call of the core. `spectral_dsp` passes
+// them on under the Rust's paths; those on the moving field are in `motion_calls`.
 ghost use mathlib.Core.Path.{_≡_};
 ghost use Rattle.answer.specs.Reply.{ofAnswer};
 ghost use Rattle.number_calls.specs.Gates.{noteEmphasisGain, noteGateGain, manualGainAtBin};
-ghost use Rattle.number_calls.specs.Motion.{opennessReply, attenuationReply};
-ghost use Rattle.number_calls.specs.Motion.{compensationReply};
 use answer::Answer;
 use answer::refusal;
 use limits::lengths::MANUAL_MASK_POINTS;
-use scene::MotionConfig;
 
 // The lift of a fully open note centre: 6 dB for a narrow note, none for the widest.
 pub fn note_emphasis_gain(width_cents: f32) -> Answer
@@ -55,47 +52,4 @@ pub fn manual_gain_at_bin(mask_db: &[f32], bin: usize, fft_size: usize) -> Answe
     }
     let powers = power::table::power_table();
     Answer::Gain(masks::manual::manual_gain(&powers, mask_db, bin, fft_size))
-}
-
-// How open the moving field is at a frequency: 1 is the crest, and 0 receives the whole
-// attenuation.
-pub fn motion_openness(frequency: f32, config: MotionConfig) -> Answer
-    ensures { λ r. ⌜ ofAnswer r ≡ opennessReply frequency config ⌝ }
-{
-    if !limits::frequency(frequency) {
-        return Answer::Refused(refusal::SETTING, 0);
-    }
-    if !scene::motion_accepted(config) {
-        return Answer::Refused(refusal::SETTING, 0);
-    }
-    let powers = power::table::power_table();
-    let sines = sine::table::sine_table();
-    Answer::Gain(motion::field::openness(&powers, &sines, frequency, config))
-}
-
-// The moving field's attenuation at a frequency, in decibels.
-pub fn motion_attenuation_db(frequency: f32, config: MotionConfig) -> Answer
-    ensures { λ r. ⌜ ofAnswer r ≡ attenuationReply frequency config ⌝ }
-{
-    if !limits::frequency(frequency) {
-        return Answer::Refused(refusal::SETTING, 0);
-    }
-    if !scene::motion_accepted(config) {
-        return Answer::Refused(refusal::SETTING, 0);
-    }
-    let powers = power::table::power_table();
-    let sines = sine::table::sine_table();
-    Answer::Gain(motion::field::attenuation_db(&powers, &sines, frequency, config))
-}
-
-// The gain that makes up for the moving field, over the whole spectrum.
-pub fn motion_compensation_gain(config: MotionConfig) -> Answer
-    ensures { λ r. ⌜ ofAnswer r ≡ compensationReply config ⌝ }
-{
-    if !scene::motion_accepted(config) {
-        return Answer::Refused(refusal::SETTING, 0);
-    }
-    let powers = power::table::power_table();
-    let sines = sine::table::sine_table();
-    Answer::Gain(motion_compensation::compensation_gain(&powers, &sines, config))
 }

@@ -10,9 +10,9 @@ ghost use Rattle.chord_law.specs.Law.{LawHolds};
 use answer::Outcome;
 use answer::Prepared;
 use limits::lengths::MOST_VOICES;
-use list_calls::PreparedSpectrum;
 use mask_calls::build_stereo_masks_with_prepared_spectrum;
 use mask_calls::build_stereo_masks_with_voices_precomputed;
+use processing_calls::PreparedSpectrum;
 use scene::MaskConfig;
 use scene::MaskVoice;
 

@@ -26,7 +26,7 @@ use Rattle.prepared_spectrum.specs.Block.{logarithms, blockOf}
 use Rattle.refusals.specs.Masks.{entryAccepted, tableReply}
 use Rattle.refusals.proofs.MaskAccepted.{Done, is-done}
 use Rattle.list_calls.specs.Prepared.{prepareReply}
-use Rattle.list_calls.specs.Processing.{preparedReply}
+use Rattle.processing_calls.specs.Processing.{preparedReply}
 use Rattle.prepared_law.specs.Calls.{NewCall, sizeOf, newReply, blockAfter, tableIn}
 use Rattle.prepared_law.specs.Calls.{tableAfter, onTable}
 use Rattle.prepared_law.specs.Law.{TableFor, BlockIsPrepared, PreparedLaw}

@@ -18,7 +18,7 @@ use Rattle.mask_builder.specs.Mask.{maskOf}
 use Rattle.prepared_spectrum.specs.Block.{blockOf}
 use Rattle.refusals.specs.Masks.{stereoReply}
 use Rattle.list_calls.specs.Prepared.{prepareReply}
-use Rattle.list_calls.specs.Processing.{preparedReply}
+use Rattle.processing_calls.specs.Processing.{preparedReply}
 
 -- ---- `PreparedSpectrum::new`; the block is as it was before the call
 pub record NewCall : Type 0 where

@@ -1,2 +1,5 @@
 pub mod Tests
 pub mod MaskAccepted
+pub mod MaskAnswers
+pub mod Parameters
+pub mod RealScene

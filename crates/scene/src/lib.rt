@@ -1,4 +1,6 @@
 // Voices and settings as plain values, and which of them are accepted.
+pub mod levels;
+
 ghost use mathlib.Core.Path.{_≡_};
 ghost use mathlib.Core.Bool.{_&&_};
 ghost use Prim.Native.Nat.{_≤_};

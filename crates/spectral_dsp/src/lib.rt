@@ -1,18 +1,17 @@
 // The open calls of spectral-dsp, under the Rust's names and paths. Each is defined, with its
-// contract, its tests and its one call of the core, in `number_calls`, `list_calls` or
-// `mask_calls`.
+// contract, its tests and its one call of the core, in the crate of its kind.
 pub mod processing;
 
 pub use list_calls::MaskWorkspace;
 pub use list_calls::advance_note_envelopes;
-pub use mask_calls::build_mask;
-pub use mask_calls::build_mask_with_voices;
-pub use mask_calls::build_mask_with_voices_precomputed;
 pub use mask_calls::build_stereo_masks_with_prepared_spectrum;
 pub use mask_calls::build_stereo_masks_with_voices_precomputed;
+pub use mono_calls::build_mask;
+pub use mono_calls::build_mask_with_voices;
+pub use mono_calls::build_mask_with_voices_precomputed;
+pub use motion_calls::motion_attenuation_db;
+pub use motion_calls::motion_compensation_gain;
+pub use motion_calls::motion_openness;
 pub use number_calls::manual_gain_at_bin;
-pub use number_calls::motion_attenuation_db;
-pub use number_calls::motion_compensation_gain;
-pub use number_calls::motion_openness;
 pub use number_calls::note_emphasis_gain;
 pub use number_calls::note_gate_gain;

@@ -6,7 +6,7 @@ ghost use lib.ListN.{length, drop};
 ghost use Rattle.answer.specs.Written.{written};
 ghost use Rattle.lobes.specs.Distance.{lent, none};
 ghost use Rattle.lobes.specs.Pan as side;
-ghost use Rattle.mask_builder.specs.Levels.{voicesOf};
+ghost use Rattle.scene.specs.Levels.{voicesOf};
 ghost use Rattle.mask_builder.specs.Mask.{maskOf};
 ghost use Rattle.refusals.specs.Masks.{maskReply, voicesMaskReply, tabledMaskReply, stereoReply};
 ghost use Rattle.crossing.specs.Given.{Given};

@@ -5,7 +5,7 @@ ghost use Rattle.answer.specs.Written.{written};
 ghost use Rattle.windows.specs.Windows.{dualOf};
 ghost use Rattle.smoothing.specs.Smoothing.{softenedOf, smoothedOf};
 ghost use Rattle.prepared_spectrum.specs.Block.{blockOf};
-ghost use Rattle.list_calls.specs.Processing.{dualReply, softenReply, smoothReply, preparedReply};
+ghost use Rattle.processing_calls.specs.Processing.{dualReply, softenReply, smoothReply, preparedReply};
 ghost use Rattle.crossing.specs.Given.{Given, GivenValues};
 use crossing::answers::give_outcome;
 use crossing::answers::give_prepared;

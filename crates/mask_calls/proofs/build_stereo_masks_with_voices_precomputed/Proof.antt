@@ -3,10 +3,11 @@
 use mathlib.Core.Path.{refl, sym, ap, _∙_}
 use lib.ListN.{length}
 use Rattle.answer.specs.Reply.{ofOutcome}
+use Rattle.mask_builder.proofs.SoundScenes.{sound-scene}
 use Rattle.refusals.proofs.MaskAccepted.{is-done, stereo-accepted}
-use Rattle.mask_calls.proofs.MaskAnswers.{stereo-answer}
-use Rattle.mask_calls.proofs.Parameters.{voices-f32, settings-f32}
-use Rattle.mask_calls.proofs.RealScene.{stereo-scene, stereo-table, sound-scene}
+use Rattle.refusals.proofs.MaskAnswers.{stereo-answer}
+use Rattle.refusals.proofs.Parameters.{voices-f32, settings-f32}
+use Rattle.refusals.proofs.RealScene.{stereo-scene, stereo-table}
 use borrow.Author.Needs.{needs}
 use Rattle.mask_calls.proofs.build_stereo_masks_with_voices_precomputed.Statement.{
   statement,
@@ -60,7 +61,7 @@ build-two-requires c κs =
     let start = v .before .before .before .before .before .before .before .before .before in
     let scene = stereo-scene (a .manual-mask-db .now) (a .voices) (a .count) (a .config) (a .table .now) (length (a .left .now)) (length (a .right .now)) d (voices-f32 128 (a .voices) _ (start .good .1 .1 .1 .0)) (settings-f32 (a .config) _ (start .good .1 .1 .1 .1 .1 .0)) in
     let table = stereo-table (a .manual-mask-db .now) (a .voices) (a .count) (a .config) (a .table .now) (length (a .left .now)) (length (a .right .now)) d (λ i l. v .before .before .before .before .before .shared-slice-known2 .given i) in
-    (f .0 .0, f .1, f .0 .1, f .3, f .4, f .2, sound-scene (a .voices) (a .count) (a .config) (a .table .now) (f .0 .1) scene table)
+    (f .0 .0, f .1, f .0 .1, f .3, f .4, f .2, sound-scene (a .config) _ (a .table .now) (f .0 .1) (scene .voices-real) (scene .settings-real) (table .entries) (table .entry-real))
 
 returns : tie.Need-returns
 returns c =

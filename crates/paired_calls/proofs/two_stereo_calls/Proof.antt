@@ -2,7 +2,7 @@
 -- holds of them. Assumes nothing.
 use lib.ListN.{length}
 use Rattle.chord_law.specs.Calls.{F32Call, callOf}
-use Rattle.mask_calls.proofs.Parameters.{voices-f32, settings-f32}
+use Rattle.refusals.proofs.Parameters.{voices-f32, settings-f32}
 use Rattle.chord_law.proofs.TwoCalls.{law-holds}
 use borrow.Author.Needs.{needs}
 use Rattle.paired_calls.proofs.two_stereo_calls.Statement.{statement}

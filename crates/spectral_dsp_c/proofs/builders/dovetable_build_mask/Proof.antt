@@ -6,7 +6,7 @@ use borrow.Author.Needs.{needs}
 use Rattle.scene.specs.declared.MaskConfig.{MaskConfig}
 use Rattle.lobes.specs.Distance.{none}
 use Rattle.lobes.specs.Pan as side
-use Rattle.mask_builder.specs.Levels.{voicesOf}
+use Rattle.scene.specs.Levels.{voicesOf}
 use Rattle.mask_builder.specs.Mask.{maskOf}
 use Rattle.crossing.proofs.Configs.{known, known-left, unknown, unknown-left}
 use Rattle.crossing.proofs.Replies.{given}

@@ -2,7 +2,7 @@
 -- for a shape of 0..7, otherwise refusal 2. Assumes nothing.
 use mathlib.Core.Path.{sym, ap, _∙_}
 use borrow.Author.Needs.{needs}
-use Rattle.number_calls.specs.Motion.{compensationReply}
+use Rattle.motion_calls.specs.Motion.{compensationReply}
 use Rattle.crossing.proofs.Replies.{given-value}
 use Rattle.crossing.proofs.Shapes.{with-known, with-unknown}
 use Rattle.spectral_dsp_c.proofs.spectral.dovetable_motion_compensation_gain.Statement.{statement}

@@ -1,4 +1,0 @@
-pub mod MaskAnswers
-pub mod Parameters
-pub mod SettingsNumbers
-pub mod RealScene

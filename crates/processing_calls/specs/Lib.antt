@@ -1,0 +1,2 @@
+pub mod Processing
+pub mod DualWindow
