@@ -20,7 +20,7 @@ use Rattle.float_laws.specs.Rise.{Rise}
 use Rattle.limits.specs.Limits as limits
 use Rattle.scene.specs.declared.MaskConfig.{MaskConfig}
 use Rattle.scene.specs.Accepted.{noVoice}
-use Rattle.frequencies.proofs.Sizes.{size-power}
+use Rattle.limits.proofs.Sizes.{size-power}
 use Rattle.limits.specs.Lengths.{MANUAL-MASK-POINTS}
 use Rattle.masks.specs.Manual.{curvePoint, manualGain}
 use Rattle.masks.proofs.Points.{point-le}

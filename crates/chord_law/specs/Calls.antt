@@ -14,7 +14,7 @@ use Rattle.lobes.specs.Distance.{lent}
 use Rattle.mask_builder.specs.Mask.{maskOf}
 use Rattle.refusals.specs.Masks.{stereoReply}
 use Rattle.scene.specs.F32.{F32Settings, F32Voices, F32List}
-use Rattle.lent_voices.specs.Stereo.{lentReply, lentMask}
+use Rattle.mask_calls.specs.LentStereo.{lentReply, lentMask}
 
 -- the voices are those that count; the masks have all their size/2 + 1 bins where the call is done
 pub record WholeCall : Type 0 where

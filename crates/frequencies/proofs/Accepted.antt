@@ -13,7 +13,7 @@ use Rattle.float32.proofs.Limits.{within-low, within-high, within-real}
 use Rattle.limits.specs.Limits as limits
 use Rattle.limits.specs.Limits.{LEAST-RATE, MOST-RATE, LEAST-TABLE-ENTRY, MOST-TABLE-ENTRY}
 use Rattle.frequencies.specs.Frequency.{prepared}
-use Rattle.frequencies.proofs.Sizes.{size-power}
+use Rattle.limits.proofs.Sizes.{size-power}
 use Rattle.frequencies.proofs.Entries.{entry-least, entry-most}
 
 module _ (rate : Float) (is-f32 : T (fits binary32 rate)) (size : ℕ) (r : T (limits.rate rate)) (s : T (limits.size size)) where

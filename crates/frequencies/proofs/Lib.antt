@@ -1,4 +1,3 @@
-pub mod Sizes
 pub mod Spacing
 pub mod Entries
 pub mod Accepted

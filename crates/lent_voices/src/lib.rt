@@ -7,7 +7,7 @@ ghost use Rattle.answer.specs.Written.{written};
 ghost use Rattle.scene.specs.Accepted.{noVoice};
 ghost use Rattle.lobes.specs.Pan as side;
 ghost use Rattle.lent_voices.specs.Gathered.{held, gathered};
-ghost use Rattle.lent_voices.specs.Stereo.{lentReply, lentMask};
+ghost use Rattle.mask_calls.specs.LentStereo.{lentReply, lentMask};
 use answer::Outcome;
 use limits::lengths::MOST_VOICES;
 use scene::MaskConfig;

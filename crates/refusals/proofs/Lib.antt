@@ -1,4 +1,3 @@
-pub mod Tests
 pub mod MaskAccepted
 pub mod MaskAnswers
 pub mod Parameters

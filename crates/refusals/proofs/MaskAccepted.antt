@@ -14,7 +14,7 @@ use lib.Pow.{pow-mono}
 use Rattle.lists.specs.Folds.{bad-before}
 use Rattle.answer.specs.Reply.{Reply, done, refused}
 use Rattle.limits.specs.Limits as limits
-use Rattle.frequencies.proofs.Sizes.{size-power}
+use Rattle.limits.proofs.Sizes.{size-power}
 use Rattle.scene.specs.declared.MaskVoice.{MaskVoice}
 use Rattle.scene.specs.declared.MaskConfig.{MaskConfig}
 use Rattle.scene.specs.Accepted.{noVoice, sizeAccepted, settingsAccepted, voiceAccepted, firstVoiceOutside}

@@ -1,8 +1,10 @@
 -- `build_stereo_masks_with_voices_precomputed` answers as its tests say, leaves both masks as they
 -- were where it refuses, and builds them where it is done. Assumes nothing.
 use mathlib.Core.Path.{refl, sym, ap, _∙_}
-use lib.ListN.{length}
+use lib.ListN.{length, take}
 use Rattle.answer.specs.Reply.{ofOutcome}
+use Rattle.lobes.specs.Grid.{gridOf}
+use Rattle.openness.specs.Scene.{SoundScene}
 use Rattle.mask_builder.proofs.SoundScenes.{sound-scene}
 use Rattle.refusals.proofs.MaskAccepted.{is-done, stereo-accepted}
 use Rattle.refusals.proofs.MaskAnswers.{stereo-answer}
@@ -61,7 +63,8 @@ build-two-requires c κs =
     let start = v .before .before .before .before .before .before .before .before .before in
     let scene = stereo-scene (a .manual-mask-db .now) (a .voices) (a .count) (a .config) (a .table .now) (length (a .left .now)) (length (a .right .now)) d (voices-f32 128 (a .voices) _ (start .good .1 .1 .1 .0)) (settings-f32 (a .config) _ (start .good .1 .1 .1 .1 .1 .0)) in
     let table = stereo-table (a .manual-mask-db .now) (a .voices) (a .count) (a .config) (a .table .now) (length (a .left .now)) (length (a .right .now)) d (λ i l. v .before .before .before .before .before .shared-slice-known2 .given i) in
-    (f .0 .0, f .1, f .0 .1, f .3, f .4, f .2, sound-scene (a .config) _ (a .table .now) (f .0 .1) (scene .voices-real) (scene .settings-real) (table .entries) (table .entry-real))
+    let sound : SoundScene (gridOf (a .config)) (take (a .count) (a .voices)) (a .table .now) = sound-scene (a .config) _ (a .table .now) (f .0 .1) (scene .voices-real) (scene .settings-real) (table .entries) (table .entry-real) in
+    (f .0 .0, f .1, f .0 .1, f .3, f .4, f .2, sound)
 
 returns : tie.Need-returns
 returns c =

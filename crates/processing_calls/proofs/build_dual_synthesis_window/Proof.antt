@@ -6,7 +6,7 @@ use Prim.Native.Nat.{ℕ, _≤_}
 use borrow.Author.Needs.{needs}
 use lib.ListN.{length}
 use Rattle.processing_calls.specs.Processing.{dualReply}
-use Rattle.refusals.proofs.Tests.{fails, passes, differ, agree, found, none-found, no-refusal}
+use Rattle.answer.proofs.Tests.{fails, passes, differ, agree, found, none-found, no-refusal}
 use Rattle.limits.proofs.Accepted.{passed, overlap-positive}
 use Rattle.processing_calls.proofs.DualWindow.{accepted-is-dual}
 use Rattle.processing_calls.proofs.build_dual_synthesis_window.Statement.{statement}

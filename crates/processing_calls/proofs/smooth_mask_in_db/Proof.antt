@@ -3,7 +3,7 @@
 use mathlib.Core.Path.{refl}
 use borrow.Author.Needs.{needs}
 use Rattle.processing_calls.specs.Processing.{smoothReply}
-use Rattle.refusals.proofs.Tests.{fails, passes, differ, agree, found, none-found}
+use Rattle.answer.proofs.Tests.{fails, passes, differ, agree, found, none-found}
 use Rattle.processing_calls.proofs.smooth_mask_in_db.Statement.{statement}
 use Rattle.processing_calls.proofs.smooth_mask_in_db.Tie as tie
 

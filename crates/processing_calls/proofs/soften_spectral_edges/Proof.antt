@@ -3,7 +3,7 @@
 use mathlib.Core.Path.{refl}
 use borrow.Author.Needs.{needs}
 use Rattle.processing_calls.specs.Processing.{softenReply}
-use Rattle.refusals.proofs.Tests.{fails, passes, differ, agree, found, none-found}
+use Rattle.answer.proofs.Tests.{fails, passes, differ, agree, found, none-found}
 use Rattle.processing_calls.proofs.soften_spectral_edges.Statement.{statement}
 use Rattle.processing_calls.proofs.soften_spectral_edges.Tie as tie
 

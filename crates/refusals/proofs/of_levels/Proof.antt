@@ -1,7 +1,7 @@
 -- `of_levels` meets its contract, test by test. Assumes nothing.
 use mathlib.Core.Path.{refl}
 use Rattle.refusals.specs.Masks.{levelsReply}
-use Rattle.refusals.proofs.Tests.{found, none-found}
+use Rattle.answer.proofs.Tests.{found, none-found}
 use borrow.Author.Needs.{needs}
 use Rattle.refusals.proofs.of_levels.Statement.{statement}
 use Rattle.refusals.proofs.of_levels.Tie as tie

@@ -1,7 +1,7 @@
 -- `of_settings` meets its contract, test by test. Assumes nothing.
 use mathlib.Core.Path.{refl}
 use Rattle.refusals.specs.Masks.{settingsReply}
-use Rattle.refusals.proofs.Tests.{fails, passes}
+use Rattle.answer.proofs.Tests.{fails, passes}
 use borrow.Author.Needs.{needs}
 use Rattle.refusals.proofs.of_settings.Statement.{statement}
 use Rattle.refusals.proofs.of_settings.Tie as tie

@@ -2,7 +2,7 @@
 use mathlib.Core.Path.{refl, sym}
 use native.Mathlib.Nat.{le-refl}
 use Rattle.refusals.specs.Masks.{tableReply}
-use Rattle.refusals.proofs.Tests.{found, none-found}
+use Rattle.answer.proofs.Tests.{found, none-found}
 use borrow.Author.Needs.{needs}
 use Rattle.refusals.proofs.of_table.Statement.{statement}
 use Rattle.refusals.proofs.of_table.Tie as tie

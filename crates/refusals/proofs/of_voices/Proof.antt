@@ -2,7 +2,7 @@
 use mathlib.Core.Path.{refl}
 use borrow.Author.Tests.{lt-ltb, le-ltb}
 use Rattle.refusals.specs.Masks.{voicesReply}
-use Rattle.refusals.proofs.Tests.{found, none-found}
+use Rattle.answer.proofs.Tests.{found, none-found}
 use borrow.Author.Needs.{needs}
 use Rattle.refusals.proofs.of_voices.Statement.{statement}
 use Rattle.refusals.proofs.of_voices.Tie as tie

@@ -3,7 +3,7 @@
 use mathlib.Core.Path.{refl, sym, _∙_}
 use native.Mathlib.Omega.{arith}
 use borrow.Author.Needs.{needs}
-use Rattle.refusals.proofs.Tests.{fails, passes, differ, agree}
+use Rattle.answer.proofs.Tests.{fails, passes, differ, agree}
 use Rattle.limits.proofs.Accepted.{passed, size-at-most}
 use Rattle.list_calls.proofs.MaskWorkspace.prepare.Statement.{statement}
 use Rattle.list_calls.proofs.MaskWorkspace.prepare.Tie as tie

@@ -6,7 +6,7 @@ use native.Mathlib.Omega.{arith}
 use borrow.Author.Needs.{needs}
 use lib.ListN.{length}
 use Rattle.processing_calls.specs.Processing.{preparedReply}
-use Rattle.refusals.proofs.Tests.{fails, passes, differ, agree, found, none-found}
+use Rattle.answer.proofs.Tests.{fails, passes, differ, agree, found, none-found}
 use Rattle.limits.proofs.Accepted.{passed, size-at-most, overlap-positive}
 use Rattle.processing_calls.proofs.PreparedSpectrum.new.Statement.{statement}
 use Rattle.processing_calls.proofs.PreparedSpectrum.new.Tie as tie
