@@ -1,5 +1,4 @@
 pub mod Logged
-pub mod Closest
 pub mod Balances
 pub mod Gains
 pub mod NoteLevels
@@ -7,3 +6,4 @@ pub mod Channels
 pub mod Harmonics
 pub mod Raised
 pub mod ZeroSigns
+pub mod Closest

@@ -3,8 +3,6 @@ pub mod distances;
 pub mod grids;
 pub mod octaves;
 pub mod pan;
-pub mod peaks;
-pub mod reach;
 pub mod tones;
 
 // What all lobes of a mask share, computed once from its settings.

@@ -1,5 +1,8 @@
 // The lobes of a tone's partials, computed once: the plain and the compact way both start from
 // them.
+pub mod peaks;
+pub mod reach;
+
 ghost use mathlib.Core.Path.{_≡_};
 ghost use mathlib.Core.Bool.{true};
 ghost use Prim.Native.Nat.{_^_, _≤_, _<_};
@@ -9,12 +12,12 @@ ghost use Rattle.limits.specs.Lengths.{MAX-PARTIALS};
 ghost use Rattle.lobes.specs.Tone.{partialOctaves};
 ghost use Rattle.lobes.specs.Distance.{logsOf};
 ghost use Rattle.tone_lobes.specs.ToneLobes.{partialsOf, lobesOf};
+use crate::reach::lobe_of;
 use limits::lengths::MAX_PARTIALS;
 use lobes::Grid;
 use lobes::Lobe;
 use lobes::Tone;
 use lobes::octaves::PartialOctaves;
-use lobes::reach::lobe_of;
 use lobes::tones::center_of;
 use power::table::PowerTable;
 

@@ -4,10 +4,10 @@ use mathlib.Core.Path.{sym, subst}
 use Prim.Native.Nat.{ℕ, _≤_}
 use native.Mathlib.Nat.{le-trans, lt-of-le-of-lt}
 use borrow.Author.Needs.{needs}
 use Rattle.lobes.specs.Lobe.{lobeOf}
 use Rattle.lobes.proofs.Closest.{closest-le}
-use Rattle.lobes.proofs.reach.lobe_of.Statement.{statement}
-use Rattle.lobes.proofs.reach.lobe_of.Tie as tie
+use Rattle.tone_lobes.proofs.reach.lobe_of.Statement.{statement}
+use Rattle.tone_lobes.proofs.reach.lobe_of.Tie as tie
 
 center-of-requires : tie.Need-center-of-requires
 center-of-requires c κs = search needs

@@ -1,9 +1,9 @@
 -- `lobes::peaks::closest_bin_in_cents` meets its contract: its test is the definition's. Assumes
 -- nothing.
 use borrow.Author.Needs.{needs}
 use Rattle.lobes.proofs.Closest.{chosen}
-use Rattle.lobes.proofs.peaks.closest_bin_in_cents.Statement.{statement}
-use Rattle.lobes.proofs.peaks.closest_bin_in_cents.Tie as tie
+use Rattle.tone_lobes.proofs.peaks.closest_bin_in_cents.Statement.{statement}
+use Rattle.tone_lobes.proofs.peaks.closest_bin_in_cents.Tie as tie
 
 floor-to-count-requires : tie.Need-floor-to-count-requires
 floor-to-count-requires c κs = search needs

@@ -2,9 +2,9 @@
 -- Assumes nothing.
 use mathlib.Core.Path.{_∙_}
 use borrow.Author.Needs.{needs}
 use Rattle.lobes.specs.Distance.{distance}
-use Rattle.lobes.proofs.reach.distance.Statement.{statement}
-use Rattle.lobes.proofs.reach.distance.Tie as tie
+use Rattle.tone_lobes.proofs.reach.distance.Statement.{statement}
+use Rattle.tone_lobes.proofs.reach.distance.Tie as tie
 
 distance-by-table-requires : tie.Need-distance-by-table-requires
 distance-by-table-requires c κs = c .before .before .pre .3 (c .if1 .taken)

@@ -2,9 +2,9 @@
 use mathlib.Core.Path.{_∙_}
 use borrow.Author.Needs.{needs}
 use Rattle.float32.proofs.Sums.{in-float}
 use Rattle.lobes.specs.Peak.{cents}
-use Rattle.lobes.proofs.peaks.cents.Statement.{statement}
-use Rattle.lobes.proofs.peaks.cents.Tie as tie
+use Rattle.tone_lobes.proofs.peaks.cents.Statement.{statement}
+use Rattle.tone_lobes.proofs.peaks.cents.Tie as tie
 
 int-to-float-log2 : tie.Need-int-to-float-log2
 int-to-float-log2 c = in-float _ (c .before .pre .1)

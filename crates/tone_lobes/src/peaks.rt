@@ -2,10 +2,10 @@
 ghost use mathlib.Core.Path.{_≡_};
 ghost use Prim.Native.Nat.{_^_, _≤_};
 ghost use Rattle.power.specs.Table.{powerTable};
 ghost use Rattle.lobes.specs.Peak.{cents, closestBin};
-use crate::grids::CENTS_PER_OCTAVE;
 use counts::greater;
 use counts::lesser;
+use lobes::grids::CENTS_PER_OCTAVE;
 use power::table::PowerTable;
 
 fn cents(powers: &PowerTable, bin_hz: f32, center: f32, bin: usize) -> f32
