@@ -18,7 +18,7 @@ use Rattle.decibels.proofs.Gains.{gain-real}
 use Rattle.masks.specs.Manual.{curveGain, manualGain}
 use Rattle.masks.proofs.Counted.{counted-gain}
 use Rattle.motion.specs.Field.{RESTING-DEPTH-DB}
-use Rattle.motion_rows.specs.Settled.{settled}
+use Rattle.motion.specs.Settled.{settled}
 use Rattle.motion_rows.specs.Rows.{gainLeft}
 use Rattle.motion_compensation.specs.Compensation.{compensation}
 use Rattle.motion_rows.proofs.StagedField.{moving, settled-gain}

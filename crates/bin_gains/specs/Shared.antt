@@ -2,7 +2,7 @@
 use Rattle.scene.specs.declared.MaskConfig.{MaskConfig}
 use Rattle.frequencies.specs.Frequency.{binHz}
 use Rattle.masks.specs.Gates.{emphasisGain, floorGain}
-use Rattle.motion_rows.specs.Settled.{settled}
+use Rattle.motion.specs.Settled.{settled}
 use Rattle.motion_compensation.specs.Compensation.{compensation}
 use Rattle.bin_gains.specs.declared.Shared.{Shared}
 

@@ -26,7 +26,7 @@ const ROW: usize = 256;
 // What all bins of a mask share, computed once from its settings.
 pub struct Shared {
     pub bin_hz: f32,
-    // The moving field's settings as `motion_rows::settled` gives them.
+    // The moving field's settings as `motion::field::settled` gives them.
     pub field: MotionConfig,
     pub compensation: f32,
     // The gate's gain in a closed region, and at a fully open note centre.
@@ -43,7 +43,7 @@ fn shared_of(powers: &PowerTable, sines: &SineTable, config: MaskConfig) -> Shar
     let motion = config.motion;
     Shared {
         bin_hz: frequencies::bin_hz(config.sample_rate, config.fft_size),
-        field: motion_rows::settled(motion),
+        field: motion::field::settled(motion),
         compensation: motion_compensation::compensation_gain(powers, sines, motion),
         floor: masks::gates::floor_gain(powers, config.note_depth_db),
         emphasis: masks::gates::emphasis(powers, config.width_cents),

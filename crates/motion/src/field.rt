@@ -3,6 +3,7 @@ ghost use mathlib.Core.Path.{_≡_};
 ghost use Rattle.power.specs.Table.{powerTable};
 ghost use Rattle.sine.specs.Table.{sineTable};
 ghost use Rattle.motion.specs.Field.{shapeAt, openness, attenuation};
+ghost use Rattle.motion.specs.Settled.{settled};
 use crate::shapes::drift;
 use crate::shapes::harmonic;
 use crate::shapes::ripple;
@@ -23,6 +24,22 @@ pub const MIN_DISPLAY_FREQUENCY_HZ: f32 = 20.0;
 pub const RESTING_DEPTH_DB: f32 = 0.001;
 
 pub const MIN_SIZE_OCTAVES: f32 = 0.05;
+
+// The settings clamped and reduced as the shapes need them, once for all samples and bins.
+pub fn settled(config: MotionConfig) -> MotionConfig
+    ensures { λ r. ⌜ r ≡ settled config ⌝ }
+{
+    let depth_db = max(config.depth_db, 0.0);
+    let size_octaves = max(config.size_octaves, MIN_SIZE_OCTAVES);
+    let reduced = rem_euclid_one(config.phase);
+    let shape = config.shape;
+    MotionConfig {
+        shape,
+        depth_db,
+        phase: reduced,
+        size_octaves,
+    }
+}
 
 // The shape's openness x octaves above the lowest frequency shown. Sprinkle and Cloud are
 // event-driven and are applied separately from the looping motion field, so their resting state is

@@ -30,7 +30,7 @@ use Rattle.scene.specs.declared.MotionConfig.{MotionConfig}
 use Rattle.motion.specs.Field.{MIN-DISPLAY-FREQUENCY-HZ, RESTING-DEPTH-DB, openness, attenuation, motionGain}
 use Rattle.motion_compensation.specs.Compensation.{sampleFrequency, samplePower}
 use Rattle.motion_compensation.specs.Octaves.{octaveBits, octaveTable}
-use Rattle.motion_rows.specs.Settled.{settled}
+use Rattle.motion.specs.Settled.{settled}
 use Rattle.motion_rows.specs.Rows.{gainThere}
 
 -- at the frequency f, whose quotient by the lowest one shown is v

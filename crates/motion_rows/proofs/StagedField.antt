@@ -19,7 +19,7 @@ use Rattle.scene.specs.declared.MotionShape.{MotionShape}
 use Rattle.scene.specs.declared.MotionShape.the-variants.{Ripple, Harmonic, Drift, Scan, Notch, Saw, Sprinkle, Cloud}
 use Rattle.scene.specs.declared.MotionConfig.{MotionConfig}
 use Rattle.motion.specs.Field.{MIN-DISPLAY-FREQUENCY-HZ, RESTING-DEPTH-DB, shapeAt, openness, attenuation, motionGain}
-use Rattle.motion_rows.specs.Settled.{settled}
+use Rattle.motion.specs.Settled.{settled}
 use Rattle.frequencies.specs.Frequency.{hertz}
 use Rattle.motion_rows.specs.Rows.{madeOfEvents, shaped, openAt, lowered, gainThere, gainLeft}
 

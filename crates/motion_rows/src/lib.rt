@@ -15,36 +15,16 @@ ghost use Rattle.power.specs.Table.{powerTable};
 ghost use Rattle.sine.specs.Table.{sineTable};
 ghost use Rattle.frequencies.specs.Frequency.{hertz};
 ghost use Rattle.motion.specs.Field.{MIN-DISPLAY-FREQUENCY-HZ};
-ghost use Rattle.motion_rows.specs.Settled.{settled};
 ghost use Rattle.motion_rows.specs.Rows.{madeOfEvents, openAt, lowered, gainLeft};
 use crate::shapes::ones;
 use crate::shapes::shape_row;
-use float32::order::max;
-use float32::remainder::rem_euclid_one;
 use frequencies::rows::ratios;
 use motion::field::MIN_DISPLAY_FREQUENCY_HZ;
-use motion::field::MIN_SIZE_OCTAVES;
 use power::table::PowerTable;
 use power_rows::log2::log2_row;
 use scene::MotionConfig;
 use scene::MotionShape;
 use sine::table::SineTable;
-
-// The settings clamped and reduced as the shapes need them, once for all samples and bins.
-pub fn settled(config: MotionConfig) -> MotionConfig
-    ensures { λ r. ⌜ r ≡ settled config ⌝ }
-{
-    let depth_db = max(config.depth_db, 0.0);
-    let size_octaves = max(config.size_octaves, MIN_SIZE_OCTAVES);
-    let phase = rem_euclid_one(config.phase);
-    let shape = config.shape;
-    MotionConfig {
-        shape,
-        depth_db,
-        phase,
-        size_octaves,
-    }
-}
 
 fn made_of_events(shape: MotionShape) -> bool
     ensures { λ r. ⌜ r ≡ madeOfEvents shape ⌝ }
@@ -127,7 +107,7 @@ pub fn lowerings(row: &mut [f32], depth_db: f32, count: usize)
 }
 
 // The gains of a field that does not rest at the bins from `start` on, before compensation. `field`
-// is the result of `settled`.
+// is the result of `motion::field::settled`.
 pub fn motion_gains(
     row: &mut [f32],
     powers: &PowerTable,

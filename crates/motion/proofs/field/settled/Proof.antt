@@ -1,9 +1,9 @@
--- `motion_rows::settled` meets its contract: the definition with what its callees ensure put in.
+-- `settled` meets its contract: the definition with what its callees ensure put in.
 -- Assumes nothing.
-use Rattle.motion_rows.specs.Settled.{settled}
+use Rattle.motion.specs.Settled.{settled}
 use borrow.Author.Needs.{needs}
-use Rattle.motion_rows.proofs.settled.Statement.{statement}
-use Rattle.motion_rows.proofs.settled.Tie as tie
+use Rattle.motion.proofs.field.settled.Statement.{statement}
+use Rattle.motion.proofs.field.settled.Tie as tie
 
 max-requires : tie.Need-max-requires
 max-requires c κs = search needs
