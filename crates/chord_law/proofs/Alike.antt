@@ -14,15 +14,18 @@ use Rattle.float_laws.specs.Order.{not-lt-f}
 use Rattle.float_laws.specs.Same.{Same, same, noughts, nought, eq-same}
 use Rattle.float32.proofs.Limits.{within-low}
 use Rattle.limits.specs.Limits.{LEAST-RATE, MOST-RATE, LEAST-WIDTH, MOST-WIDTH}
+use Rattle.limits.specs.Limits.{LEAST-HERTZ, MOST-HERTZ}
 use Rattle.scene.specs.declared.MaskVoice.{MaskVoice}
+use Rattle.scene.specs.declared.Pitch.{Pitch}
+use Rattle.scene.specs.declared.Pitch.the-variants.{Note, Hertz}
 use Rattle.scene.specs.declared.MaskConfig.{MaskConfig}
 use Rattle.scene.specs.Accepted.{sizeAccepted, settingsAccepted}
-use Rattle.scene.specs.Voices.{RealVoice}
+use Rattle.scene.specs.Voices.{RealPitch, RealVoice}
 use Rattle.lobes.proofs.Raised.{Raised}
-use Rattle.lobes.proofs.ZeroSigns.{SameTable, pitch-same, timbre-same, balance-same}
+use Rattle.lobes.proofs.ZeroSigns.{SameTable, AlikePitch, pitch-same, timbre-same, balance-same}
 use Rattle.mask_builder.proofs.ZeroSigns.{SameConfig}
 use Rattle.chord_law.specs.Calls.{Call, Accepted, whole, F32Call}
-use Rattle.chord_law.specs.Voices.{NoLower, Matched}
+use Rattle.chord_law.specs.Voices.{NoLower, SamePitch, Matched}
 use Rattle.chord_law.specs.Settings.{SameSettings, SameEntries}
 use Rattle.scene.specs.F32.{F32Settings}
 use Rattle.scene.proofs.SettingsNumbers as numbers
@@ -41,6 +44,10 @@ same-above least a (noughts true t) h = absurd (T-not (le least (nought true)) (
 rate-above : Above LEAST-RATE
 unfolding ofBits ofFields odd trailingZeros le
 rate-above = record { plus = tt; minus = tt }
+
+hertz-above : Above LEAST-HERTZ
+unfolding ofBits ofFields odd trailingZeros le
+hertz-above = record { plus = tt; minus = tt }
 
 width-above : Above LEAST-WIDTH
 unfolding ofBits ofFields odd trailingZeros le
@@ -115,12 +122,22 @@ no-lower x y p q h = not-lt-f binary32 y x (real-number binary32 y q) (real-numb
 equal : {x y : Float} → T (real binary32 x) → T (real binary32 y) → T (eq x y) → Same x y
 equal {x} {y} p q h = eq-same binary32 x y (real-number binary32 x p) (real-number binary32 y q) h
 
+alike-pitch :
+    (p q : Pitch) → RealPitch p → RealPitch q → SamePitch p q → AlikePitch p q
+alike-pitch (Note n t) (Note m u) p q h =
+    (h .note, equal (p .tuning-real) (q .tuning-real) (h .tuning))
+alike-pitch (Hertz f) (Hertz g) p q h =
+    same-above LEAST-HERTZ hertz-above (equal (p .hertz-real) (q .hertz-real) h)
+    (within-low LEAST-HERTZ MOST-HERTZ f (p .hertz-within))
+alike-pitch (Note n t) (Hertz g) p q h = absurd h
+alike-pitch (Hertz f) (Note m u) p q h = absurd h
+
 pub matched-raised : (a b : MaskVoice) → RealVoice a → RealVoice b → Matched a b → Raised a b
 matched-raised a b u v m =
     record {
       pitch =
-          pitch-same a b (m .pitch .note)
-          (equal (u .tuning-real) (v .tuning-real) (m .pitch .tuning));
+          pitch-same a b
+          (alike-pitch (a .pitch) (b .pitch) (u .pitch-real) (v .pitch-real) (m .pitch));
       rolloff = timbre-same a b (equal (u .timbre-real) (v .timbre-real) (m .timbre));
       balance = balance-same a b (equal (u .pan-real) (v .pan-real) (m .pan));
       level =

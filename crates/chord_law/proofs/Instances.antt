@@ -1,32 +1,42 @@
--- The premise on voices can be met: a chord is matched in itself with one note more, in itself
--- reversed, and in itself with one level raised. The law then says, for every curve, table and
--- settings that are accepted with the two lists: a note more or a level raised lowers no bin, and
--- the order of the notes does not count. Assumes nothing.
+-- The premise on voices can be met: a chord of notes and hertz is matched in itself with one voice
+-- more, in itself reversed, and in itself with one level raised. The law then says, for every
+-- curve, table and settings that are accepted with the two lists: a voice more or a level raised
+-- lowers no bin, and the order of the voices does not count. A note and the hertz that it sounds
+-- are not equal in pitch, so the law claims nothing of them. Assumes nothing.
 use mathlib.Core.Path.{_≡_, refl, sym, subst}
 use mathlib.Core.Bool.{not}
 use mathlib.Core.List.{List, [], _∷_}
 use Prim.Native.Nat.{ℕ, zero, suc}
 use native.Mathlib.Omega.{arith}
 use lib.Dec.{T, lit<}
+use lib.ListN.{getD}
 use lib.Count.{trailingZeros}
-use lib.Ieee.{Float, ofBits, ofFields, odd, eq, lt}
+use lib.Ieee.{Float, binary32, ofBits, ofFields, ofInt, odd, eq, lt, isNan, add, sub, sum, neg, mul}
+use lib.Ieee.{div, round, size, span, climb, units}
 use Rattle.scene.specs.declared.MaskVoice.{MaskVoice}
+use Rattle.scene.specs.declared.Pitch.{Pitch}
+use Rattle.scene.specs.declared.Pitch.the-variants.{Note, Hertz}
+use Rattle.scene.specs.Accepted.{noVoice}
+use Rattle.lists.specs.Interpolation.{interp}
 use Rattle.float32.specs.Remainder as remainder
 use Rattle.float32.specs.Remainder.{half}
+use Rattle.float32.specs.Value.{moved}
+use Rattle.power.specs.Table.{powerTable}
+use Rattle.power.specs.Power.{powerAt, powerOf, E2}
+use Rattle.lobes.specs.Tone.{pitchHertz, fundamentalOf}
 use Rattle.chord_law.specs.Calls.{Call, F32Call, given, whole}
-use Rattle.chord_law.specs.Voices.{Matched, MatchIn, MatchedIn}
+use Rattle.chord_law.specs.Voices.{SamePitch, Matched, MatchIn, MatchedIn}
 use Rattle.chord_law.specs.Curves.{NowhereAbove}
 use Rattle.chord_law.specs.Masks.{MasksNotAbove, MasksEqual}
 use Rattle.chord_law.specs.Premises.{Comparable, Beneath}
 use Rattle.chord_law.proofs.Law.{masks-not-above, masks-equal}
 
--- a note at a level, with full pressure and volume, at the centre
-abbrev pub voice : ℕ → Float → MaskVoice
-voice note level =
+-- a pitch at a level, with full pressure and volume, at the centre
+abbrev pub voice : Pitch → Float → MaskVoice
+voice pitch level =
     record {
-      note = note;
+      pitch = pitch;
       level = level;
-      «tuning_semitones» = remainder.zero;
       pressure = remainder.one;
       timbre = half;
       «volume_gain» = remainder.one;
@@ -34,23 +44,38 @@ voice note level =
       pan = remainder.zero;
     }
 
+abbrev in-tune : ℕ → Pitch
+in-tune note = Note note remainder.zero
+
+abbrev 330-hertz : Float
+330-hertz = ofBits binary32 0x43a5_0000
+
+abbrev 440-hertz : Float
+440-hertz = ofBits binary32 0x43dc_0000
+
 abbrev pub C : MaskVoice
-C = voice 60 half
+C = voice (in-tune 60) half
 
 abbrev pub E : MaskVoice
-E = voice 64 half
+E = voice (Hertz 330-hertz) half
 
 abbrev pub G : MaskVoice
-G = voice 67 half
+G = voice (in-tune 67) half
 
 abbrev pub louder-G : MaskVoice
-louder-G = voice 67 remainder.one
+louder-G = voice (in-tune 67) remainder.one
+
+abbrev pub A : MaskVoice
+A = voice (in-tune 69) half
+
+abbrev pub A-by-hertz : MaskVoice
+A-by-hertz = voice (Hertz 440-hertz) half
 
 abbrev pub chord : List MaskVoice
 chord = C ∷ E ∷ G ∷ []
 
 abbrev pub with-one-more : List MaskVoice
-with-one-more = C ∷ E ∷ voice 70 half ∷ G ∷ []
+with-one-more = C ∷ E ∷ A-by-hertz ∷ G ∷ []
 
 abbrev pub reversed : List MaskVoice
 reversed = G ∷ E ∷ C ∷ []
@@ -58,10 +83,11 @@ reversed = G ∷ E ∷ C ∷ []
 abbrev pub with-G-raised : List MaskVoice
 with-G-raised = C ∷ E ∷ louder-G ∷ []
 
--- ---- a voice of this kind is matched by one of the same note, at a level that is no lower
+-- ---- a voice of this kind is matched by one of the same pitch, at a level that is no lower
 record Kind : Type 0 where
   same-zero : T (eq remainder.zero remainder.zero)
   same-half : T (eq half half)
+  same-330 : T (eq 330-hertz 330-hertz)
   one-no-lower : T (not (lt remainder.one remainder.one))
   half-no-lower : T (not (lt half half))
   one-above-half : T (not (lt remainder.one half))
@@ -72,15 +98,18 @@ kind =
     record {
       same-zero = tt;
       same-half = tt;
+      same-330 = tt;
       one-no-lower = tt;
       half-no-lower = tt;
       one-above-half = tt;
     }
 
-at-level : (note : ℕ) (x y : Float) → T (not (lt y x)) → Matched (voice note x) (voice note y)
-at-level note x y h =
+at-level :
+    (pitch : Pitch) → SamePitch pitch pitch → (x y : Float) → T (not (lt y x))
+    → Matched (voice pitch x) (voice pitch y)
+at-level pitch same x y h =
     record {
-      pitch = record { note = refl; tuning = kind .same-zero };
+      pitch = same;
       timbre = kind .same-half;
       pan = kind .same-zero;
       level = h;
@@ -89,8 +118,20 @@ at-level note x y h =
       expression = kind .one-no-lower;
     }
 
-itself : (note : ℕ) → Matched (voice note half) (voice note half)
-itself note = at-level note half half (kind .half-no-lower)
+same-note : (note : ℕ) → SamePitch (in-tune note) (in-tune note)
+same-note note = record { note = refl; tuning = kind .same-zero }
+
+itself : (pitch : Pitch) → SamePitch pitch pitch → Matched (voice pitch half) (voice pitch half)
+itself pitch same = at-level pitch same half half (kind .half-no-lower)
+
+C-itself : Matched C C
+C-itself = itself (in-tune 60) (same-note 60)
+
+E-itself : Matched E E
+E-itself = itself (Hertz 330-hertz) (kind .same-330)
+
+G-itself : Matched G G
+G-itself = itself (in-tune 67) (same-note 67)
 
 -- the three voices of a list, each with its match
 three :
@@ -103,31 +144,54 @@ three a b c ys p q r (suc (suc (suc i))) h = absurd (omega arith)
 
 pub one-more : MatchedIn chord with-one-more
 one-more =
-    three C E G with-one-more (record { place = 0; there = lit< tt; matches = itself 60 })
-    (record { place = 1; there = lit< tt; matches = itself 64 })
-    (record { place = 3; there = lit< tt; matches = itself 67 })
+    three C E G with-one-more (record { place = 0; there = lit< tt; matches = C-itself })
+    (record { place = 1; there = lit< tt; matches = E-itself })
+    (record { place = 3; there = lit< tt; matches = G-itself })
 
 pub turned-round : MatchedIn chord reversed
 turned-round =
-    three C E G reversed (record { place = 2; there = lit< tt; matches = itself 60 })
-    (record { place = 1; there = lit< tt; matches = itself 64 })
-    (record { place = 0; there = lit< tt; matches = itself 67 })
+    three C E G reversed (record { place = 2; there = lit< tt; matches = C-itself })
+    (record { place = 1; there = lit< tt; matches = E-itself })
+    (record { place = 0; there = lit< tt; matches = G-itself })
 
 pub turned-back : MatchedIn reversed chord
 turned-back =
-    three G E C chord (record { place = 2; there = lit< tt; matches = itself 67 })
-    (record { place = 1; there = lit< tt; matches = itself 64 })
-    (record { place = 0; there = lit< tt; matches = itself 60 })
+    three G E C chord (record { place = 2; there = lit< tt; matches = G-itself })
+    (record { place = 1; there = lit< tt; matches = E-itself })
+    (record { place = 0; there = lit< tt; matches = C-itself })
 
 pub raised : MatchedIn chord with-G-raised
 raised =
-    three C E G with-G-raised (record { place = 0; there = lit< tt; matches = itself 60 })
-    (record { place = 1; there = lit< tt; matches = itself 64 })
+    three C E G with-G-raised (record { place = 0; there = lit< tt; matches = C-itself })
+    (record { place = 1; there = lit< tt; matches = E-itself })
     (record {
       place = 2;
       there = lit< tt;
-      matches = at-level 67 half remainder.one (kind .one-above-half);
+      matches = at-level (in-tune 67) (same-note 67) half remainder.one (kind .one-above-half);
     })
+
+-- ---- a note and the hertz that it sounds: one fundamental, and no match either way
+pub one-fundamental : fundamentalOf A ≡ fundamentalOf A-by-hertz
+unfolding fundamentalOf pitchHertz E2 powerOf powerAt moved interp powerTable isNan ofBits ofFields
+    ofInt add sub sum neg mul div round size span climb units odd trailingZeros
+one-fundamental = refl
+
+matched-in-one : (a b : MaskVoice) → MatchedIn (a ∷ []) (b ∷ []) → SamePitch (a .pitch) (b .pitch)
+matched-in-one a b m = at (m 0 (lit< tt))
+  where
+    at : MatchIn a (b ∷ []) → SamePitch (a .pitch) (b .pitch)
+    at match =
+        subst (λ i. SamePitch (a .pitch) (getD (b ∷ []) i noVoice .pitch)) none
+        (match .matches .pitch)
+      where
+        none : match .place ≡ 0
+        none = omega (arith, match .there)
+
+pub a-note-is-not-its-hertz : MatchedIn (A ∷ []) (A-by-hertz ∷ []) → ⊥
+a-note-is-not-its-hertz m = matched-in-one A A-by-hertz m
+
+pub nor-the-hertz-the-note : MatchedIn (A-by-hertz ∷ []) (A ∷ []) → ⊥
+nor-the-hertz-the-note m = matched-in-one A-by-hertz A m
 
 -- ---- the law at each
 module _ (a b : Call) (fa : F32Call a) (fb : F32Call b)
@@ -139,10 +203,10 @@ module _ (a b : Call) (fa : F32Call a) (fb : F32Call b)
       let on-chord = subst (λ zs. MatchedIn chord zs) (sym e) m in
       record { matched = subst (λ xs. MatchedIn xs (given b)) (sym is-chord) on-chord; curve = h }
 
-  pub a-note-more-lowers-no-bin :
+  pub a-voice-more-lowers-no-bin :
       given b ≡ with-one-more → NowhereAbove (a .curve) (b .curve)
       → MasksNotAbove (whole a) (whole b)
-  a-note-more-lowers-no-bin e h = masks-not-above a b fa fb c (beneath with-one-more e one-more h)
+  a-voice-more-lowers-no-bin e h = masks-not-above a b fa fb c (beneath with-one-more e one-more h)
 
   pub a-level-raised-lowers-no-bin :
       given b ≡ with-G-raised → NowhereAbove (a .curve) (b .curve)

@@ -4,6 +4,7 @@ pub mod Turned
 pub mod Law
 pub mod LentCalls
 pub mod Bins
+pub mod Centers
 pub mod TwoCalls
 pub mod Instances
 pub mod Scene

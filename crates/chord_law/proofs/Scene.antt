@@ -1,9 +1,9 @@
 -- Two whole calls that meet every premise, on any curve without NaN: a chord, and the same chord
--- with one note more, at 48,000 Hz and size 64 with a table of zeros. So the law is not empty: no
+-- with one voice more, at 48,000 Hz and size 64 with a table of zeros. So the law is not empty: no
 -- bin of the chord's masks is above that of the larger chord. Assumes nothing.
 use mathlib.Core.Path.{_≡_, refl, sym, subst}
 use mathlib.Core.Bool.{true}
-use mathlib.Core.List.{List}
+use mathlib.Core.List.{List, [], _∷_}
 use Prim.Native.Nat.{ℕ, _<_}
 use native.Mathlib.Omega.{arith}
 use lib.Dec.{T}
@@ -18,20 +18,22 @@ use Rattle.float32.specs.Order.{within, finite}
 use Rattle.float32.specs.Remainder as remainder
 use Rattle.limits.specs.Lengths.{MANUAL-MASK-POINTS}
 use Rattle.scene.specs.declared.MaskVoice.{MaskVoice}
+use Rattle.scene.specs.declared.Pitch.{Pitch}
 use Rattle.scene.specs.declared.MaskConfig.{MaskConfig}
 use Rattle.scene.specs.declared.MotionShape.the-variants.{Saw}
 use Rattle.scene.specs.Accepted.{noVoice, sizeAccepted, settingsAccepted}
-use Rattle.scene.specs.Accepted.{motionAccepted, voiceAccepted}
+use Rattle.scene.specs.Accepted.{motionAccepted, pitchAccepted, voiceAccepted}
 use Rattle.float32.specs.Remainder.{half}
 use Rattle.refusals.specs.Masks.{settingsReply, voicesReply, tableReply, stereoReply}
-use Rattle.scene.specs.F32.{F32Voice, F32Settings}
+use Rattle.scene.specs.F32.{F32Pitch, F32Voice, F32Settings}
 use Rattle.chord_law.specs.Calls.{Call, F32Call, Accepted, whole}
 use Rattle.chord_law.specs.Settings.{SameSettings}
 use Rattle.chord_law.specs.Curves.{NoNan, NowhereAbove}
 use Rattle.chord_law.specs.Masks.{MasksNotAbove}
 use Rattle.chord_law.specs.Premises.{Comparable}
 use Rattle.chord_law.proofs.Law.{masks-not-above}
-use Rattle.chord_law.proofs.Instances.{voice, chord, with-one-more, one-more}
+use Rattle.chord_law.proofs.Instances.{voice, C, E, G, A-by-hertz, chord, with-one-more}
+use Rattle.chord_law.proofs.Instances.{one-more}
 
 -- 48,000 Hz, size 64, a depth of 96 dB, widths of 100 cents, 8 partials that fall by 6 dB an
 -- octave, and a saw of 12 dB, an octave long
@@ -93,12 +95,12 @@ entry-is i h =
     getD-tabulate (λ k. remainder.zero) 33 i nan
     (omega (arith, length-tab (λ k. remainder.zero) 0 33))
 
-note-f32 : (note : ℕ) → F32Voice (voice note half)
+voice-f32 : (pitch : Pitch) → F32Pitch pitch → F32Voice (voice pitch half)
 unfolding ofBits ofFields odd trailingZeros fits
-note-f32 note =
+voice-f32 pitch f =
     record {
+      pitch = f;
       level = tt;
-      tuning = tt;
       pressure = tt;
       timbre = tt;
       volume = tt;
@@ -106,11 +108,26 @@ note-f32 note =
       pan = tt;
     }
 
+pitches-f32 : All F32Pitch (C .pitch ∷ E .pitch ∷ A-by-hertz .pitch ∷ G .pitch ∷ [])
+unfolding ofBits ofFields odd trailingZeros fits
+pitches-f32 = (tt, (tt, (tt, (tt, tt))))
+
 chord-f32 : All F32Voice chord
-chord-f32 = (note-f32 60, (note-f32 64, (note-f32 67, tt)))
+chord-f32 =
+    let p = pitches-f32 in (
+      voice-f32 (C .pitch) (p .0),
+      (voice-f32 (E .pitch) (p .1 .0), (voice-f32 (G .pitch) (p .1 .1 .1 .0), tt)),
+    )
 
 larger-f32 : All F32Voice with-one-more
-larger-f32 = (note-f32 60, (note-f32 64, (note-f32 70, (note-f32 67, tt))))
+larger-f32 =
+    let p = pitches-f32 in (
+      chord-f32 .0,
+      (
+        chord-f32 .1 .0,
+        (voice-f32 (A-by-hertz .pitch) (p .1 .1 .0), (chord-f32 .1 .1 .0, tt)),
+      ),
+    )
 
 module _ (curve : List Float) (long : length curve ≡ MANUAL-MASK-POINTS) (numbers : NoNan curve)
     (f32 : (i : ℕ) → i < length curve → T (fits binary32 (getD curve i nan))) where
@@ -128,14 +145,14 @@ module _ (curve : List Float) (long : length curve ≡ MANUAL-MASK-POINTS) (numb
 
   chord-accepted : Accepted (whole (call chord))
   unfolding stereoReply settingsReply voicesReply tableReply sizeAccepted settingsAccepted
-      motionAccepted voiceAccepted firstBadFrom tabFrom within finite le lt eq ofBits ofFields odd
-      trailingZeros
+      motionAccepted pitchAccepted voiceAccepted firstBadFrom tabFrom within finite le lt eq ofBits
+      ofFields odd trailingZeros
   chord-accepted = rw long refl
 
   larger-accepted : Accepted (whole (call with-one-more))
   unfolding stereoReply settingsReply voicesReply tableReply sizeAccepted settingsAccepted
-      motionAccepted voiceAccepted firstBadFrom tabFrom within finite le lt eq ofBits ofFields odd
-      trailingZeros
+      motionAccepted pitchAccepted voiceAccepted firstBadFrom tabFrom within finite le lt eq ofBits
+      ofFields odd trailingZeros
   larger-accepted = rw long refl
 
   call-f32 : (voices : List MaskVoice) → All F32Voice voices → F32Call (call voices)

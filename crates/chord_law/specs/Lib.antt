@@ -6,3 +6,4 @@ pub mod Masks
 pub mod Premises
 pub mod Law
 pub mod Bins
+pub mod Centers

@@ -142,13 +142,13 @@ module _ (rate : Float) (p : T (real binary32 rate)) (l : T (le lowest-rate rate
     bin-real : T (real binary32 (whole bin))
     bin-real = real-whole binary32 bin (le-trans b2 half-small)
 
-    hertz-number : T (number binary32 (hertz spacing bin))
+    pub hertz-number : T (number binary32 (hertz spacing bin))
     hertz-number = mul-number binary32 (whole bin) spacing bin-real spacing-real
 
     hertz-one : hertz spacing 1 ≡ spacing
     hertz-one = ap (λ (x : Float). mul binary32 x spacing) one-is ∙ mul-comm-f binary32 bounds.one spacing ∙ mul-one-f binary32 spacing spacing-real
 
-    hertz-least : T (le quarter (hertz spacing bin))
+    pub hertz-least : T (le quarter (hertz spacing bin))
     unfolding fits
     hertz-least =
         let one-real = real-whole binary32 1 (lit≤ tt) in
@@ -157,7 +157,7 @@ module _ (rate : Float) (p : T (real binary32 rate)) (l : T (le lowest-rate rate
         (mul-mono binary32 (whole 1) (whole bin) spacing spacing one-real bin-real spacing-real spacing-real (whole-nonneg 1 (lit≤ tt)) spacing-nonneg
         (whole-mono binary32 1 bin b1 (le-trans b2 half-small)) (le-refl-f binary32 spacing (quotient-number rate p))))
 
-    hertz-most : T (le (hertz spacing bin) top)
+    pub hertz-most : T (le (hertz spacing bin) top)
     unfolding fits
     hertz-most =
         let half = 2 ^ k / 2 in

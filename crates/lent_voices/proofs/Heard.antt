@@ -1,7 +1,8 @@
--- For the array that `gather` gives, the mask builders answer and write what they do for the list
--- itself: more than 128 voices are refused, and of at most 128 they read the first entries of the
--- array, as many as the list has. Assumes nothing.
-use mathlib.Core.Path.{_≡_, refl, sym, ap, _∙_}
+-- For the array that a list of voices fills, and a count that is the list's length, the mask
+-- builders answer and write what they do for the list itself: more than 128 voices are refused, and
+-- of at most 128 they read the first entries of the array, as many as the list has. Assumes
+-- nothing.
+use mathlib.Core.Path.{_≡_, refl, sym, ap, _∙_, subst}
 use mathlib.Core.Bool.{Bool, true, false, cond, not}
 use mathlib.Core.List.{List, []}
 use Prim.Native.Nat.{ℕ, _≤_}
@@ -20,13 +21,8 @@ use Rattle.limits.specs.Lengths.{MOST-VOICES}
 use Rattle.refusals.specs.Masks.{first, settingsReply, voicesReply, tableReply}
 use Rattle.refusals.specs.Masks.{voicesMaskReply, tabledMaskReply, stereoReply}
 use Rattle.refusals.proofs.MaskAccepted.{Done, both-done, voices-done}
-use Rattle.lent_voices.specs.Gathered.{gathered}
-use Rattle.lent_voices.proofs.Gathered.{take-gathered}
-
-heard-same :
-    (voices : List MaskVoice) → length voices ≤ 128
-    → take (length voices) (gathered voices) ≡ take (length voices) voices
-heard-same voices few = take-gathered voices few ∙ sym (take-length voices)
+use Rattle.scene.specs.Gathered.{gathered}
+use Rattle.scene.proofs.Gathered.{take-gathered}
 
 -- a test that comes after refusal 3
 after-three :
@@ -35,9 +31,15 @@ after-three :
 after-three true rest e = refl
 after-three false rest e = ap rest (e tt)
 
-module _ (voices : List MaskVoice) where
-  abbrev count : ℕ
-  count = length voices
+module _ (voices : List MaskVoice) (count : ℕ) (counted : count ≡ length voices) where
+  all-heard : count ≤ 128 → take count (gathered voices) ≡ voices
+  all-heard few =
+      ap (λ (n : ℕ). take n (gathered voices)) counted
+      ∙ take-gathered voices (subst (λ (n : ℕ). n ≤ 128) counted few)
+
+  heard-same : count ≤ 128 → take count (gathered voices) ≡ take count voices
+  heard-same few =
+      all-heard few ∙ sym (take-length voices) ∙ ap (λ (n : ℕ). take n voices) (sym counted)
 
   -- ---- the replies
   voices-same :
@@ -48,7 +50,7 @@ module _ (voices : List MaskVoice) where
       after-three (ltb MOST-VOICES count)
       (λ v. cond (not lengths) (refused LENGTH 0) (cond (ltb v count) (refused VOICE v) (done [])))
       (λ t. ap (λ (heard : List MaskVoice). firstBad (λ index voice. voiceAccepted voice) heard)
-      (heard-same voices (nltb→le MOST-VOICES count t)))
+      (heard-same (nltb→le MOST-VOICES count t)))
 
   pub mono-same :
       (n : ℕ) (curve : List Float) (config : MaskConfig)
@@ -109,5 +111,5 @@ module _ (voices : List MaskVoice) where
   pub written-same :
       (mask : List MaskVoice → List Float) (old : List Float) (a : Reply) → (Done a → count ≤ 128)
       → written a (mask (take count (gathered voices))) old ≡ written a (mask voices) old
-  written-same mask old (done values) few = ap mask (take-gathered voices (few tt))
+  written-same mask old (done values) few = ap mask (all-heard (few tt))
   written-same mask old (refused number place) few = refl

@@ -1,3 +1,3 @@
-pub mod Gathered
 pub mod Heard
+pub mod Filled
 pub mod Lent

@@ -6,7 +6,7 @@ ghost use Rattle.answer.specs.Reply.{ofOutcome};
 ghost use Rattle.answer.specs.Written.{written};
 ghost use Rattle.scene.specs.Accepted.{noVoice};
 ghost use Rattle.lobes.specs.Pan as side;
-ghost use Rattle.lent_voices.specs.Gathered.{held, gathered};
+ghost use Rattle.scene.specs.Gathered.{held, gathered};
 ghost use Rattle.mask_calls.specs.LentStereo.{lentReply, lentMask};
 use answer::Outcome;
 use limits::lengths::MOST_VOICES;
@@ -22,7 +22,7 @@ fn voice_at(voices: &[MaskVoice], index: usize) -> MaskVoice
 }
 
 // How many of `count` voices the core's array holds.
-fn held(count: usize) -> usize
+pub fn held(count: usize) -> usize
     ensures { λ r. ⌜ r ≡ held count ⌝ }
 {
     if count <= MOST_VOICES {

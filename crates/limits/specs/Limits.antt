@@ -130,6 +130,16 @@ MOST-TUNING = ofBits binary32 0x42400000
 abbrev pub tuning : Float → Bool
 tuning x = within LEAST-TUNING MOST-TUNING x
 
+abbrev pub LEAST-HERTZ : Float
+LEAST-HERTZ = ofBits binary32 0x3f800000
+
+abbrev pub MOST-HERTZ : Float
+MOST-HERTZ = ofBits binary32 0x469c4000
+
+-- request 101: "a frequency in hertz from 1 to 20,000"
+abbrev pub hertz : Float → Bool
+hertz x = within LEAST-HERTZ MOST-HERTZ x
+
 abbrev pub LEAST-TABLE-ENTRY : Float
 LEAST-TABLE-ENTRY = ofBits binary32 0xc0000000
 

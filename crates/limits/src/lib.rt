@@ -3,8 +3,8 @@
 ghost use mathlib.Core.Path.{_≡_};
 ghost use Rattle.limits.specs.Limits.{decibels, frequency, noteDepth, width, rolloff};
 ghost use Rattle.limits.specs.Limits.{motionDepth, motionSize, elapsed, fade, rate, level};
-ghost use Rattle.limits.specs.Limits.{tuning, tableEntry, gain, note, partials, bin, size};
-ghost use Rattle.limits.specs.Limits.{overlap};
+ghost use Rattle.limits.specs.Limits.{tuning, hertz, tableEntry, gain, note, partials};
+ghost use Rattle.limits.specs.Limits.{bin, size, overlap};
 use float32::order::in_range;
 
 pub mod lengths;
@@ -60,6 +60,10 @@ pub const MOST_LEVEL: f32 = 1.0;
 pub const LEAST_TUNING: f32 = -48.0;
 
 pub const MOST_TUNING: f32 = 48.0;
+
+pub const LEAST_HERTZ: f32 = 1.0;
+
+pub const MOST_HERTZ: f32 = 20000.0;
 
 pub const LEAST_TABLE_ENTRY: f32 = -2.0;
 
@@ -143,6 +147,13 @@ pub fn tuning(x: f32) -> bool
     ensures { λ r. ⌜ r ≡ tuning x ⌝ }
 {
     in_range(x, LEAST_TUNING, MOST_TUNING)
+}
+
+// The frequency of a pitch that is given in hertz.
+pub fn hertz(x: f32) -> bool
+    ensures { λ r. ⌜ r ≡ hertz x ⌝ }
+{
+    in_range(x, LEAST_HERTZ, MOST_HERTZ)
 }
 
 pub fn table_entry(x: f32) -> bool

@@ -4,6 +4,7 @@ pub mod Gains
 pub mod NoteLevels
 pub mod Channels
 pub mod Harmonics
+pub mod Centers
 pub mod Raised
 pub mod ZeroSigns
 pub mod Closest

@@ -23,10 +23,12 @@ use Rattle.power.specs.Log.{L2}
 use Rattle.decibels.specs.Gain.{gainOf}
 use Rattle.pitch.specs.Pitch.{A4-HERTZ}
 use Rattle.scene.specs.declared.MaskVoice.{MaskVoice}
+use Rattle.scene.specs.declared.Pitch.{Pitch}
+use Rattle.scene.specs.declared.Pitch.the-variants.{Note, Hertz}
 use Rattle.lobes.specs.declared.Grid.{Grid}
 use Rattle.lobes.specs.declared.Lobe.{Lobe}
 use Rattle.lobes.specs.Pan.{Side, HARD-LEFT, HARD-RIGHT, balance, panOf}
-use Rattle.lobes.specs.Tone.{TIMBRE-RANGE-DB, MAX-ROLLOFF-DB, noteLevel, timbreRolloff, fundamentalOf, toneOf, centerOf, harmonicGain}
+use Rattle.lobes.specs.Tone.{TIMBRE-RANGE-DB, MAX-ROLLOFF-DB, noteLevel, timbreRolloff, pitchHertz, fundamentalOf, toneOf, centerOf, harmonicGain}
 use Rattle.lobes.specs.Distance.{lent, distance, bell}
 use Rattle.lobes.specs.Peak.{closestBin}
 use Rattle.lobes.specs.Lobe.{firstBin, lastBin, lobeOf, relativeSquare, opening}
@@ -49,12 +51,27 @@ half-less : sub binary32 half (clamp zero one (nought false)) ≡ sub binary32 h
 unfolding clamp lt sub add sum neg ofBits ofFields round size span climb units odd trailingZeros
 half-less = refl
 
+-- pitches of one form: one note, with tunings that differ at most in the sign of a zero, or one
+-- frequency
+abbrev pub AlikePitch : Pitch → Pitch → Type 0
+AlikePitch (Note n t) (Note m u) = (n ≡ m) × Same t u
+AlikePitch (Hertz f) (Hertz g) = f ≡ g
+AlikePitch (Note n t) (Hertz g) = ⊥
+AlikePitch (Hertz f) (Note m u) = ⊥
+
+hertz-same : (p q : Pitch) → AlikePitch p q → pitchHertz p ≡ pitchHertz q
+unfolding pitchHertz
+hertz-same (Note n t) (Note m u) h =
+    rw (h .0)
+    (ap (λ (x : Float). mul binary32 A4-HERTZ x) (power-alone (same-div binary32 _ (same-sub binary32 (same-add binary32 same (h .1)) same))))
+hertz-same (Hertz f) (Hertz g) h = h
+hertz-same (Note n t) (Hertz g) h = absurd h
+hertz-same (Hertz f) (Note m u) h = absurd h
+
 module _ (a b : MaskVoice) where
-  pub pitch-same : a .note ≡ b .note → Same (a .«tuning_semitones») (b .«tuning_semitones») → fundamentalOf a ≡ fundamentalOf b
+  pub pitch-same : AlikePitch (a .pitch) (b .pitch) → fundamentalOf a ≡ fundamentalOf b
   unfolding fundamentalOf
-  pitch-same e h =
-      rw e
-      (ap (λ (x : Float). mul binary32 A4-HERTZ x) (power-alone (same-div binary32 _ (same-sub binary32 (same-add binary32 same h) same))))
+  pitch-same h = hertz-same (a .pitch) (b .pitch) h
 
   pub timbre-same : Same (a .timbre) (b .timbre) → (r : Float) → timbreRolloff r (a .timbre) ≡ timbreRolloff r (b .timbre)
   unfolding timbreRolloff

@@ -10,6 +10,8 @@ use Rattle.power.specs.Log.{L2}
 use Rattle.decibels.specs.Gain.{gainOf}
 use Rattle.pitch.specs.Pitch.{noteHertz}
 use Rattle.scene.specs.declared.MaskVoice.{MaskVoice}
+use Rattle.scene.specs.declared.Pitch.{Pitch}
+use Rattle.scene.specs.declared.Pitch.the-variants.{Note, Hertz}
 use Rattle.lobes.specs.declared.Grid.{Grid}
 use Rattle.lobes.specs.declared.Tone.{Tone}
 use Rattle.limits.specs.Lengths.{MAX-PARTIALS}
@@ -29,22 +31,38 @@ abbrev pub MAX-ROLLOFF-DB : Float
 MAX-ROLLOFF-DB = ofBits binary32 0x4240_0000
 
 unfoldable pub pressureGain : Float → Float
-pressureGain pressure = add binary32 LEAST-PRESSURE-GAIN (mul binary32 PRESSURE-GAIN-RANGE (clamp zero one pressure))
+pressureGain pressure =
+    add binary32 LEAST-PRESSURE-GAIN (mul binary32 PRESSURE-GAIN-RANGE (clamp zero one pressure))
 
 -- level, volume and pressure
 unfoldable pub noteLevel : MaskVoice → Float
-noteLevel voice = mul binary32 (mul binary32 (voice .level) (maximum (voice .«volume_gain») zero)) (pressureGain (voice .pressure))
+noteLevel voice =
+    mul binary32 (mul binary32 (voice .level) (maximum (voice .«volume_gain») zero))
+    (pressureGain (voice .pressure))
 
 -- the settings' rolloff, which a dark timbre raises and a bright one lowers
 unfoldable pub timbreRolloff : Float → Float → Float
-timbreRolloff rolloff timbre = clamp zero MAX-ROLLOFF-DB (add binary32 rolloff (mul binary32 (sub binary32 half (clamp zero one timbre)) TIMBRE-RANGE-DB))
+timbreRolloff rolloff timbre =
+    clamp zero MAX-ROLLOFF-DB
+    (add binary32 rolloff
+    (mul binary32 (sub binary32 half (clamp zero one timbre)) TIMBRE-RANGE-DB))
+
+-- a note's frequency at its tuning; "A hertz pitch is the fundamental itself, with no tuning added"
+unfoldable pub pitchHertz : Pitch → Float
+pitchHertz (Note note tuning) = noteHertz note tuning
+pitchHertz (Hertz hertz) = hertz
 
 -- the pitch of a voice
 unfoldable pub fundamentalOf : MaskVoice → Float
-fundamentalOf voice = noteHertz (voice .note) (voice .«tuning_semitones»)
+fundamentalOf voice = pitchHertz (voice .pitch)
 
 unfoldable pub toneOf : Grid → MaskVoice → Tone
-toneOf grid voice = record { fundamental = fundamentalOf voice; level = noteLevel voice; rolloff = timbreRolloff (grid .rolloff) (voice .timbre) }
+toneOf grid voice =
+    record {
+      fundamental = fundamentalOf voice;
+      level = noteLevel voice;
+      rolloff = timbreRolloff (grid .rolloff) (voice .timbre);
+    }
 
 -- a partial's frequency, and its gain
 abbrev pub centerOf : Tone → ℕ → Float

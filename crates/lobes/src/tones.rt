@@ -3,8 +3,9 @@ ghost use mathlib.Core.Path.{_≡_};
 ghost use Prim.Native.Nat.{_^_, _≤_};
 ghost use Rattle.power.specs.Table.{powerTable};
 ghost use Rattle.limits.specs.Lengths.{MAX-PARTIALS};
-ghost use Rattle.lobes.specs.Tone.{pressureGain, noteLevel, timbreRolloff, fundamentalOf};
-ghost use Rattle.lobes.specs.Tone.{toneOf, centerOf, partialOctaves, harmonicGain};
+ghost use Rattle.lobes.specs.Tone.{pressureGain, noteLevel, timbreRolloff, pitchHertz};
+ghost use Rattle.lobes.specs.Tone.{fundamentalOf, toneOf, centerOf, partialOctaves};
+ghost use Rattle.lobes.specs.Tone.{harmonicGain};
 use crate::Grid;
 use crate::Tone;
 use crate::grids::HALF;
@@ -13,6 +14,7 @@ use float32::order::clamp;
 use float32::order::max;
 use power::table::PowerTable;
 use scene::MaskVoice;
+use scene::Pitch;
 
 // Pressure raises the level's gain from 0.35 to 1.
 const LEAST_PRESSURE_GAIN: f32 = 0.35;
@@ -45,11 +47,22 @@ fn timbre_rolloff(rolloff: f32, timbre: f32) -> f32
     clamp(rolloff + bend, 0.0, MAX_ROLLOFF_DB)
 }
 
+fn pitch_hertz(powers: &PowerTable, pitch: Pitch) -> f32
+    requires { ⌜ now powers ≡ powerTable ⌝ }
+    ensures { λ r. ⌜ r ≡ pitchHertz pitch ⌝ }
+{
+    match pitch {
+        Pitch::Note(note, tuning) => pitch::note_hertz(powers, note, tuning),
+        Pitch::Hertz(hertz) => hertz,
+    }
+}
+
 fn fundamental_of(powers: &PowerTable, voice: MaskVoice) -> f32
     requires { ⌜ now powers ≡ powerTable ⌝ }
     ensures { λ r. ⌜ r ≡ fundamentalOf voice ⌝ }
 {
-    pitch::note_hertz(powers, voice.note, voice.tuning_semitones)
+    let pitch = voice.pitch;
+    pitch_hertz(powers, pitch)
 }
 
 pub fn tone_of(powers: &PowerTable, grid: Grid, voice: MaskVoice) -> Tone

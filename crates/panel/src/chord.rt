@@ -5,6 +5,7 @@ use scene::MaskConfig;
 use scene::MaskVoice;
 use scene::MotionConfig;
 use scene::MotionShape;
+use scene::Pitch;
 
 pub const SAMPLE_RATE: f32 = 48000.0;
 
@@ -44,10 +45,10 @@ pub fn config() -> MaskConfig {
 }
 
 fn voice(note: u8, level: f32, tuning_semitones: f32, pan: f32) -> MaskVoice {
+    let pitch = Pitch::Note(note, tuning_semitones);
     MaskVoice {
-        note: note,
+        pitch,
         level: level,
-        tuning_semitones: tuning_semitones,
         pressure: 1.0,
         timbre: 0.5,
         volume_gain: 1.0,

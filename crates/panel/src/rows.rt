@@ -8,6 +8,7 @@ use crate::figures::print_in_column;
 use answer::Answer;
 use counts::floor_to_count;
 use scene::MaskVoice;
+use scene::Pitch;
 
 fn mark(marked: &mut [bool; BINS], bin: usize) {
     if bin < BINS {
@@ -25,11 +26,18 @@ fn mark_partials(marked: &mut [bool; BINS], first: f32) {
     }
 }
 
-fn mark_voice(marked: &mut [bool; BINS], voice: MaskVoice) {
-    let first = oiko_dsp::note_frequency_with_tuning(voice.note, voice.tuning_semitones);
-    match first {
+fn mark_note(marked: &mut [bool; BINS], note: u8, tuning_semitones: f32) {
+    match oiko_dsp::note_frequency_with_tuning(note, tuning_semitones) {
         Answer::Gain(hertz) => mark_partials(marked, hertz),
         Answer::Refused(_, _) => {}
+    }
+}
+
+fn mark_voice(marked: &mut [bool; BINS], voice: MaskVoice) {
+    let pitch = voice.pitch;
+    match pitch {
+        Pitch::Note(note, tuning_semitones) => mark_note(marked, note, tuning_semitones),
+        Pitch::Hertz(hertz) => mark_partials(marked, hertz),
     }
 }
 

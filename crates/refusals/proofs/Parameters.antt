@@ -14,12 +14,16 @@ use denote.Laws.{Is}
 use denote.Shadow.{shadow}
 use denote.Array.{each, Array}
 use denote.Struct.Declared.{row}
+use denote.Enum.Declared as enum
 use Rattle.scene.specs.declared.MaskVoice.{MaskVoice}
+use Rattle.scene.specs.declared.Pitch.{Pitch}
+use Rattle.scene.specs.declared.Pitch.the-variants.{Note, Hertz}
 use Rattle.scene.specs.declared.MaskConfig.{MaskConfig}
 use Rattle.scene.specs.Accepted.{noVoice}
 use Rattle.scene.proofs.MaskVoice as voice-type
+use Rattle.scene.proofs.Pitch as pitch-type
 use Rattle.scene.proofs.MaskConfig as config-type
-use Rattle.scene.specs.F32.{F32Voice, F32Settings, F32Voices}
+use Rattle.scene.specs.F32.{F32Pitch, F32Voice, F32Settings, F32Voices}
 
 held : {b : Bool} → b ≡ true → T b
 held e = subst T (sym e) tt
@@ -30,18 +34,23 @@ each-at d f (x ∷ xs) [] s i e h = absurd s
 each-at d f (x ∷ xs) (u ∷ us) s zero e h = (u, s .0)
 each-at d f (x ∷ xs) (u ∷ us) s (suc i) e h = each-at d f xs us (s .1) i e (le-of-suc-le-suc h)
 
--- the fields in their order, after the note
+-- the numbers of a pitch, by its form
+pitch-f32 : (pitch : Pitch) (vs : List Val) → shadow (enum.field pitch-type.the-type .row .own (pitch-type.the-type .to pitch) vs) → F32Pitch pitch
+pitch-f32 (Note note tuning) vs told = held (told .1 .1 .1 .1 .1 .0 .1)
+pitch-f32 (Hertz hertz) vs told = held (told .1 .1 .1 .1 .0 .1)
+
+-- the fields in their order: the first is the pitch
 voice-f32 : (voice : MaskVoice) (vs : List Val) → Is (row voice-type.the-type) voice vs → F32Voice voice
 voice-f32 voice vs told =
     let f = told .1 .1 .1 in
     record {
+      pitch = pitch-f32 (voice .pitch) (told .0 .0) (told .1 .1 .0);
       level = held (f .0 .1);
-      tuning = held (f .1 .0 .1);
-      pressure = held (f .1 .1 .0 .1);
-      timbre = held (f .1 .1 .1 .0 .1);
-      volume = held (f .1 .1 .1 .1 .0 .1);
-      expression = held (f .1 .1 .1 .1 .1 .0 .1);
-      pan = held (f .1 .1 .1 .1 .1 .1 .0 .1);
+      pressure = held (f .1 .0 .1);
+      timbre = held (f .1 .1 .0 .1);
+      volume = held (f .1 .1 .1 .0 .1);
+      expression = held (f .1 .1 .1 .1 .0 .1);
+      pan = held (f .1 .1 .1 .1 .1 .0 .1);
     }
 
 pub voices-f32 : (n : ℕ) (voices : List MaskVoice) (vs : List Val) → Is (Array (row voice-type.the-type) n) voices vs → F32Voices voices

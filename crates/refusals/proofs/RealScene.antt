@@ -53,7 +53,7 @@ module _ (curve : List Float) (voices : List MaskVoice) (count : ℕ) (config : 
   voice-real lengths d f i h =
       let l = length-take count voices in
       let v = subst F32Voice (sym (getD-take count voices i noVoice (omega arith))) (f i (omega arith)) in
-      accepted-real (getD (take count voices) i noVoice) (voice-done voices count lengths d i h) (v .level) (v .tuning) (v .pressure) (v .timbre) (v .volume) (v .expression) (v .pan)
+      accepted-real (getD (take count voices) i noVoice) (voice-done voices count lengths d i h) v
 
   scene : (lengths : Bool) → Done (settingsReply config) → Done (voicesReply voices count lengths) → F32Voices voices → F32Settings config → RealScene voices count config
   scene lengths d e f g =

@@ -5,6 +5,8 @@ use limits::lengths::MOST_VOICES;
 use scene::MaskConfig;
 use scene::MaskVoice;
 use scene::MotionConfig;
+use scene::Pitch;
+use scene::pitches::pitch_of;
 use std::num::wrapping_add_usize;
 
 // The moving field's settings, from four words.
@@ -37,10 +39,10 @@ pub fn config_at(bytes: &[u8], at: usize, past: usize) -> MaskConfig {
 const VOICE_WORDS: usize = 8;
 
 fn default_voice() -> MaskVoice {
+    let pitch = Pitch::Note(0, 0.0);
     MaskVoice {
-        note: 0,
+        pitch,
         level: 0.0,
-        tuning_semitones: 0.0,
         pressure: 1.0,
         timbre: 0.5,
         volume_gain: 1.0,
@@ -49,12 +51,19 @@ fn default_voice() -> MaskVoice {
     }
 }
 
+// The first word is 256 times the form of the pitch and the note, the second its other number.
+fn pitch_at(bytes: &[u8], first: usize) -> Pitch {
+    let form = (list::word(bytes, first, 0) / 256 % 256) as u8;
+    let note = (list::word(bytes, first, 0) % 256) as u8;
+    pitch_of(form, note, list::float(bytes, first, 1))
+}
+
 fn voice_at(bytes: &[u8], at: usize, past: usize) -> MaskVoice {
     let first = wrapping_add_usize(at, past);
+    let pitch = pitch_at(bytes, first);
     MaskVoice {
-        note: (list::word(bytes, first, 0) % 256) as u8,
-        level: list::float(bytes, first, 1),
-        tuning_semitones: list::float(bytes, first, 2),
+        pitch,
+        level: list::float(bytes, first, 2),
         pressure: list::float(bytes, first, 3),
         timbre: list::float(bytes, first, 4),
         volume_gain: list::float(bytes, first, 5),

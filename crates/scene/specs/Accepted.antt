@@ -10,6 +10,8 @@ use Rattle.limits.specs.Limits as limits
 use Rattle.scene.specs.declared.MotionConfig.{MotionConfig}
 use Rattle.scene.specs.declared.MaskConfig.{MaskConfig}
 use Rattle.scene.specs.declared.MaskVoice.{MaskVoice}
+use Rattle.scene.specs.declared.Pitch.{Pitch}
+use Rattle.scene.specs.declared.Pitch.the-variants.{Note, Hertz}
 
 -- "motion depth 0..96 dB; motion phase any finite; motion size 0..100 octaves"; every shape
 unfoldable pub motionAccepted : MotionConfig → Bool
@@ -30,11 +32,16 @@ settingsAccepted config =
     && limits.rolloff (config .«harmonic_rolloff_db_per_octave»))
     && motionAccepted (config .motion))
 
--- "A voice: note 0..127, level 0..1, tuning -48..48 semitones; pressure, timbre, volume, expression
--- and pan any finite"
+-- "note 0..127", "tuning -48..48 semitones"; request 101: "either a note with its semitones, or a
+-- frequency in hertz from 1 to 20,000"
+unfoldable pub pitchAccepted : Pitch → Bool
+pitchAccepted (Note note tuning) = limits.note note && limits.tuning tuning
+pitchAccepted (Hertz hertz) = limits.hertz hertz
+
+-- refusal 5: "A voice: .. level 0..1; pressure, timbre, volume, expression and pan any finite"
 unfoldable pub voiceAccepted : MaskVoice → Bool
 voiceAccepted voice =
-    (limits.note (voice .note) && limits.tuning (voice .«tuning_semitones»))
+    pitchAccepted (voice .pitch)
     && (limits.level (voice .level)
     && (((finite (voice .pressure) && finite (voice .timbre))
     && (finite (voice .«volume_gain») && finite (voice .«expression_gain»)))
@@ -49,9 +56,8 @@ firstVoiceOutside voices count = firstBad (λ index voice. voiceAccepted voice) 
 abbrev pub noVoice : MaskVoice
 noVoice =
     record {
-      note = 0;
+      pitch = Note 0 nan;
       level = nan;
-      «tuning_semitones» = nan;
       pressure = nan;
       timbre = nan;
       «volume_gain» = nan;

@@ -6,15 +6,21 @@ use lib.Dec.{T}
 use lib.ListN.{length, getD}
 use lib.Ieee.{Float, nan, binary32, fits}
 use Rattle.scene.specs.declared.MaskVoice.{MaskVoice}
+use Rattle.scene.specs.declared.Pitch.{Pitch}
+use Rattle.scene.specs.declared.Pitch.the-variants.{Note, Hertz}
 use Rattle.scene.specs.declared.MaskConfig.{MaskConfig}
 use Rattle.scene.specs.Accepted.{noVoice}
 
 abbrev pub F32 : Float → Type 0
 F32 x = T (fits binary32 x)
 
+abbrev pub F32Pitch : Pitch → Type 0
+F32Pitch (Note note tuning) = F32 tuning
+F32Pitch (Hertz hertz) = F32 hertz
+
 pub record F32Voice (voice : MaskVoice) : Type 0 where
+  pub pitch : F32Pitch (voice .pitch)
   pub level : F32 (voice .level)
-  pub tuning : F32 (voice .«tuning_semitones»)
   pub pressure : F32 (voice .pressure)
   pub timbre : F32 (voice .timbre)
   pub volume : F32 (voice .«volume_gain»)

@@ -4,8 +4,10 @@ use Prim.Native.Nat.{ℕ}
 use lib.Dec.{eqb}
 use Rattle.float32.specs.Remainder.{zero}
 use Rattle.scene.specs.declared.MaskVoice.{MaskVoice}
+use Rattle.scene.specs.declared.Pitch.the-variants.{Note}
 use Rattle.scene.specs.declared.MotionShape.{MotionShape}
-use Rattle.scene.specs.declared.MotionShape.the-variants.{Ripple, Harmonic, Drift, Scan, Notch, Saw, Sprinkle, Cloud}
+use Rattle.scene.specs.declared.MotionShape.the-variants.{Ripple, Harmonic, Drift, Scan}
+use Rattle.scene.specs.declared.MotionShape.the-variants.{Notch, Saw, Sprinkle, Cloud}
 
 -- in the Rust's order; a number above 7, which no call accepts, counts as the last
 abbrev pub shapeOf : ℕ → MotionShape
@@ -23,9 +25,8 @@ shapeOf n =
 abbrev pub silentVoice : MaskVoice
 silentVoice =
     record {
-      note = 0;
+      pitch = Note 0 zero;
       level = zero;
-      «tuning_semitones» = zero;
       pressure = zero;
       timbre = zero;
       «volume_gain» = zero;

@@ -4,6 +4,7 @@ ghost use lib.ListN.{length};
 ghost use Rattle.limits.specs.Lengths.{MIDI-NOTES};
 ghost use Rattle.scene.specs.Levels.{levelVoice, voicesOf};
 use crate::MaskVoice;
+use crate::Pitch;
 use crate::silent_voices;
 use limits::lengths::MIDI_NOTES;
 use limits::lengths::MOST_VOICES;
@@ -12,10 +13,10 @@ use limits::lengths::MOST_VOICES;
 fn level_voice(note: u8, level: f32) -> MaskVoice
     ensures { λ r. ⌜ r ≡ levelVoice note level ⌝ }
 {
+    let pitch = Pitch::Note(note, 0.0);
     MaskVoice {
-        note: note,
+        pitch,
         level: level,
-        tuning_semitones: 0.0,
         pressure: 1.0,
         timbre: 0.5,
         volume_gain: 1.0,

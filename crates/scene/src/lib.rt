@@ -1,5 +1,6 @@
 // Voices and settings as plain values, and which of them are accepted.
 pub mod levels;
+pub mod pitches;
 
 ghost use mathlib.Core.Path.{_≡_};
 ghost use mathlib.Core.Bool.{_&&_};
@@ -11,15 +12,18 @@ ghost use Rattle.scene.specs.Accepted.{voiceAccepted, firstVoiceOutside}
 ghost use Rattle.scene.specs.Made.{shapeOf, silentVoice};
 use limits::lengths::MOST_VOICES;
 
-// A held note with its expression. It has C's layout, so that a slice of voices can be passed from
-// other languages.
-#[repr(C)]
+// A pitch by number or by hertz: a note, with an offset in semitones from its equal-tempered pitch;
+// or a frequency, which is then the fundamental itself.
+pub enum Pitch {
+    Note(u8, f32),
+    Hertz(f32),
+}
+
+// A held pitch with its expression.
 pub struct MaskVoice {
-    pub note: u8,
+    pub pitch: Pitch,
     // Note envelope level; 0 contributes nothing.
     pub level: f32,
-    // Offset in semitones from the equal-tempered pitch of `note`.
-    pub tuning_semitones: f32,
     pub pressure: f32,
     // Harmonic tilt from 0 to 1. 0.5 keeps the configured rolloff; lower values darken the partials
     // and higher values brighten them.
@@ -87,10 +91,10 @@ pub fn shape_of(number: u32) -> MotionShape
 pub fn silent_voices() -> [MaskVoice; MOST_VOICES]
     ensures { λ r. ⌜ r ≡ replicate MOST-VOICES silentVoice ⌝ }
 {
+    let pitch = Pitch::Note(0, 0.0f32);
     let voice = MaskVoice {
-        note: 0,
+        pitch,
         level: 0.0f32,
-        tuning_semitones: 0.0f32,
         pressure: 0.0f32,
         timbre: 0.0f32,
         volume_gain: 0.0f32,
@@ -146,10 +150,7 @@ pub fn settings_accepted(config: MaskConfig) -> bool
 pub fn voice_accepted(voice: MaskVoice) -> bool
     ensures { λ r. ⌜ r ≡ voiceAccepted voice ⌝ }
 {
-    let pitch = both(
-        limits::note(voice.note),
-        limits::tuning(voice.tuning_semitones),
-    );
+    let pitch = voice.pitch;
     let touch = both(
         float32::order::is_finite(voice.pressure),
         float32::order::is_finite(voice.timbre),
@@ -159,7 +160,10 @@ pub fn voice_accepted(voice: MaskVoice) -> bool
         float32::order::is_finite(voice.expression_gain),
     );
     let sound = both(both(touch, gains), float32::order::is_finite(voice.pan));
-    both(pitch, both(limits::level(voice.level), sound))
+    both(
+        pitches::accepted(pitch),
+        both(limits::level(voice.level), sound),
+    )
 }
 
 // The lowest index of a voice outside its limits, or `count` if there is none. Voices past the

@@ -11,32 +11,35 @@ ghost use Rattle.mask_builder.specs.Mask.{maskOf};
 ghost use Rattle.refusals.specs.Masks.{maskReply, voicesMaskReply, tabledMaskReply, stereoReply};
 ghost use Rattle.crossing.specs.Given.{Given};
 ghost use Rattle.crossing.specs.MaskSettings.{configOf, withSettings};
+ghost use Rattle.crossing_voices.specs.VoiceRecords.{recordVoices};
 use crossing::answers::give_outcome;
 use crossing::settings::Settings;
 use crossing::settings::config_of;
 use crossing::settings::shape_refused;
-use scene::MaskVoice;
+use crossing_voices::VoiceRecord;
 
 #[no_mangle]
 pub extern "C" fn dovetable_build_mask_with_voices(
     output: &mut [f32],
     manual_mask_db: &[f32],
-    voices: &[MaskVoice],
+    voices: &[VoiceRecord],
     settings: Settings,
     place: &mut usize,
 ) -> u32
     ensures { λ r. ⌜ Given (withSettings settings (λ config. voicesMaskReply
-        (length (now (output .entry))) (now («manual_mask_db» .entry)) (now (voices .entry))
-        (length (now (voices .entry))) config)) r (now (place .entry)) (now (place .exit)) ⌝ }
+        (length (now (output .entry))) (now («manual_mask_db» .entry))
+        (recordVoices (now (voices .entry))) (length (now (voices .entry))) config)) r
+        (now (place .entry)) (now (place .exit)) ⌝ }
     ensures { λ _. ⌜ now (output .exit) ≡ written (withSettings settings (λ config. voicesMaskReply
-        (length (now (output .entry))) (now («manual_mask_db» .entry)) (now (voices .entry))
-        (length (now (voices .entry))) config)) (maskOf (now («manual_mask_db» .entry))
-        (configOf settings) none side.mono (now (voices .entry))) (now (output .entry)) ⌝ }
+        (length (now (output .entry))) (now («manual_mask_db» .entry))
+        (recordVoices (now (voices .entry))) (length (now (voices .entry))) config)) (maskOf
+        (now («manual_mask_db» .entry)) (configOf settings) none side.mono
+        (recordVoices (now (voices .entry)))) (now (output .entry)) ⌝ }
 {
     crossing_masks::mono(
         output,
         manual_mask_db,
-        lent_voices::gather(voices),
+        crossing_voices::gather(voices),
         voices.len(),
         settings,
         place,
@@ -47,25 +50,26 @@ pub extern "C" fn dovetable_build_mask_with_voices(
 pub extern "C" fn dovetable_build_mask_with_voices_precomputed(
     output: &mut [f32],
     manual_mask_db: &[f32],
-    voices: &[MaskVoice],
+    voices: &[VoiceRecord],
     settings: Settings,
     table: &[f32],
     place: &mut usize,
 ) -> u32
     ensures { λ r. ⌜ Given (withSettings settings (λ config. tabledMaskReply
-        (length (now (output .entry))) (now («manual_mask_db» .entry)) (now (voices .entry))
-        (length (now (voices .entry))) config (now (table .entry)))) r (now (place .entry))
-        (now (place .exit)) ⌝ }
+        (length (now (output .entry))) (now («manual_mask_db» .entry))
+        (recordVoices (now (voices .entry))) (length (now (voices .entry))) config
+        (now (table .entry)))) r (now (place .entry)) (now (place .exit)) ⌝ }
     ensures { λ _. ⌜ now (output .exit) ≡ written (withSettings settings (λ config. tabledMaskReply
-        (length (now (output .entry))) (now («manual_mask_db» .entry)) (now (voices .entry))
-        (length (now (voices .entry))) config (now (table .entry)))) (maskOf
-        (now («manual_mask_db» .entry)) (configOf settings) (lent (now (table .entry))) side.mono
-        (now (voices .entry))) (now (output .entry)) ⌝ }
+        (length (now (output .entry))) (now («manual_mask_db» .entry))
+        (recordVoices (now (voices .entry))) (length (now (voices .entry))) config
+        (now (table .entry)))) (maskOf (now («manual_mask_db» .entry)) (configOf settings)
+        (lent (now (table .entry))) side.mono (recordVoices (now (voices .entry))))
+        (now (output .entry)) ⌝ }
 {
     crossing_masks::tabled(
         output,
         manual_mask_db,
-        lent_voices::gather(voices),
+        crossing_voices::gather(voices),
         voices.len(),
         settings,
         table,
@@ -78,31 +82,33 @@ pub extern "C" fn dovetable_build_stereo_masks_with_voices_precomputed(
     left: &mut [f32],
     right: &mut [f32],
     manual_mask_db: &[f32],
-    voices: &[MaskVoice],
+    voices: &[VoiceRecord],
     settings: Settings,
     table: &[f32],
     place: &mut usize,
 ) -> u32
     ensures { λ r. ⌜ Given (withSettings settings (λ config. stereoReply
         (length (now (left .entry))) (length (now (right .entry))) (now («manual_mask_db» .entry))
-        (now (voices .entry)) (length (now (voices .entry)))
-        config (now (table .entry)))) r (now (place .entry)) (now (place .exit)) ⌝ }
+        (recordVoices (now (voices .entry))) (length (now (voices .entry))) config
+        (now (table .entry)))) r (now (place .entry)) (now (place .exit)) ⌝ }
     ensures { λ _. ⌜ now (left .exit) ≡ written (withSettings settings (λ config. stereoReply
         (length (now (left .entry))) (length (now (right .entry))) (now («manual_mask_db» .entry))
-        (now (voices .entry)) (length (now (voices .entry))) config (now (table .entry)))) (maskOf
-        (now («manual_mask_db» .entry)) (configOf settings) (lent (now (table .entry))) side.left
-        (now (voices .entry))) (now (left .entry)) ⌝ }
+        (recordVoices (now (voices .entry))) (length (now (voices .entry))) config
+        (now (table .entry)))) (maskOf (now («manual_mask_db» .entry)) (configOf settings)
+        (lent (now (table .entry))) side.left (recordVoices (now (voices .entry))))
+        (now (left .entry)) ⌝ }
     ensures { λ _. ⌜ now (right .exit) ≡ written (withSettings settings (λ config. stereoReply
         (length (now (left .entry))) (length (now (right .entry))) (now («manual_mask_db» .entry))
-        (now (voices .entry)) (length (now (voices .entry))) config (now (table .entry)))) (maskOf
-        (now («manual_mask_db» .entry)) (configOf settings) (lent (now (table .entry))) side.right
-        (now (voices .entry))) (now (right .entry)) ⌝ }
+        (recordVoices (now (voices .entry))) (length (now (voices .entry))) config
+        (now (table .entry)))) (maskOf (now («manual_mask_db» .entry)) (configOf settings)
+        (lent (now (table .entry))) side.right (recordVoices (now (voices .entry))))
+        (now (right .entry)) ⌝ }
 {
     crossing_masks::stereo(
         left,
         right,
         manual_mask_db,
-        lent_voices::gather(voices),
+        crossing_voices::gather(voices),
         voices.len(),
         settings,
         table,
@@ -115,36 +121,36 @@ pub extern "C" fn dovetable_build_stereo_masks_with_prepared_spectrum(
     left: &mut [f32],
     right: &mut [f32],
     manual_mask_db: &[f32],
-    voices: &[MaskVoice],
+    voices: &[VoiceRecord],
     settings: Settings,
     block: &[f32],
     place: &mut usize,
 ) -> u32
     ensures { λ r. ⌜ Given (withSettings settings (λ config. stereoReply
         (length (now (left .entry))) (length (now (right .entry))) (now («manual_mask_db» .entry))
-        (now (voices .entry)) (length (now (voices .entry))) config
+        (recordVoices (now (voices .entry))) (length (now (voices .entry))) config
         (drop (4 * config .«fft_size») (now (block .entry))))) r (now (place .entry))
         (now (place .exit)) ⌝ }
     ensures { λ _. ⌜ now (left .exit) ≡ written (withSettings settings (λ config. stereoReply
         (length (now (left .entry))) (length (now (right .entry))) (now («manual_mask_db» .entry))
-        (now (voices .entry)) (length (now (voices .entry))) config
+        (recordVoices (now (voices .entry))) (length (now (voices .entry))) config
         (drop (4 * config .«fft_size») (now (block .entry))))) (maskOf
         (now («manual_mask_db» .entry)) (configOf settings)
         (lent (drop (4 * settings .«fft_size») (now (block .entry)))) side.left
-        (now (voices .entry))) (now (left .entry)) ⌝ }
+        (recordVoices (now (voices .entry)))) (now (left .entry)) ⌝ }
     ensures { λ _. ⌜ now (right .exit) ≡ written (withSettings settings (λ config. stereoReply
         (length (now (left .entry))) (length (now (right .entry))) (now («manual_mask_db» .entry))
-        (now (voices .entry)) (length (now (voices .entry))) config
+        (recordVoices (now (voices .entry))) (length (now (voices .entry))) config
         (drop (4 * config .«fft_size») (now (block .entry))))) (maskOf
         (now («manual_mask_db» .entry)) (configOf settings)
         (lent (drop (4 * settings .«fft_size») (now (block .entry)))) side.right
-        (now (voices .entry))) (now (right .entry)) ⌝ }
+        (recordVoices (now (voices .entry)))) (now (right .entry)) ⌝ }
 {
     crossing_masks::prepared(
         left,
         right,
         manual_mask_db,
-        lent_voices::gather(voices),
+        crossing_voices::gather(voices),
         voices.len(),
         settings,
         block,

@@ -58,9 +58,10 @@ use Rattle.mask_calls.proofs.build_stereo_masks_with_voices_precomputed as core
 use Rattle.mask_calls.proofs.build_stereo_masks_with_voices_precomputed.Symbol as core-def
 use Rattle.mask_calls.proofs.build_stereo_masks_with_voices_precomputed.Symbol.{name as #core}
 use Rattle.mask_calls.proofs.build_stereo_masks_with_voices_precomputed.Met as core-thm
-use Rattle.lent_voices.specs.Gathered.{gathered}
+use Rattle.scene.specs.Gathered.{gathered}
 use Rattle.lent_voices.proofs.Heard.{stereo-same, stereo-few, written-same}
-use Rattle.lent_voices.proofs.Lent.{R, AR, a-makes, a-typed, Gather, gather-to, gather-asked, gather-said}
+use Rattle.lent_voices.proofs.Filled.{R, AR, a-makes, a-typed}
+use Rattle.lent_voices.proofs.Lent.{Gather, gather-to, gather-asked, gather-said}
 use Rattle.lent_voices.proofs.gather as gather
 use Rattle.lent_voices.proofs.gather.Symbol as gather-def
 use Rattle.lent_voices.proofs.gather.Symbol.{name as #gather}
@@ -212,7 +213,7 @@ module _ {M : Type 1} (𝓤 : URA M) (H : Heap 𝓤) (A : Atoms 𝓤) (W : Given
         land ! (from ! (stop !)) (init ! 33 refl (EL.lawful D.the-type D′.the-laws 𝓤 H A W tt .typed d _ is .0)) $
         returns ! (look ! 33 refl) $ forget ! 33 refl $ forget ! 31 refl $ forget ! 29 refl $ forget ! 27 refl $ forget ! 25 refl $ forget ! 23 refl $ forget ! 21 refl $ forget ! 19 refl $ forget ! 17 refl $ forget ! 15 refl $ forget ! 13 refl $ forget ! 11 refl $ forget ! 9 refl $
         move ! (33 ∷ 34 ∷ []) $ free1 ! $ move ! (31 ∷ 32 ∷ []) $ free1 ! $ move ! (29 ∷ 30 ∷ []) $ free1 ! $ move ! (27 ∷ 28 ∷ []) $ free1 ! $ move ! (25 ∷ 26 ∷ []) $ free1 ! $ move ! (23 ∷ 24 ∷ []) $ free1 ! $ move ! (21 ∷ 22 ∷ []) $ free1 ! $ move ! (19 ∷ 20 ∷ []) $ free1 ! $ move ! (17 ∷ 18 ∷ []) $ free1 ! $ move ! (15 ∷ 16 ∷ []) $ free1 ! $ move ! (13 ∷ 14 ∷ []) $ free1 ! $ move ! (11 ∷ 12 ∷ []) $ free1 ! $ move ! (9 ∷ 10 ∷ []) $ free1 ! $ free0 ! $
-        keep ! (0 ∷ 1 ∷ 3 ∷ 2 ∷ 5 ∷ 7 ∷ 8 ∷ 4 ∷ 6 ∷ []) $ by ! (exits d w (zs .0) (zs .1 .0) (e₁ ∙ stereo-same ys (length (x₀ .now)) (length (x₁ .now)) (x₂ .now) c (x₅ .now)) (e₂ ∙ written-same ys left-mask (x₀ .now) (ofOutcome d) (λ t. stereo-few ys (length (x₀ .now)) (length (x₁ .now)) (x₂ .now) c (x₅ .now) (subst Done e₁ t))) (e₃ ∙ written-same ys right-mask (x₁ .now) (ofOutcome d) (λ t. stereo-few ys (length (x₀ .now)) (length (x₁ .now)) (x₂ .now) c (x₅ .now) (subst Done e₁ t))) l₀ l₁)))))))))))))))))))))))))))
+        keep ! (0 ∷ 1 ∷ 3 ∷ 2 ∷ 5 ∷ 7 ∷ 8 ∷ 4 ∷ 6 ∷ []) $ by ! (exits d w (zs .0) (zs .1 .0) (e₁ ∙ stereo-same ys n refl (length (x₀ .now)) (length (x₁ .now)) (x₂ .now) c (x₅ .now)) (e₂ ∙ written-same ys n refl left-mask (x₀ .now) (ofOutcome d) (λ t. stereo-few ys n refl (length (x₀ .now)) (length (x₁ .now)) (x₂ .now) c (x₅ .now) (subst Done e₁ t))) (e₃ ∙ written-same ys n refl right-mask (x₁ .now) (ofOutcome d) (λ t. stereo-few ys n refl (length (x₀ .now)) (length (x₁ .now)) (x₂ .now) c (x₅ .now) (subst Done e₁ t))) l₀ l₁)))))))))))))))))))))))))))
 
 module _ {M : Type 1} (𝓤 : URA M) (H : Heap 𝓤) (A : Atoms 𝓤) (W : Given 𝓤 H A) (mem : Memory → SProp 𝓤) (run : Routine → Fun 𝓤) (𝓣 : Tables 𝓤 H) (known-gather : Triple 𝓤 (𝓣 .C #gather) (Gather 𝓤 H A mem run)) (known-core : Triple 𝓤 (𝓣 .C #core) (Core 𝓤 H A mem run)) where
   walks : Walks 𝓤 H A f.ended stayed (WpFn 𝓤 H (𝓣 .C) (𝓣 .Λ) code.function) (f.clauses 𝓤 H A mem run)

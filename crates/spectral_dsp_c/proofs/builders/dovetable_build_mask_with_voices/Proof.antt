@@ -3,7 +3,7 @@
 -- gives, to `mono`.
 -- What is lent to be written is given up to that call for good, at its own lifetime; the other
 -- slices are Copy, and one copy of each is kept for the exit. Assumes nothing.
-use mathlib.Core.Path.{_≡_, refl, _∙_, subst}
+use mathlib.Core.Path.{_≡_, refl, sym, _∙_, subst}
 use Prim.Native.Nat.{ℕ}
 use mathlib.Core.List.{List, [], _∷_}
 use lib.ListN.{length, take}
@@ -58,13 +58,17 @@ use Rattle.crossing_masks.proofs.mono as core
 use Rattle.crossing_masks.proofs.mono.Symbol as core-def
 use Rattle.crossing_masks.proofs.mono.Symbol.{name as #core}
 use Rattle.crossing_masks.proofs.mono.Met as core-thm
-use Rattle.lent_voices.specs.Gathered.{gathered}
+use Rattle.scene.specs.Gathered.{gathered}
+use Rattle.lent_voices.proofs.Filled.{AR, a-makes, a-typed}
+use Rattle.crossing_voices.specs.declared.VoiceRecord.{VoiceRecord}
+use Rattle.crossing_voices.specs.VoiceRecords.{recordVoices}
 use Rattle.lent_voices.proofs.Heard.{mono-same, mono-few, written-same}
-use Rattle.lent_voices.proofs.Lent.{R, AR, a-makes, a-typed, Gather, gather-to, gather-asked, gather-said}
-use Rattle.lent_voices.proofs.gather as gather
-use Rattle.lent_voices.proofs.gather.Symbol as gather-def
-use Rattle.lent_voices.proofs.gather.Symbol.{name as #gather}
-use Rattle.lent_voices.proofs.gather.Met as gather-thm
+use Rattle.crossing_voices.proofs.RecordVoices.{length-voices}
+use Rattle.crossing_voices.proofs.Records.{R, Gather, gather-to, gather-asked, gather-said}
+use Rattle.crossing_voices.proofs.gather as gather
+use Rattle.crossing_voices.proofs.gather.Symbol as gather-def
+use Rattle.crossing_voices.proofs.gather.Symbol.{name as #gather}
+use Rattle.crossing_voices.proofs.gather.Met as gather-thm
 use Rattle.spectral_dsp_c.proofs.builders.dovetable_build_mask_with_voices.Key.{name as #self}
 use Rattle.spectral_dsp_c.proofs.builders.dovetable_build_mask_with_voices as f
 use Rattle.spectral_dsp_c.proofs.builders.dovetable_build_mask_with_voices.Statement as stated
@@ -78,7 +82,7 @@ module _ {M : Type 1} (𝓤 : URA M) (H : Heap 𝓤) (A : Atoms 𝓤) (mem : Mem
   Core = tripleOf 𝓤 H A core.signature (core.spec 𝓤 H A mem run)
 
 module _ {M : Type 1} (𝓤 : URA M) (H : Heap 𝓤) (A : Atoms 𝓤) (W : Given 𝓤 H A) (mem : Memory → SProp 𝓤) (run : Routine → Fun 𝓤) (κ₀ κ₁ κ₂ κ₃ : Lft) (q₀ q₁ q₂ q₃ : Share)
-    (x₀ : RefT (List Float)) (x₁ : RefT (List Float)) (x₂ : RefT (List MaskVoice)) (c : Settings) (x₄ : RefT ℕ) where
+    (x₀ : RefT (List Float)) (x₁ : RefT (List Float)) (x₂ : RefT (List VoiceRecord)) (c : Settings) (x₄ : RefT ℕ) where
   abbrev s₀ : Val
   s₀ = sliceVal (x₀ .ptr) (length (x₀ .now))
 
@@ -94,14 +98,20 @@ module _ {M : Type 1} (𝓤 : URA M) (H : Heap 𝓤) (A : Atoms 𝓤) (W : Given
   abbrev s₄ : Val
   s₄ = vptr (x₄ .ptr .0) (x₄ .ptr .1)
 
-  abbrev ys : List MaskVoice
+  abbrev ys : List VoiceRecord
   ys = x₂ .now
+
+  abbrev vs : List MaskVoice
+  vs = recordVoices ys
 
   abbrev n : ℕ
   n = length ys
 
+  counted : n ≡ length vs
+  counted = sym (length-voices ys)
+
   abbrev got : List MaskVoice
-  got = gathered ys
+  got = gathered vs
 
   abbrev O₀ : Fml
   O₀ = MutSlice (named 0) κ₀ f32 .own x₀ (s₀ ∷ [])
@@ -140,12 +150,12 @@ module _ {M : Type 1} (𝓤 : URA M) (H : Heap 𝓤) (A : Atoms 𝓤) (W : Given
   abbrev Output : List MaskVoice → List MaskVoice → ℕ → List Float → Type 0
   Output array voices r z₀ = z₀ ≡ written (reply array) (mask voices) (x₀ .now)
 
-  exits : (r : ℕ) (w : Val) (z₀ : List Float) (z₄ : ℕ) → Answer ys r z₄ → Output ys ys r z₀ → length z₀ ≡ length (x₀ .now)
+  exits : (r : ℕ) (w : Val) (z₀ : List Float) (z₄ : ℕ) → Answer vs r z₄ → Output vs vs r z₀ → length z₀ ≡ length (x₀ .now)
       → ent 𝓤 (⋆ 𝓤 H A (‵ (u32 .own r (w ∷ [])) ∷ (‵ (flft κ₀ q₀) ⊛ (‵ (flft κ₁ q₁) ⊛ (‵ (flft κ₃ q₃) ⊛ ‵ ftrue))) ∷ ‵ (finally f32 (x₀ .name) z₀) ∷ ‵ (fres (x₄ .name) (usize .coded .code z₄)) ∷ ‵ O₁ ∷ ‵ O₂ ∷ ‵ O₃ ∷ ‵ (flft κ₂ q₂) ∷ [])) (Post w)
   exits r w z₀ z₄ e₁ e₂ l₀ =
       qed W (‵ (u32 .own r (w ∷ [])) ∷ (‵ (flft κ₀ q₀) ⊛ (‵ (flft κ₁ q₁) ⊛ (‵ (flft κ₃ q₃) ⊛ ‵ ftrue))) ∷ ‵ (finally f32 (x₀ .name) z₀) ∷ ‵ (fres (x₄ .name) (usize .coded .code z₄)) ∷ ‵ O₁ ∷ ‵ O₂ ∷ ‵ O₃ ∷ ‵ (flft κ₂ q₂) ∷ []) ∵
       suffices ! _ (ends-at 𝓤 H A f.ended stayed (f.clauses 𝓤 H A mem run) W (((κ₀, (κ₁, (κ₂, (κ₃, tt)))), (q₀, (q₁, (q₂, (q₃, tt)))), tt, (x₀, (x₁, (x₂, (c, (x₄, tt))))), at), tt) w r (z₀, (tt, (tt, (tt, (z₄, tt))))) (l₀, (tt, (tt, (tt, (tt, tt)))))) $
-      move ! (1 ∷ []) $ split ! $ move ! (1 ∷ []) $ split ! $ move ! (1 ∷ []) $ split ! $ join ! $ move ! (9 ∷ 0 ∷ []) $ join ! $ move ! (1 ∷ 0 ∷ []) $ join ! $ move ! (1 ∷ 0 ∷ []) $ join ! $ nothing ! $ move ! (4 ∷ 0 ∷ []) $ fjoin ! $ move ! (6 ∷ 0 ∷ []) $ fjoin ! $ move ! (5 ∷ 0 ∷ []) $ fjoin ! $ move ! (4 ∷ 0 ∷ []) $ fjoin ! $ move ! (3 ∷ 0 ∷ []) $ fjoin ! $ move ! (0 ∷ 2 ∷ []) $ join ! $ move ! (1 ∷ 0 ∷ []) $ join ! $ use0 W (raw (fact 𝓤 (Output ys ys r z₀))) (factI 𝓤 (Output ys ys r z₀) (emp 𝓤) e₂) $ use0 W (raw (fact 𝓤 (Answer ys r z₄))) (factI 𝓤 (Answer ys r z₄) (emp 𝓤) e₁) $ join ! $ move ! (1 ∷ 0 ∷ []) $ frame ! $ done !
+      move ! (1 ∷ []) $ split ! $ move ! (1 ∷ []) $ split ! $ move ! (1 ∷ []) $ split ! $ join ! $ move ! (9 ∷ 0 ∷ []) $ join ! $ move ! (1 ∷ 0 ∷ []) $ join ! $ move ! (1 ∷ 0 ∷ []) $ join ! $ nothing ! $ move ! (4 ∷ 0 ∷ []) $ fjoin ! $ move ! (6 ∷ 0 ∷ []) $ fjoin ! $ move ! (5 ∷ 0 ∷ []) $ fjoin ! $ move ! (4 ∷ 0 ∷ []) $ fjoin ! $ move ! (3 ∷ 0 ∷ []) $ fjoin ! $ move ! (0 ∷ 2 ∷ []) $ join ! $ move ! (1 ∷ 0 ∷ []) $ join ! $ use0 W (raw (fact 𝓤 (Output vs vs r z₀))) (factI 𝓤 (Output vs vs r z₀) (emp 𝓤) e₂) $ use0 W (raw (fact 𝓤 (Answer vs r z₄))) (factI 𝓤 (Answer vs r z₄) (emp 𝓤) e₁) $ join ! $ move ! (1 ∷ 0 ∷ []) $ frame ! $ done !
 
   module _ (u : Val) where
     abbrev core-to : Core 𝓤 H A mem run .Ghost
@@ -195,7 +205,7 @@ module _ {M : Type 1} (𝓤 : URA M) (H : Heap 𝓤) (A : Atoms 𝓤) (W : Given
         land ! (from ! (stop !)) (init ! 28 refl (uint-lawful 𝓤 H A W w32 .typed d (w ∷ []) is .0)) $
         returns ! (look ! 28 refl) $ forget ! 28 refl $ forget ! 26 refl $ forget ! 24 refl $ forget ! 22 refl $ forget ! 20 refl $ forget ! 18 refl $ forget ! 16 refl $ forget ! 14 refl $ forget ! 12 refl $ forget ! 10 refl $ forget ! 8 refl $
         move ! (28 ∷ 29 ∷ []) $ free1 ! $ move ! (26 ∷ 27 ∷ []) $ free1 ! $ move ! (24 ∷ 25 ∷ []) $ free1 ! $ move ! (22 ∷ 23 ∷ []) $ free1 ! $ move ! (20 ∷ 21 ∷ []) $ free1 ! $ move ! (18 ∷ 19 ∷ []) $ free1 ! $ move ! (16 ∷ 17 ∷ []) $ free1 ! $ move ! (14 ∷ 15 ∷ []) $ free1 ! $ move ! (12 ∷ 13 ∷ []) $ free1 ! $ move ! (10 ∷ 11 ∷ []) $ free1 ! $ move ! (8 ∷ 9 ∷ []) $ free1 ! $ free0 ! $
-        keep ! (0 ∷ 1 ∷ 3 ∷ 2 ∷ 4 ∷ 6 ∷ 7 ∷ 5 ∷ []) $ by ! (exits d w (zs .0) (zs .1 .1 .1 .1 .1 .0) (given (with-same c _ _ (λ config. mono-same ys (length (x₀ .now)) (x₁ .now) config)) e₁) (left _ _ (with-same c _ _ (λ config. mono-same ys (length (x₀ .now)) (x₁ .now) config)) (e₂ ∙ written-same ys mask (x₀ .now) (reply got) (λ t. mono-few ys (length (x₀ .now)) (x₁ .now) (configOf c) (with-done c _ t)))) l₀)))))))))))))))))))))))
+        keep ! (0 ∷ 1 ∷ 3 ∷ 2 ∷ 4 ∷ 6 ∷ 7 ∷ 5 ∷ []) $ by ! (exits d w (zs .0) (zs .1 .1 .1 .1 .1 .0) (given (with-same c _ _ (λ config. mono-same vs n counted (length (x₀ .now)) (x₁ .now) config)) e₁) (left _ _ (with-same c _ _ (λ config. mono-same vs n counted (length (x₀ .now)) (x₁ .now) config)) (e₂ ∙ written-same vs n counted mask (x₀ .now) (reply got) (λ t. mono-few vs n counted (length (x₀ .now)) (x₁ .now) (configOf c) (with-done c _ t)))) l₀)))))))))))))))))))))))
 
 module _ {M : Type 1} (𝓤 : URA M) (H : Heap 𝓤) (A : Atoms 𝓤) (W : Given 𝓤 H A) (mem : Memory → SProp 𝓤) (run : Routine → Fun 𝓤) (𝓣 : Tables 𝓤 H) (known-gather : Triple 𝓤 (𝓣 .C #gather) (Gather 𝓤 H A mem run)) (known-core : Triple 𝓤 (𝓣 .C #core) (Core 𝓤 H A mem run)) where
   walks : Walks 𝓤 H A f.ended stayed (WpFn 𝓤 H (𝓣 .C) (𝓣 .Λ) code.function) (f.clauses 𝓤 H A mem run)
@@ -216,5 +226,5 @@ dovetable-build-mask-with-voices-spec 𝓤 H 𝓜 𝓖 𝓡 =
     entered 𝓤 H (tripleOf 𝓤 H (𝓖 .A) f.signature (f.spec 𝓤 H (𝓖 .A) (𝓜 .mem) (𝓡 .run)))
     (tables 𝓤 H 𝓜 𝓡 code.env .C) (tables 𝓤 H 𝓜 𝓡 code.env .Λ) #self code.function (code.unfolded 𝓤 H 𝓜 𝓡)
     (meets 𝓤 H (𝓖 .A) (givenOf 𝓤 H 𝓜 𝓖) (𝓜 .mem) (𝓡 .run) (tablesOf 𝓤 H 𝓜 (tables 𝓤 H 𝓜 𝓡 code.env))
-    (cited 𝓤 H (Gather 𝓤 H (𝓖 .A) (𝓜 .mem) (𝓡 .run)) 𝓜 𝓡 code.env #gather gather-def.routine code.calls-lent-voices·gather (gather-thm.met 𝓤 H 𝓜 𝓖 𝓡))
+    (cited 𝓤 H (Gather 𝓤 H (𝓖 .A) (𝓜 .mem) (𝓡 .run)) 𝓜 𝓡 code.env #gather gather-def.routine code.calls-crossing-voices·gather (gather-thm.met 𝓤 H 𝓜 𝓖 𝓡))
     (cited 𝓤 H (Core 𝓤 H (𝓖 .A) (𝓜 .mem) (𝓡 .run)) 𝓜 𝓡 code.env #core core-def.routine code.calls-crossing-masks·mono (core-thm.met 𝓤 H 𝓜 𝓖 𝓡)))

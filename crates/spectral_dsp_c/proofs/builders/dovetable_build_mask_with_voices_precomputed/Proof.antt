@@ -3,7 +3,7 @@
 -- that it gives, to `tabled`.
 -- What is lent to be written is given up to that call for good, at its own lifetime; the other
 -- slices are Copy, and one copy of each is kept for the exit. Assumes nothing.
-use mathlib.Core.Path.{_≡_, refl, _∙_, subst}
+use mathlib.Core.Path.{_≡_, refl, sym, _∙_, subst}
 use Prim.Native.Nat.{ℕ}
 use mathlib.Core.List.{List, [], _∷_}
 use lib.ListN.{length, take}
@@ -58,13 +58,17 @@ use Rattle.crossing_masks.proofs.tabled as core
 use Rattle.crossing_masks.proofs.tabled.Symbol as core-def
 use Rattle.crossing_masks.proofs.tabled.Symbol.{name as #core}
 use Rattle.crossing_masks.proofs.tabled.Met as core-thm
-use Rattle.lent_voices.specs.Gathered.{gathered}
+use Rattle.scene.specs.Gathered.{gathered}
+use Rattle.lent_voices.proofs.Filled.{AR, a-makes, a-typed}
+use Rattle.crossing_voices.specs.declared.VoiceRecord.{VoiceRecord}
+use Rattle.crossing_voices.specs.VoiceRecords.{recordVoices}
 use Rattle.lent_voices.proofs.Heard.{tabled-same, tabled-few, written-same}
-use Rattle.lent_voices.proofs.Lent.{R, AR, a-makes, a-typed, Gather, gather-to, gather-asked, gather-said}
-use Rattle.lent_voices.proofs.gather as gather
-use Rattle.lent_voices.proofs.gather.Symbol as gather-def
-use Rattle.lent_voices.proofs.gather.Symbol.{name as #gather}
-use Rattle.lent_voices.proofs.gather.Met as gather-thm
+use Rattle.crossing_voices.proofs.RecordVoices.{length-voices}
+use Rattle.crossing_voices.proofs.Records.{R, Gather, gather-to, gather-asked, gather-said}
+use Rattle.crossing_voices.proofs.gather as gather
+use Rattle.crossing_voices.proofs.gather.Symbol as gather-def
+use Rattle.crossing_voices.proofs.gather.Symbol.{name as #gather}
+use Rattle.crossing_voices.proofs.gather.Met as gather-thm
 use Rattle.spectral_dsp_c.proofs.builders.dovetable_build_mask_with_voices_precomputed.Key.{name as #self}
 use Rattle.spectral_dsp_c.proofs.builders.dovetable_build_mask_with_voices_precomputed as f
 use Rattle.spectral_dsp_c.proofs.builders.dovetable_build_mask_with_voices_precomputed.Statement as stated
@@ -78,7 +82,7 @@ module _ {M : Type 1} (𝓤 : URA M) (H : Heap 𝓤) (A : Atoms 𝓤) (mem : Mem
   Core = tripleOf 𝓤 H A core.signature (core.spec 𝓤 H A mem run)
 
 module _ {M : Type 1} (𝓤 : URA M) (H : Heap 𝓤) (A : Atoms 𝓤) (W : Given 𝓤 H A) (mem : Memory → SProp 𝓤) (run : Routine → Fun 𝓤) (κ₀ κ₁ κ₂ κ₃ κ₄ : Lft) (q₀ q₁ q₂ q₃ q₄ : Share)
-    (x₀ : RefT (List Float)) (x₁ : RefT (List Float)) (x₂ : RefT (List MaskVoice)) (c : Settings) (x₄ : RefT (List Float)) (x₅ : RefT ℕ) where
+    (x₀ : RefT (List Float)) (x₁ : RefT (List Float)) (x₂ : RefT (List VoiceRecord)) (c : Settings) (x₄ : RefT (List Float)) (x₅ : RefT ℕ) where
   abbrev s₀ : Val
   s₀ = sliceVal (x₀ .ptr) (length (x₀ .now))
 
@@ -97,14 +101,20 @@ module _ {M : Type 1} (𝓤 : URA M) (H : Heap 𝓤) (A : Atoms 𝓤) (W : Given
   abbrev s₅ : Val
   s₅ = vptr (x₅ .ptr .0) (x₅ .ptr .1)
 
-  abbrev ys : List MaskVoice
+  abbrev ys : List VoiceRecord
   ys = x₂ .now
+
+  abbrev vs : List MaskVoice
+  vs = recordVoices ys
 
   abbrev n : ℕ
   n = length ys
 
+  counted : n ≡ length vs
+  counted = sym (length-voices ys)
+
   abbrev got : List MaskVoice
-  got = gathered ys
+  got = gathered vs
 
   abbrev O₀ : Fml
   O₀ = MutSlice (named 0) κ₀ f32 .own x₀ (s₀ ∷ [])
@@ -146,12 +156,12 @@ module _ {M : Type 1} (𝓤 : URA M) (H : Heap 𝓤) (A : Atoms 𝓤) (W : Given
   abbrev Output : List MaskVoice → List MaskVoice → ℕ → List Float → Type 0
   Output array voices r z₀ = z₀ ≡ written (reply array) (mask voices) (x₀ .now)
 
-  exits : (r : ℕ) (w : Val) (z₀ : List Float) (z₅ : ℕ) → Answer ys r z₅ → Output ys ys r z₀ → length z₀ ≡ length (x₀ .now)
+  exits : (r : ℕ) (w : Val) (z₀ : List Float) (z₅ : ℕ) → Answer vs r z₅ → Output vs vs r z₀ → length z₀ ≡ length (x₀ .now)
       → ent 𝓤 (⋆ 𝓤 H A (‵ (u32 .own r (w ∷ [])) ∷ (‵ (flft κ₀ q₀) ⊛ (‵ (flft κ₁ q₁) ⊛ (‵ (flft κ₃ q₃) ⊛ (‵ (flft κ₄ q₄) ⊛ ‵ ftrue)))) ∷ ‵ (finally f32 (x₀ .name) z₀) ∷ ‵ (fres (x₅ .name) (usize .coded .code z₅)) ∷ ‵ O₁ ∷ ‵ O₂ ∷ ‵ O₃ ∷ ‵ O₄ ∷ ‵ (flft κ₂ q₂) ∷ [])) (Post w)
   exits r w z₀ z₅ e₁ e₂ l₀ =
       qed W (‵ (u32 .own r (w ∷ [])) ∷ (‵ (flft κ₀ q₀) ⊛ (‵ (flft κ₁ q₁) ⊛ (‵ (flft κ₃ q₃) ⊛ (‵ (flft κ₄ q₄) ⊛ ‵ ftrue)))) ∷ ‵ (finally f32 (x₀ .name) z₀) ∷ ‵ (fres (x₅ .name) (usize .coded .code z₅)) ∷ ‵ O₁ ∷ ‵ O₂ ∷ ‵ O₃ ∷ ‵ O₄ ∷ ‵ (flft κ₂ q₂) ∷ []) ∵
       suffices ! _ (ends-at 𝓤 H A f.ended stayed (f.clauses 𝓤 H A mem run) W (((κ₀, (κ₁, (κ₂, (κ₃, (κ₄, tt))))), (q₀, (q₁, (q₂, (q₃, (q₄, tt))))), tt, (x₀, (x₁, (x₂, (c, (x₄, (x₅, tt)))))), at), tt) w r (z₀, (tt, (tt, (tt, (tt, (z₅, tt)))))) (l₀, (tt, (tt, (tt, (tt, (tt, tt))))))) $
-      move ! (1 ∷ []) $ split ! $ move ! (1 ∷ []) $ split ! $ move ! (1 ∷ []) $ split ! $ move ! (1 ∷ []) $ split ! $ join ! $ move ! (1 ∷ 0 ∷ []) $ join ! $ move ! (10 ∷ 0 ∷ []) $ join ! $ move ! (1 ∷ 0 ∷ []) $ join ! $ move ! (1 ∷ 0 ∷ []) $ join ! $ nothing ! $ move ! (4 ∷ 0 ∷ []) $ fjoin ! $ move ! (7 ∷ 0 ∷ []) $ fjoin ! $ move ! (6 ∷ 0 ∷ []) $ fjoin ! $ move ! (5 ∷ 0 ∷ []) $ fjoin ! $ move ! (4 ∷ 0 ∷ []) $ fjoin ! $ move ! (3 ∷ 0 ∷ []) $ fjoin ! $ move ! (0 ∷ 2 ∷ []) $ join ! $ move ! (1 ∷ 0 ∷ []) $ join ! $ use0 W (raw (fact 𝓤 (Output ys ys r z₀))) (factI 𝓤 (Output ys ys r z₀) (emp 𝓤) e₂) $ use0 W (raw (fact 𝓤 (Answer ys r z₅))) (factI 𝓤 (Answer ys r z₅) (emp 𝓤) e₁) $ join ! $ move ! (1 ∷ 0 ∷ []) $ frame ! $ done !
+      move ! (1 ∷ []) $ split ! $ move ! (1 ∷ []) $ split ! $ move ! (1 ∷ []) $ split ! $ move ! (1 ∷ []) $ split ! $ join ! $ move ! (1 ∷ 0 ∷ []) $ join ! $ move ! (10 ∷ 0 ∷ []) $ join ! $ move ! (1 ∷ 0 ∷ []) $ join ! $ move ! (1 ∷ 0 ∷ []) $ join ! $ nothing ! $ move ! (4 ∷ 0 ∷ []) $ fjoin ! $ move ! (7 ∷ 0 ∷ []) $ fjoin ! $ move ! (6 ∷ 0 ∷ []) $ fjoin ! $ move ! (5 ∷ 0 ∷ []) $ fjoin ! $ move ! (4 ∷ 0 ∷ []) $ fjoin ! $ move ! (3 ∷ 0 ∷ []) $ fjoin ! $ move ! (0 ∷ 2 ∷ []) $ join ! $ move ! (1 ∷ 0 ∷ []) $ join ! $ use0 W (raw (fact 𝓤 (Output vs vs r z₀))) (factI 𝓤 (Output vs vs r z₀) (emp 𝓤) e₂) $ use0 W (raw (fact 𝓤 (Answer vs r z₅))) (factI 𝓤 (Answer vs r z₅) (emp 𝓤) e₁) $ join ! $ move ! (1 ∷ 0 ∷ []) $ frame ! $ done !
 
   module _ (u : Val) where
     abbrev core-to : Core 𝓤 H A mem run .Ghost
@@ -203,7 +213,7 @@ module _ {M : Type 1} (𝓤 : URA M) (H : Heap 𝓤) (A : Atoms 𝓤) (W : Given
         land ! (from ! (stop !)) (init ! 31 refl (uint-lawful 𝓤 H A W w32 .typed d (w ∷ []) is .0)) $
         returns ! (look ! 31 refl) $ forget ! 31 refl $ forget ! 29 refl $ forget ! 27 refl $ forget ! 25 refl $ forget ! 23 refl $ forget ! 21 refl $ forget ! 19 refl $ forget ! 17 refl $ forget ! 15 refl $ forget ! 13 refl $ forget ! 11 refl $ forget ! 9 refl $
         move ! (31 ∷ 32 ∷ []) $ free1 ! $ move ! (29 ∷ 30 ∷ []) $ free1 ! $ move ! (27 ∷ 28 ∷ []) $ free1 ! $ move ! (25 ∷ 26 ∷ []) $ free1 ! $ move ! (23 ∷ 24 ∷ []) $ free1 ! $ move ! (21 ∷ 22 ∷ []) $ free1 ! $ move ! (19 ∷ 20 ∷ []) $ free1 ! $ move ! (17 ∷ 18 ∷ []) $ free1 ! $ move ! (15 ∷ 16 ∷ []) $ free1 ! $ move ! (13 ∷ 14 ∷ []) $ free1 ! $ move ! (11 ∷ 12 ∷ []) $ free1 ! $ move ! (9 ∷ 10 ∷ []) $ free1 ! $ free0 ! $
-        keep ! (0 ∷ 1 ∷ 3 ∷ 2 ∷ 5 ∷ 7 ∷ 8 ∷ 4 ∷ 6 ∷ []) $ by ! (exits d w (zs .0) (zs .1 .1 .1 .1 .1 .1 .0) (given (with-same c _ _ (λ config. tabled-same ys (length (x₀ .now)) (x₁ .now) config (x₄ .now))) e₁) (left _ _ (with-same c _ _ (λ config. tabled-same ys (length (x₀ .now)) (x₁ .now) config (x₄ .now))) (e₂ ∙ written-same ys mask (x₀ .now) (reply got) (λ t. tabled-few ys (length (x₀ .now)) (x₁ .now) (configOf c) (x₄ .now) (with-done c _ t)))) l₀))))))))))))))))))))))))
+        keep ! (0 ∷ 1 ∷ 3 ∷ 2 ∷ 5 ∷ 7 ∷ 8 ∷ 4 ∷ 6 ∷ []) $ by ! (exits d w (zs .0) (zs .1 .1 .1 .1 .1 .1 .0) (given (with-same c _ _ (λ config. tabled-same vs n counted (length (x₀ .now)) (x₁ .now) config (x₄ .now))) e₁) (left _ _ (with-same c _ _ (λ config. tabled-same vs n counted (length (x₀ .now)) (x₁ .now) config (x₄ .now))) (e₂ ∙ written-same vs n counted mask (x₀ .now) (reply got) (λ t. tabled-few vs n counted (length (x₀ .now)) (x₁ .now) (configOf c) (x₄ .now) (with-done c _ t)))) l₀))))))))))))))))))))))))
 
 module _ {M : Type 1} (𝓤 : URA M) (H : Heap 𝓤) (A : Atoms 𝓤) (W : Given 𝓤 H A) (mem : Memory → SProp 𝓤) (run : Routine → Fun 𝓤) (𝓣 : Tables 𝓤 H) (known-gather : Triple 𝓤 (𝓣 .C #gather) (Gather 𝓤 H A mem run)) (known-core : Triple 𝓤 (𝓣 .C #core) (Core 𝓤 H A mem run)) where
   walks : Walks 𝓤 H A f.ended stayed (WpFn 𝓤 H (𝓣 .C) (𝓣 .Λ) code.function) (f.clauses 𝓤 H A mem run)
@@ -224,5 +234,5 @@ dovetable-build-mask-with-voices-precomputed-spec 𝓤 H 𝓜 𝓖 𝓡 =
     entered 𝓤 H (tripleOf 𝓤 H (𝓖 .A) f.signature (f.spec 𝓤 H (𝓖 .A) (𝓜 .mem) (𝓡 .run)))
     (tables 𝓤 H 𝓜 𝓡 code.env .C) (tables 𝓤 H 𝓜 𝓡 code.env .Λ) #self code.function (code.unfolded 𝓤 H 𝓜 𝓡)
     (meets 𝓤 H (𝓖 .A) (givenOf 𝓤 H 𝓜 𝓖) (𝓜 .mem) (𝓡 .run) (tablesOf 𝓤 H 𝓜 (tables 𝓤 H 𝓜 𝓡 code.env))
-    (cited 𝓤 H (Gather 𝓤 H (𝓖 .A) (𝓜 .mem) (𝓡 .run)) 𝓜 𝓡 code.env #gather gather-def.routine code.calls-lent-voices·gather (gather-thm.met 𝓤 H 𝓜 𝓖 𝓡))
+    (cited 𝓤 H (Gather 𝓤 H (𝓖 .A) (𝓜 .mem) (𝓡 .run)) 𝓜 𝓡 code.env #gather gather-def.routine code.calls-crossing-voices·gather (gather-thm.met 𝓤 H 𝓜 𝓖 𝓡))
     (cited 𝓤 H (Core 𝓤 H (𝓖 .A) (𝓜 .mem) (𝓡 .run)) 𝓜 𝓡 code.env #core core-def.routine code.calls-crossing-masks·tabled (core-thm.met 𝓤 H 𝓜 𝓖 𝓡)))

@@ -11,10 +11,10 @@ use borrow.Author.Tests.{le-ltb}
 use lib.Dec.{T, ltb, ltb→lt, nltb→le}
 use lib.ListN.{length, take, getD, set, replicate, length-append, length-replicate}
 use lib.Seq.{length-take-le}
 use Rattle.scene.specs.declared.MaskVoice.{MaskVoice}
 use Rattle.scene.specs.Accepted.{noVoice}
 use Rattle.scene.specs.Made.{silentVoice}
-use Rattle.lent_voices.specs.Gathered.{held, gatheredTo, gathered}
+use Rattle.scene.specs.Gathered.{held, gatheredTo, gathered}
 
 module _ {A : Type 0} (s d : A) where
   one-more :

@@ -1,0 +1,2 @@
+pub mod RecordVoices
+pub mod Records

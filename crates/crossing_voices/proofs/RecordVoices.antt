@@ -1,0 +1,31 @@
+-- The voices of a list of records: as many as there are records, each the voice of its record, so
+-- that the array of all of them is the one that the records' count fills. Assumes nothing.
+use mathlib.Core.Path.{_≡_, refl, sym, ap, _∙_}
+use mathlib.Core.List.{List}
+use Prim.Native.Nat.{ℕ}
+use lib.ListN.{length, getD, length-map, List·getD-map}
+use Rattle.scene.specs.declared.MaskVoice.{MaskVoice}
+use Rattle.scene.specs.Accepted.{noVoice}
+use Rattle.scene.specs.PitchNumbers.{pitchOf}
+use Rattle.scene.specs.Gathered.{held, gatheredTo, gathered}
+use Rattle.crossing_voices.specs.declared.VoiceRecord.{VoiceRecord}
+use Rattle.crossing_voices.specs.VoiceRecords.{voiceOf, recordVoices, noRecord}
+
+no-voice : noVoice ≡ voiceOf noRecord
+unfolding voiceOf pitchOf
+no-voice = refl
+
+module _ (records : List VoiceRecord) where
+  pub length-voices : length (recordVoices records) ≡ length records
+  length-voices = length-map records voiceOf
+
+  pub voice-at :
+      (i : ℕ) → getD (recordVoices records) i noVoice ≡ voiceOf (getD records i noRecord)
+  voice-at i =
+      ap (λ (none : MaskVoice). getD (recordVoices records) i none) no-voice
+      ∙ List·getD-map voiceOf records i noRecord
+
+  pub all-gathered :
+      gatheredTo (held (length records)) (recordVoices records) ≡ gathered (recordVoices records)
+  all-gathered =
+      ap (λ (n : ℕ). gatheredTo (held n) (recordVoices records)) (sym length-voices)

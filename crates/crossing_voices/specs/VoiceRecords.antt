@@ -1,0 +1,36 @@
+-- The voices that a caller in C passes, each as a record of plain numbers. Assumes nothing.
+use mathlib.Core.List.{List, map}
+use lib.Ieee.{nan}
+use Rattle.scene.specs.declared.MaskVoice.{MaskVoice}
+use Rattle.scene.specs.PitchNumbers.{NOTE-FORM, pitchOf}
+use Rattle.crossing_voices.specs.declared.VoiceRecord.{VoiceRecord}
+
+unfoldable pub voiceOf : VoiceRecord → MaskVoice
+voiceOf given =
+    record {
+      pitch = pitchOf (given .«pitch_form») (given .note) (given .«semitones_or_hertz»);
+      level = given .level;
+      pressure = given .pressure;
+      timbre = given .timbre;
+      «volume_gain» = given .«volume_gain»;
+      «expression_gain» = given .«expression_gain»;
+      pan = given .pan;
+    }
+
+abbrev pub recordVoices : List VoiceRecord → List MaskVoice
+recordVoices records = map voiceOf records
+
+-- the default for reads past the end of a list of records, which no result depends on
+abbrev pub noRecord : VoiceRecord
+noRecord =
+    record {
+      «pitch_form» = NOTE-FORM;
+      note = 0;
+      «semitones_or_hertz» = nan;
+      level = nan;
+      pressure = nan;
+      timbre = nan;
+      «volume_gain» = nan;
+      «expression_gain» = nan;
+      pan = nan;
+    }
