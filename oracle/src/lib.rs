@@ -11,6 +11,7 @@ pub mod functions;
 pub mod lists;
 pub mod mask_calls;
 pub mod numbers;
+pub mod plain_pitch;
 pub mod port_tables;
 pub mod random;
 pub mod refusals;

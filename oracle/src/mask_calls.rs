@@ -8,7 +8,9 @@ use crate::lists::slices::Slice;
 use crate::random::Random;
 use crate::refusals::*;
 use crate::scenes::{self, RESTING_DEPTH, SILENT_LEVEL};
-use crate::spectral_dsp::{MANUAL_MASK_POINTS, MIDI_NOTES, MaskConfig, MaskVoice, MotionConfig};
+use crate::spectral_dsp::{
+    MANUAL_MASK_POINTS, MIDI_NOTES, MaskConfig, MaskVoice, MotionConfig, Pitch,
+};
 
 /// What the slices that a call may write hold before it.
 const BEFORE: f32 = 7.0;
@@ -84,7 +86,8 @@ impl Call {
     }
 }
 
-/// A chord that every builder can be given, small enough for many of them.
+/// A chord that every builder can be given, small enough for many of them. Its second voice is a
+/// pure fifth above the first, by hertz.
 pub fn chord(random: &mut Random) -> Call {
     let config = MaskConfig {
         fft_size: 64 << random.below(3),
@@ -92,16 +95,16 @@ pub fn chord(random: &mut Random) -> Call {
         note_depth_db: 48.0,
         ..MaskConfig::default()
     };
-    let voice = |note, level, pan| MaskVoice {
-        note,
+    let voice = |pitch, level, pan| MaskVoice {
+        pitch,
         level,
         pan,
         ..MaskVoice::default()
     };
     let voices = vec![
-        voice(69, 1.0, 0.0),
-        voice(76, 0.5, -0.5),
-        voice(48, 0.25, 1.0),
+        voice(Pitch::Note(69, 0.0), 1.0, 0.0),
+        voice(Pitch::Hertz(660.0), 0.5, -0.5),
+        voice(Pitch::Note(48, 0.0), 0.25, 1.0),
     ];
     Call::good(random, config, voices)
 }
@@ -153,15 +156,23 @@ fn odd_setting(random: &mut Random, config: &mut MaskConfig) {
     }
 }
 
+/// A pitch of either form, at its limits or past them.
+fn odd_pitch(random: &mut Random) -> Pitch {
+    match random.below(4) {
+        0 => Pitch::Note(random.pick(&[0, 127, 128, 255]), 0.0),
+        1 => Pitch::Note(60, random.pick(&around_limits(TUNING))),
+        _ => Pitch::Hertz(random.pick(&[&around_limits(HERTZ)[..], &[-440.0]].concat())),
+    }
+}
+
 fn odd_voice(random: &mut Random, voice: &mut MaskVoice) {
     let free = |random: &mut Random| match random.once_in(2) {
         true => random.float(),
         false => random.pick(&around_finite()),
     };
     match random.below(8) {
-        0 => voice.note = random.pick(&[0, 127, 128, 255]),
-        1 => voice.level = odd_level(random),
-        2 => voice.tuning_semitones = random.pick(&around_limits(TUNING)),
+        0 | 1 => voice.pitch = odd_pitch(random),
+        2 => voice.level = odd_level(random),
         3 => voice.pressure = free(random),
         4 => voice.timbre = free(random),
         5 => voice.volume_gain = free(random),

@@ -1,6 +1,6 @@
 //! Document 01's table of refusals and its limits, ends included. NaN lies outside every limit.
 
-use crate::spectral_dsp::{MaskConfig, MaskVoice, MotionConfig};
+use crate::spectral_dsp::{MaskConfig, MaskVoice, MotionConfig, Pitch};
 
 /// A refusal's number, and the index it names where its row names one, else 0.
 #[derive(Clone, Copy, Debug, Eq, PartialEq)]
@@ -27,6 +27,7 @@ pub const FREQUENCY: (f32, f32) = (0.0, 192_000.0);
 pub const RATE: (f32, f32) = (8_000.0, 192_000.0);
 pub const LEVEL: (f32, f32) = (0.0, 1.0);
 pub const TUNING: (f32, f32) = (-48.0, 48.0);
+pub const HERTZ: (f32, f32) = (1.0, 20_000.0);
 pub const TABLE: (f32, f32) = (-2.0, 17.0);
 pub const GAIN: (f32, f32) = (0.0, 64.0);
 pub const WINDOW: (f32, f32) = (-16.0, 16.0);
@@ -98,6 +99,13 @@ pub fn length(holds: bool) -> Outcome {
     require(holds, 4)
 }
 
+fn good_pitch(pitch: Pitch) -> bool {
+    match pitch {
+        Pitch::Note(note, semitones) => note <= MAX_NOTE && within(semitones, TUNING),
+        Pitch::Hertz(hertz) => within(hertz, HERTZ),
+    }
+}
+
 fn good_voice(voice: &MaskVoice) -> bool {
     let free = [
         voice.pressure,
@@ -106,10 +114,7 @@ fn good_voice(voice: &MaskVoice) -> bool {
         voice.expression_gain,
         voice.pan,
     ];
-    voice.note <= MAX_NOTE
-        && within(voice.level, LEVEL)
-        && within(voice.tuning_semitones, TUNING)
-        && free.iter().all(|x| x.is_finite())
+    good_pitch(voice.pitch) && within(voice.level, LEVEL) && free.iter().all(|x| x.is_finite())
 }
 
 /// 5

@@ -1,9 +1,9 @@
 //! Random scenes: arguments of the mask builders that every test accepts.
 
 use crate::random::Random;
-use crate::refusals::{MAX_VOICES, within};
+use crate::refusals::{HERTZ, MAX_VOICES, within};
 use crate::spectral_dsp::{
-    MANUAL_MASK_POINTS, MaskConfig, MaskVoice, MaskWorkspace, MotionConfig, MotionShape,
+    MANUAL_MASK_POINTS, MaskConfig, MaskVoice, MaskWorkspace, MotionConfig, MotionShape, Pitch,
 };
 
 pub const SHAPES: [MotionShape; 8] = [
@@ -32,6 +32,15 @@ pub struct Scene {
 impl Scene {
     /// From all over the limits, their ends among them.
     pub fn anywhere(random: &mut Random) -> Self {
+        Self::with_voices(random, voice)
+    }
+
+    /// The same with notes alone, which are all that the unaltered Rust can be given.
+    pub fn anywhere_by_note(random: &mut Random) -> Self {
+        Self::with_voices(random, voice_by_note)
+    }
+
+    fn with_voices(random: &mut Random, voice: fn(&mut Random) -> MaskVoice) -> Self {
         let count = match random.below(16) {
             0 => random.below(MAX_VOICES + 1),
             1 => MAX_VOICES,
@@ -56,7 +65,7 @@ impl Scene {
             ..MaskConfig::default()
         };
         let voice = |random: &mut Random| MaskVoice {
-            note: 36 + random.below(49) as u8,
+            pitch: Pitch::Note(36 + random.below(49) as u8, 0.0),
             level: random.between(0.2, 1.0),
             pan: random.between(-1.0, 1.0),
             ..MaskVoice::default()
@@ -111,16 +120,39 @@ macro_rules! config_in {
     }};
 }
 
-/// Voices in the types of such a module.
+/// Voices in the types of such a module; notes alone where that is the unaltered Rust.
 #[macro_export]
 macro_rules! voices_in {
+    ($voices:expr, original) => {{
+        use $crate::spectral_dsp::Pitch;
+        let voices: &[$crate::spectral_dsp::MaskVoice] = $voices;
+        let voice = |voice: &$crate::spectral_dsp::MaskVoice| {
+            let Pitch::Note(note, tuning_semitones) = voice.pitch else {
+                panic!("the unaltered Rust has no pitch by hertz");
+            };
+            original::MaskVoice {
+                note,
+                level: voice.level,
+                tuning_semitones,
+                pressure: voice.pressure,
+                timbre: voice.timbre,
+                volume_gain: voice.volume_gain,
+                expression_gain: voice.expression_gain,
+                pan: voice.pan,
+            }
+        };
+        voices.iter().map(voice).collect::<Vec<original::MaskVoice>>()
+    }};
     ($voices:expr, $($dsp:ident)::+) => {{
+        use $crate::spectral_dsp::Pitch;
         use $($dsp)::+ as dsp;
         let voices: &[$crate::spectral_dsp::MaskVoice] = $voices;
         let voice = |voice: &$crate::spectral_dsp::MaskVoice| dsp::MaskVoice {
-            note: voice.note,
+            pitch: match voice.pitch {
+                Pitch::Note(note, semitones) => dsp::Pitch::Note(note, semitones),
+                Pitch::Hertz(hertz) => dsp::Pitch::Hertz(hertz),
+            },
             level: voice.level,
-            tuning_semitones: voice.tuning_semitones,
             pressure: voice.pressure,
             timbre: voice.timbre,
             volume_gain: voice.volume_gain,
@@ -183,11 +215,34 @@ pub fn config(random: &mut Random) -> MaskConfig {
     }
 }
 
+/// An end of the limits, a frequency of which a partial meets half of a common rate, or one from
+/// all over the octaves, so that lobes lie in the mask at every size. Positive floats are in the
+/// order of their bits, and each octave has as many of them.
+pub fn hertz(random: &mut Random) -> f32 {
+    let (low, high) = (HERTZ.0.to_bits(), HERTZ.1.to_bits());
+    match random.below(8) {
+        0 => random.pick(&[HERTZ.0, HERTZ.1]),
+        1 => random.pick(&[4_000.0, 8_000.0, 11_025.0, 12_000.0]),
+        _ => f32::from_bits(low + random.below((high - low) as usize + 1) as u32),
+    }
+}
+
+/// A third of the voices is by hertz.
 pub fn voice(random: &mut Random) -> MaskVoice {
+    let mut voice = voice_by_note(random);
+    if random.once_in(3) {
+        voice.pitch = Pitch::Hertz(hertz(random));
+    }
+    voice
+}
+
+pub fn voice_by_note(random: &mut Random) -> MaskVoice {
+    let note = random.below(128) as u8;
+    let level = mostly(random, &[1.0, 1.0, SILENT_LEVEL, 0.0], (0.0, 1.0));
+    let semitones = mostly(random, &[0.0, 0.0, 0.0, 48.0, -48.0], (-48.0, 48.0));
     MaskVoice {
-        note: random.below(128) as u8,
-        level: mostly(random, &[1.0, 1.0, SILENT_LEVEL, 0.0], (0.0, 1.0)),
-        tuning_semitones: mostly(random, &[0.0, 0.0, 0.0, 48.0, -48.0], (-48.0, 48.0)),
+        pitch: Pitch::Note(note, semitones),
+        level,
         pressure: mostly(random, &[1.0], (-0.5, 1.5)),
         timbre: mostly(random, &[0.5], (-0.5, 1.5)),
         volume_gain: mostly(random, &[1.0, 1.0, -0.0], (-0.5, 4.0)),

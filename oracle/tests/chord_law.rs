@@ -5,7 +5,7 @@
 use oracle::calls::build_stereo_masks_with_voices_precomputed as stereo;
 use oracle::random::Random;
 use oracle::scenes::{Scene, unprepared, voice};
-use oracle::spectral_dsp::MaskVoice;
+use oracle::spectral_dsp::{MaskVoice, Pitch};
 
 fn masks(scene: &Scene, table: &[f32]) -> Vec<f32> {
     let mut left = vec![0.0; table.len()];
@@ -22,12 +22,24 @@ fn masks(scene: &Scene, table: &[f32]) -> Vec<f32> {
     [left, right].concat()
 }
 
+/// A pitch that is equal, although maybe not in its bits: the two zeros are equal.
+fn equal(random: &mut Random, pitch: Pitch) -> Pitch {
+    let same = match pitch {
+        Pitch::Note(note, 0.0) => Pitch::Note(note, random.pick(&[0.0, -0.0])),
+        other => other,
+    };
+    assert_eq!(same, pitch);
+    same
+}
+
 fn raised(random: &mut Random, voice: &MaskVoice) -> MaskVoice {
+    let pitch = equal(random, voice.pitch);
     let mut up = |x: f32| {
         let size = random.pick(&[0.0, 1.0e-7, 0.1, 1.0]);
         x + random.between(0.0, size)
     };
     MaskVoice {
+        pitch,
         level: up(voice.level).min(1.0),
         pressure: up(voice.pressure),
         volume_gain: up(voice.volume_gain),
@@ -39,10 +51,13 @@ fn raised(random: &mut Random, voice: &MaskVoice) -> MaskVoice {
 #[test]
 fn no_bin_is_above() {
     let mut random = Random::new(8);
+    let mut by_hertz = 0;
     for _ in 0..400 {
         let mut a = Scene::anywhere(&mut random);
         a.config.fft_size = 64 << random.below(4);
         a.voices.truncate(8);
+        let is_hertz = |voice: &&MaskVoice| matches!(voice.pitch, Pitch::Hertz(_));
+        by_hertz += a.voices.iter().filter(is_hertz).count();
         // A damaged point counts as 0 dB in both, and has no order.
         a.curve
             .iter_mut()
@@ -67,4 +82,15 @@ fn no_bin_is_above() {
         let (lower, higher) = (masks(&a, &table), masks(&b, &table));
         assert!(lower.iter().zip(&higher).all(|(x, y)| x <= y), "{a:?}");
     }
+    assert!(by_hertz >= 100, "{by_hertz} voices by hertz");
+}
+
+#[test]
+fn equal_in_pitch_is_the_same_form_and_the_same_numbers() {
+    assert_eq!(Pitch::Note(69, 0.0), Pitch::Note(69, -0.0));
+    assert_eq!(Pitch::Hertz(440.0), Pitch::Hertz(440.0));
+    // Both sound 440 Hz.
+    assert_ne!(Pitch::Note(69, 0.0), Pitch::Hertz(440.0));
+    assert_ne!(Pitch::Note(69, 0.0), Pitch::Note(57, 12.0));
+    assert_ne!(Pitch::Hertz(440.0), Pitch::Hertz(440.0_f32.next_up()));
 }

@@ -1,7 +1,8 @@
-//! The replay lists: they fit, and they show every refusal of every call.
+//! The replay lists: they fit, and they show every refusal of every call, and both forms of a
+//! pitch.
 
 use oracle::builders::Builder;
-use oracle::lists::{LARGEST, Named, PROGRAMS};
+use oracle::lists::{LARGEST, List, Named, PROGRAMS};
 use std::collections::{BTreeMap, BTreeSet};
 
 fn all() -> impl Iterator<Item = &'static Named> {
@@ -20,9 +21,9 @@ fn counts(stdout: &str) -> BTreeMap<(&str, u32), usize> {
     counts
 }
 
-fn stdout_of(name: &str) -> String {
+fn list_of(name: &str) -> List {
     let named = all().find(|named| named.name == name);
-    (named.expect("a list of this name").write)().stdout
+    (named.expect("a list of this name").write)()
 }
 
 #[test]
@@ -40,8 +41,8 @@ fn names_differ() {
 
 /// Of each call, each of these numbers in at least twenty lines of the list.
 fn shows(list: &str, rows: &[(&str, &[u32])]) {
-    let stdout = stdout_of(list);
-    let counts = counts(&stdout);
+    let list = list_of(list);
+    let counts = counts(&list.stdout);
     for (call, numbers) in rows {
         for number in *numbers {
             let count = counts.get(&(call, *number)).copied().unwrap_or(0);
@@ -90,4 +91,52 @@ fn every_mask_builder_and_refusal_shows_twenty_times() {
     ];
     let refused = refused.map(|(builder, numbers)| (builder.name(), numbers));
     shows("mask_refusals", &refused);
+}
+
+/// The forms of the stored voices of each record, in the format that README.md states.
+fn forms(calls: &[u8]) -> Vec<Vec<u32>> {
+    let words = calls
+        .chunks(4)
+        .map(|word| word.try_into().expect("4 bytes"));
+    let words: Vec<u32> = words.map(u32::from_be_bytes).collect();
+    // Up to the voices: the call, the settings, masks, curve, and levels or a table.
+    let before = [12 + 1 + 8 + 8, 12 + 1 + 8, 12 + 1 + 8 + 9, 12 + 2 + 8 + 9];
+    let (mut records, mut rest) = (Vec::new(), &words[..]);
+    while let Some(&call) = rest.first() {
+        let voices = &rest[before[call as usize]..];
+        let (stored, voices) = match call {
+            0 => (0, voices),
+            _ => (voices[1] as usize, &voices[2..]),
+        };
+        let (stored, after) = voices.split_at(8 * stored);
+        records.push(stored.chunks(8).map(|voice| voice[0] / 256).collect());
+        rest = after;
+    }
+    records
+}
+
+/// In at least twenty lines of each builder that takes voices one of them is by hertz, and in at
+/// least twenty a refusal names such a one; each voice is by note or by hertz.
+#[test]
+fn voices_by_hertz_show() {
+    let (masks, refusals) = (list_of("masks"), list_of("mask_refusals"));
+    let accepted = forms(&masks.calls);
+    assert_eq!(accepted.len(), masks.stdout.lines().count());
+    assert!(accepted.iter().flatten().all(|&form| form <= 1));
+    for builder in Builder::LISTED.iter().filter(|one| one.takes_voices()) {
+        let done = format!("{} done ", builder.name());
+        let lines = masks.stdout.lines().zip(&accepted);
+        let shown = lines.filter(|(line, forms)| line.starts_with(&done) && forms.contains(&1));
+        assert!(shown.count() >= 20, "{done}");
+    }
+    let named = |(line, forms): (&str, Vec<u32>)| {
+        let place = line.split_once(" refused 5 ")?.1.split(' ').next()?;
+        Some(forms[place.parse::<usize>().expect("a place")])
+    };
+    let lines = refusals.stdout.lines().zip(forms(&refusals.calls));
+    let named: Vec<u32> = lines.filter_map(named).collect();
+    for form in [0, 1] {
+        let count = named.iter().filter(|&&one| one == form).count();
+        assert!(count >= 20, "{count} voices of form {form} are refused");
+    }
 }

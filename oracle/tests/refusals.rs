@@ -2,7 +2,7 @@
 
 use oracle::calls::*;
 use oracle::refusals::{Outcome, Refusal};
-use oracle::spectral_dsp::{MANUAL_MASK_POINTS, MaskConfig, MaskVoice, MotionConfig};
+use oracle::spectral_dsp::{MANUAL_MASK_POINTS, MaskConfig, MaskVoice, MotionConfig, Pitch};
 
 const BEFORE: f32 = 7.0;
 
@@ -23,7 +23,7 @@ struct Scene {
 impl Scene {
     fn good() -> Self {
         let voice = MaskVoice {
-            note: 69,
+            pitch: Pitch::Note(69, 0.0),
             level: 1.0,
             ..MaskVoice::default()
         };
@@ -60,7 +60,7 @@ fn the_stereo_call_tests_in_the_order_of_the_numbers() {
     scene.config.fft_size = 96;
     scene.config.width_cents = 0.5;
     scene.voices = vec![good.voices[0]; 129];
-    scene.voices[2].note = 128;
+    scene.voices[2].pitch = Pitch::Hertz(f32::NAN);
     scene.curve.pop();
     scene.table[1] = f32::NAN;
     assert_eq!(scene.call(), refused(1, 0));
@@ -72,7 +72,7 @@ fn the_stereo_call_tests_in_the_order_of_the_numbers() {
     assert_eq!(scene.call(), refused(4, 0));
     scene.curve.push(0.0);
     assert_eq!(scene.call(), refused(5, 2));
-    scene.voices[2].note = 127;
+    scene.voices[2].pitch = Pitch::Hertz(20_000.0);
     assert_eq!(scene.call(), refused(6, 1));
     assert!(scene.left.iter().chain(&scene.right).all(|&x| x == BEFORE));
     scene.table[1] = 17.0;
@@ -91,13 +91,10 @@ fn entry_0_of_the_table_is_neither_tested_nor_read() {
 /// Each field of a voice, past its limits; the other voices are good.
 #[test]
 fn every_field_of_a_voice_is_tested() {
-    let faults: [fn(&mut MaskVoice); 12] = [
-        |voice| voice.note = 128,
+    let faults: [fn(&mut MaskVoice); 9] = [
         |voice| voice.level = 1.0_f32.next_up(),
         |voice| voice.level = (-0.0_f32).next_down(),
         |voice| voice.level = f32::NAN,
-        |voice| voice.tuning_semitones = 48.0_f32.next_up(),
-        |voice| voice.tuning_semitones = (-48.0_f32).next_down(),
         |voice| voice.pressure = f32::INFINITY,
         |voice| voice.timbre = f32::NAN,
         |voice| voice.volume_gain = f32::NEG_INFINITY,
@@ -108,6 +105,53 @@ fn every_field_of_a_voice_is_tested() {
     for fault in faults {
         let mut scene = Scene::good();
         fault(&mut scene.voices[1]);
+        assert_eq!(scene.call(), refused(5, 1));
+    }
+}
+
+/// A pitch's ends are accepted, and one step past each is refused at its voice, also where the
+/// voice is silent.
+#[test]
+fn both_forms_of_a_pitch_are_tested() {
+    let ends = [
+        Pitch::Note(0, -48.0),
+        Pitch::Note(127, 48.0),
+        Pitch::Hertz(1.0),
+        Pitch::Hertz(20_000.0),
+    ];
+    let [nan, infinity] = [f32::NAN, f32::INFINITY];
+    let notes = [
+        Pitch::Note(128, 0.0),
+        Pitch::Note(255, 0.0),
+        Pitch::Note(69, 48.0_f32.next_up()),
+        Pitch::Note(69, (-48.0_f32).next_down()),
+        Pitch::Note(69, nan),
+    ];
+    let past = [1.0_f32.next_down(), 20_000.0_f32.next_up()];
+    let far = [0.0, -0.0, -1.0, -440.0, nan, infinity, -infinity];
+    let hertz = past.into_iter().chain(far).map(Pitch::Hertz);
+    let outcome = |pitch, level| {
+        let mut scene = Scene::good();
+        (scene.voices[1].pitch, scene.voices[1].level) = (pitch, level);
+        scene.call()
+    };
+    for level in [0.0, 1.0] {
+        for end in ends {
+            assert_eq!(outcome(end, level), Ok(()), "{end:?}");
+        }
+        for pitch in notes.into_iter().chain(hertz.clone()) {
+            assert_eq!(outcome(pitch, level), refused(5, 1), "{pitch:?}");
+        }
+    }
+}
+
+/// Of several voices outside their limits the lowest is named, whatever their forms.
+#[test]
+fn the_lowest_voice_is_named() {
+    let bad = [Pitch::Note(128, 0.0), Pitch::Hertz(0.5)];
+    for (first, second) in [(bad[0], bad[1]), (bad[1], bad[0])] {
+        let mut scene = Scene::good();
+        (scene.voices[1].pitch, scene.voices[2].pitch) = (first, second);
         assert_eq!(scene.call(), refused(5, 1));
     }
 }

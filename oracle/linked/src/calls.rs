@@ -3,8 +3,9 @@
 
 use crate::*;
 use oracle::builders::{Builder, Lent, Masks};
-use oracle::spectral_dsp::MotionConfig;
-use oracle::{config_in, voices_in};
+use oracle::config_in;
+use oracle::plain_pitch::{pitch_of, plain};
+use oracle::spectral_dsp::{MaskVoice, MotionConfig};
 
 /// What a call gives: its number, and what it leaves in the place and the values that are lent.
 #[derive(Clone, Copy, Debug)]
@@ -117,18 +118,54 @@ pub fn prepare(table: &mut [f32], rate: f32, size: usize) -> Given {
     outcome(|place| unsafe { dovetable_prepare(entries, n, rate, size, place) })
 }
 
+fn record_of(voice: &MaskVoice) -> VoiceRecord {
+    let (pitch_form, note, semitones_or_hertz) = plain(voice.pitch);
+    VoiceRecord {
+        pitch_form,
+        note,
+        semitones_or_hertz,
+        level: voice.level,
+        pressure: voice.pressure,
+        timbre: voice.timbre,
+        volume_gain: voice.volume_gain,
+        expression_gain: voice.expression_gain,
+        pan: voice.pan,
+    }
+}
+
+/// The voice of a record, as the oracle reads it.
+fn voice_of(record: &VoiceRecord) -> MaskVoice {
+    let (form, number) = (record.pitch_form, record.semitones_or_hertz);
+    MaskVoice {
+        pitch: pitch_of(form, record.note, number),
+        level: record.level,
+        pressure: record.pressure,
+        timbre: record.timbre,
+        volume_gain: record.volume_gain,
+        expression_gain: record.expression_gain,
+        pan: record.pan,
+    }
+}
+
 /// What a mask builder is lent that crosses in another form: the settings and the voices.
 #[derive(Clone, Debug)]
 pub struct Crossing {
     pub settings: Settings,
-    pub voices: Vec<MaskVoice>,
+    pub voices: Vec<VoiceRecord>,
+}
+
+impl Crossing {
+    /// The voices of the records.
+    pub fn read_voices(&self) -> Vec<MaskVoice> {
+        self.voices.iter().map(voice_of).collect()
+    }
 }
 
 impl From<&Lent> for Crossing {
     fn from(lent: &Lent) -> Self {
         Self {
             settings: config_in!(lent.config, dovetable).into(),
-            voices: voices_in!(&lent.voices, dovetable),
+            voices: lent.voices.iter().map(record_of).collect(),
         }
     }
 }

@@ -4,6 +4,7 @@ use super::slices::hash_text;
 use super::{List, float_text, outcome_text};
 use crate::builders::Builder;
 use crate::mask_calls::{Call, any_scene, chord, fault, other_table};
+use crate::plain_pitch::plain;
 use crate::random::Random;
 use crate::scenes;
 use crate::spectral_dsp::{MaskConfig, MaskVoice};
@@ -29,10 +30,11 @@ fn config_words(list: &mut List, config: &MaskConfig) {
 fn voice_words(list: &mut List, count: usize, stored: &[MaskVoice]) {
     list.words(&[count as u32, stored.len() as u32]);
     for voice in stored {
-        list.word(u32::from(voice.note));
+        let (form, note, semitones_or_hertz) = plain(voice.pitch);
+        list.word(u32::from(form) * 256 + u32::from(note));
         list.floats(&[
+            semitones_or_hertz,
             voice.level,
-            voice.tuning_semitones,
             voice.pressure,
             voice.timbre,
             voice.volume_gain,

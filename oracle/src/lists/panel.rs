@@ -10,6 +10,7 @@ use crate::oiko_dsp::note_frequency_with_tuning;
 use crate::refusals::Refusal;
 use crate::spectral_dsp::{
     MANUAL_CURVE_MUTE_DB, MANUAL_MASK_POINTS, MaskConfig, MaskVoice, MotionConfig, MotionShape,
+    Pitch,
 };
 
 const RATE: usize = 48_000;
@@ -37,10 +38,9 @@ fn config() -> MaskConfig {
 
 /// C minor seventh: the third on the left, the fifth on the right, and the seventh near 7:4.
 fn voices() -> [MaskVoice; 4] {
-    let voice = |note, level, tuning_semitones, pan| MaskVoice {
-        note,
+    let voice = |note, level, semitones, pan| MaskVoice {
+        pitch: Pitch::Note(note, semitones),
         level,
-        tuning_semitones,
         pan,
         ..MaskVoice::default()
     };
@@ -107,7 +107,10 @@ fn decibel_text(gain: f32) -> String {
 fn of_partial(bin: usize) -> bool {
     let closest = |hertz: f32| floor_to_count(hertz * SIZE as f32 / RATE as f32 + 0.5);
     voices().iter().any(|voice| {
-        let first = note_frequency_with_tuning(voice.note, voice.tuning_semitones);
+        let first = match voice.pitch {
+            Pitch::Note(note, semitones) => note_frequency_with_tuning(note, semitones),
+            Pitch::Hertz(hertz) => hertz,
+        };
         (1..=PARTIALS).any(|partial| closest(first * partial as f32) == bin)
     })
 }

@@ -1,6 +1,6 @@
 //! original/spectral-dsp/src/lib.rs with document 01's functions put for its library calls and its
 //! rule on shortcuts: the plain way always, and each side of the stereo call built from each
-//! voice's own balances.
+//! voice's own balances. A pitch by hertz is an addition of change request 101.
 
 use super::functions::{
     abs, ceil_to_count, clamp, cos, exp, exp2, floor_to_count, log2, max, min, powi2, powi5,
@@ -21,13 +21,21 @@ pub(crate) const DISPLAY_OCTAVES: f32 = 9.965_784;
 pub(crate) const MOTION_COMPENSATION_SAMPLES: usize = 256;
 const MAX_MOTION_COMPENSATION_DB: f32 = 12.0;
 
+/// An addition to the ported Rust (change request 101), whose voices have a note and its tuning
+/// alone. Two voices are equal in pitch where `==` holds: the same form and the same numbers.
+#[derive(Clone, Copy, Debug, PartialEq)]
+pub enum Pitch {
+    /// A note, and the offset in semitones from its equal-tempered pitch.
+    Note(u8, f32),
+    /// The fundamental itself, with no tuning added.
+    Hertz(f32),
+}
+
 #[derive(Clone, Copy, Debug)]
 pub struct MaskVoice {
-    pub note: u8,
+    pub pitch: Pitch,
     /// Note envelope level; `0.0` contributes nothing.
     pub level: f32,
-    /// Offset in semitones from the equal-tempered pitch of `note`.
-    pub tuning_semitones: f32,
     pub pressure: f32,
     /// Harmonic tilt from `0.0` to `1.0`. `0.5` keeps the configured rolloff;
     /// lower values darken the partials and higher values brighten them.
@@ -43,9 +51,8 @@ pub struct MaskVoice {
 impl Default for MaskVoice {
     fn default() -> Self {
         Self {
-            note: 0,
+            pitch: Pitch::Note(0, 0.0),
             level: 0.0,
-            tuning_semitones: 0.0,
             pressure: 1.0,
             timbre: 0.5,
             volume_gain: 1.0,
@@ -236,7 +243,7 @@ pub fn build_mask(
 ) {
     let mut voices = [MaskVoice::default(); MIDI_NOTES];
     for (note, (voice, level)) in voices.iter_mut().zip(note_levels).enumerate() {
-        voice.note = note as u8;
+        voice.pitch = Pitch::Note(note as u8, 0.0);
         voice.level = *level;
     }
     build_mask_with_voices(output, manual_mask_db, &voices, config);
@@ -358,7 +365,10 @@ fn build_mask_with_voices_impl(
                 0.0,
                 48.0,
             );
-            let fundamental = note_frequency_with_tuning(voice.note, voice.tuning_semitones);
+            let fundamental = match voice.pitch {
+                Pitch::Note(note, semitones) => note_frequency_with_tuning(note, semitones),
+                Pitch::Hertz(hertz) => hertz,
+            };
             for partial in 1..=partials.min(MAX_PARTIALS) {
                 let center = fundamental * partial as f32;
                 if center > nyquist {

@@ -4,7 +4,7 @@ use crate::masks::{Masks, agreed, describe, plain, unaltered};
 use crate::measure::{Distance, both, decibels, ulps};
 use oracle::random::Random;
 use oracle::scenes::Scene;
-use oracle::spectral_dsp::{MANUAL_MASK_POINTS, MaskConfig, MaskVoice, MotionConfig};
+use oracle::spectral_dsp::{MANUAL_MASK_POINTS, MaskConfig, MaskVoice, MotionConfig, Pitch};
 
 /// Why the compact way of the Rust gives a bin another number than the plain way.
 #[derive(Clone, Copy, Debug, PartialEq)]
@@ -36,11 +36,19 @@ fn one_voice(config: MaskConfig, note: u8, level: f32) -> Scene {
     Scene {
         config,
         voices: vec![MaskVoice {
-            note,
+            pitch: Pitch::Note(note, 0.0),
             level,
             ..MaskVoice::default()
         }],
         curve: vec![0.0; MANUAL_MASK_POINTS],
+    }
+}
+
+/// The note of the scene's one voice.
+fn note_of(scene: &Scene) -> u8 {
+    match scene.voices[0].pitch {
+        Pitch::Note(note, _) => note,
+        Pitch::Hertz(_) => panic!("the unaltered Rust has no pitch by hertz"),
     }
 }
 
@@ -64,7 +72,7 @@ fn lobes(scene: &Scene) -> Vec<Lobe> {
         config.fft_size / 2,
     );
     let ratio = 2.0_f32.powf(4.0 * config.width_cents / 1200.0);
-    let fundamental = original_oiko::note_frequency(scene.voices[0].note);
+    let fundamental = original_oiko::note_frequency(note_of(scene));
     let lobe = |partial: usize| {
         let center = fundamental * partial as f32;
         let lower = ((center / bin_hz) as usize).clamp(1, top);
@@ -135,7 +143,7 @@ fn show(scene: &Scene, bin: usize, first: (&str, f32), second: (&str, f32)) {
         config.partials,
         both(config.harmonic_rolloff_db_per_octave),
         both(config.note_depth_db),
-        voice.note,
+        note_of(scene),
         both(voice.level)
     );
     println!(

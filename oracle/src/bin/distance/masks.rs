@@ -142,7 +142,7 @@ fn copied(seed: u64, count: u64) {
     let mut random = Random::new(seed);
     let mut distance = Distance::default();
     for number in 0..count {
-        let mut scene = Scene::anywhere(&mut random);
+        let mut scene = Scene::anywhere_by_note(&mut random);
         for voice in &mut scene.voices {
             voice.pan = random.pick(&[0.0, -0.0]);
         }
@@ -161,7 +161,7 @@ fn same_text(seed: u64, count: u64) {
     let mut random = Random::new(seed);
     let mut distances = vec![Distance::default(); 3];
     for number in 0..count {
-        let mut scene = Scene::anywhere(&mut random);
+        let mut scene = Scene::anywhere_by_note(&mut random);
         scene.voices.truncate(8);
         let others_rate = random.pick(&[8_000.0, 44_100.0, 192_000.0]);
         let without = [
@@ -197,7 +197,7 @@ fn same_text(seed: u64, count: u64) {
 
 pub fn print(seed: u64, count: u64) {
     compare("as a studio plays", Scene::studio, seed, count);
-    compare("all over the limits", Scene::anywhere, seed, count);
+    compare("all over the limits", Scene::anywhere_by_note, seed, count);
     copied(seed, count);
     same_text(seed, count);
 }

@@ -2,7 +2,7 @@
 
 use oracle::random::Random;
 use oracle::scenes::{SHAPES, Scene};
-use oracle::spectral_dsp::{MANUAL_MASK_POINTS, MaskConfig, MaskVoice, MotionConfig};
+use oracle::spectral_dsp::{MANUAL_MASK_POINTS, MaskConfig, MaskVoice, MotionConfig, Pitch};
 use std::ops::RangeInclusive;
 
 #[derive(Clone, Copy)]
@@ -156,10 +156,11 @@ fn curve(random: &mut Random) -> Vec<f32> {
 
 fn voice(random: &mut Random, centred: bool) -> MaskVoice {
     let pan = random.between(-1.0, 1.0);
+    let note = 28 + random.below(69) as u8;
+    let level = random.between(0.2, 1.0);
     MaskVoice {
-        note: 28 + random.below(69) as u8,
-        level: random.between(0.2, 1.0),
-        tuning_semitones: random.between(-0.5, 0.5),
+        pitch: Pitch::Note(note, random.between(-0.5, 0.5)),
+        level,
         pressure: random.between(0.0, 1.0),
         timbre: random.between(0.0, 1.0),
         volume_gain: random.between(0.5, 1.5),

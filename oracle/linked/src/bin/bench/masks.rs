@@ -1,14 +1,16 @@
-//! The mask builders on whole scenes, beside the unaltered Rust. Each scene's masks are compared
-//! with the oracle's in the same run, so that a fast wrong answer does not pass.
+//! The mask builders on whole scenes, beside the unaltered Rust, and on chords by hertz beside the
+//! same chords by note. Each scene's masks are compared with the oracle's in the same run, so that
+//! a fast wrong answer does not pass.
 
 use crate::classes::{CHORDS, CLASSES, Class};
 use linked::calls::{self as port, Crossing};
 use oracle::builders::{Builder, Lent, Masks, block_of};
 use oracle::given;
 use oracle::numbers::first_difference;
+use oracle::oiko_dsp::note_frequency_with_tuning;
 use oracle::random::Random;
 use oracle::scenes::{RESTING_DEPTH, Scene};
-use oracle::spectral_dsp::{MANUAL_MASK_POINTS, MIDI_NOTES};
+use oracle::spectral_dsp::{MANUAL_MASK_POINTS, MIDI_NOTES, Pitch};
 use std::hint::black_box;
 use std::time::Instant;
 
@@ -29,7 +31,9 @@ struct Original {
 fn levels(scene: &Scene) -> [f32; MIDI_NOTES] {
     let mut levels = [0.0; MIDI_NOTES];
     for voice in &scene.voices {
-        levels[usize::from(voice.note)] = voice.level;
+        if let Pitch::Note(note, _) = voice.pitch {
+            levels[usize::from(note)] = voice.level;
+        }
     }
     levels
 }
@@ -84,23 +88,23 @@ fn nanoseconds(work: impl FnOnce()) -> f64 {
     start.elapsed().as_nanos() as f64
 }
 
-/// A scene's times, the least of many rounds. The two take turns, so that a slow moment of the
-/// machine meets both.
+/// A scene's times of the port and of what it is set beside, the least of many rounds. The two take
+/// turns, so that a slow moment of the machine meets both.
 struct Times {
     port: f64,
-    original: f64,
+    other: f64,
 }
 
 impl Times {
-    fn best(mut port: impl FnMut(), mut original: impl FnMut()) -> Self {
+    fn best(mut port: impl FnMut(), mut other: impl FnMut()) -> Self {
         let begin = Instant::now();
         let mut least = Self {
             port: f64::INFINITY,
-            original: f64::INFINITY,
+            other: f64::INFINITY,
         };
         let mut rounds = 0;
         while rounds < ROUNDS || begin.elapsed().as_nanos() < NANOSECONDS {
-            least.original = least.original.min(nanoseconds(&mut original));
+            least.other = least.other.min(nanoseconds(&mut other));
             least.port = least.port.min(nanoseconds(&mut port));
             rounds += 1;
         }
@@ -108,32 +112,68 @@ impl Times {
     }
 
     fn ratio(&self) -> f64 {
-        self.original / self.port
+        self.other / self.port
     }
 }
 
-/// The times of a scene, or what is wrong with the port's masks.
-fn times(builder: Builder, scene: &Scene) -> Result<Times, String> {
-    let lent = lent(scene);
-    let (crossing, original) = (Crossing::from(&lent), Original::new(scene));
-    let bins = scene.config.fft_size / 2 + 1;
-    let masks = || [vec![0.0; bins], vec![0.0; bins]];
-    let [mut ours, mut theirs, mut right] = [masks(), masks(), masks()];
-    let mut number = 0;
-    let times = Times::best(
-        || number = port::build(builder, &lent, black_box(&crossing), black_box(&mut ours)).number,
-        || black_box(&original).build(builder, black_box(&mut theirs)),
-    );
-    let outcome = builder.build(&lent, &mut right);
+/// Masks to write, of a scene's size.
+fn masks(scene: &Scene) -> Masks {
+    [0; 2].map(|_| vec![0.0; scene.config.fft_size / 2 + 1])
+}
+
+/// What is wrong with the port's answer or its masks.
+fn check(builder: Builder, scene: &Scene, number: u32, ours: &Masks) -> Result<(), String> {
+    let mut right = masks(scene);
+    let outcome = builder.build(&lent(scene), &mut right);
     assert_eq!(outcome, Ok(()), "every scene is accepted");
     let bin = first_difference(&ours.concat(), &right.concat());
     match (number, bin) {
-        (0, None) => Ok(times),
+        (0, None) => Ok(()),
         _ => Err(format!(
             "answer {number}, first wrong bin {bin:?}, {}",
             describe(scene)
         )),
     }
+}
+
+/// The times of a scene beside the unaltered Rust, or what is wrong with the port's masks.
+fn times(builder: Builder, scene: &Scene) -> Result<Times, String> {
+    let lent = lent(scene);
+    let (crossing, original) = (Crossing::from(&lent), Original::new(scene));
+    let [mut ours, mut theirs] = [masks(scene), masks(scene)];
+    let mut number = 0;
+    let times = Times::best(
+        || number = port::build(builder, &lent, black_box(&crossing), black_box(&mut ours)).number,
+        || black_box(&original).build(builder, black_box(&mut theirs)),
+    );
+    check(builder, scene, number, &ours).map(|()| times)
+}
+
+/// The same scene with each note as the frequency that it sounds.
+fn by_hertz(scene: &Scene) -> Scene {
+    let mut scene = scene.clone();
+    for voice in &mut scene.voices {
+        if let Pitch::Note(note, semitones) = voice.pitch {
+            voice.pitch = Pitch::Hertz(note_frequency_with_tuning(note, semitones));
+        }
+    }
+    scene
+}
+
+/// The port's times of a scene by hertz beside the same by note.
+fn hertz_times(builder: Builder, scene: &Scene) -> Result<Times, String> {
+    let (lent, changed) = (lent(scene), by_hertz(scene));
+    let (notes, hertz) = (Crossing::from(&lent), Crossing::from(&self::lent(&changed)));
+    let [mut ours, mut theirs] = [masks(scene), masks(scene)];
+    let mut numbers = [0; 2];
+    let [first, second] = &mut numbers;
+    let times = Times::best(
+        || *first = port::build(builder, &lent, black_box(&hertz), black_box(&mut ours)).number,
+        || *second = port::build(builder, &lent, black_box(&notes), black_box(&mut theirs)).number,
+    );
+    check(builder, &changed, numbers[0], &ours)?;
+    check(builder, scene, numbers[1], &theirs)?;
+    Ok(times)
 }
 
 fn median(mut numbers: Vec<f64>) -> f64 {
@@ -162,25 +202,28 @@ fn describe(scene: &Scene) -> String {
 fn print_row(name: &str, all: &[(Times, String)]) {
     let of = |part: fn(&Times) -> f64| all.iter().map(|(times, _)| part(times)).collect();
     let port = median(of(|times| times.port)) / 1e3;
-    let original = median(of(|times| times.original)) / 1e3;
+    let other = median(of(|times| times.other)) / 1e3;
     let ratios: Vec<f64> = of(Times::ratio);
     let mean = (ratios.iter().map(|ratio| ratio.ln()).sum::<f64>() / ratios.len() as f64).exp();
     let by_ratio = |a: &&(Times, String), b: &&(Times, String)| a.0.ratio().total_cmp(&b.0.ratio());
     let (worst, scene) = all.iter().min_by(by_ratio).expect("there is a scene");
     let (number, least, middle) = (all.len(), worst.ratio(), median(ratios));
     println!(
-        "| {name} | {number} | {port:.1} | {original:.1} | {mean:.2} | {middle:.2} | {least:.2} | \
+        "| {name} | {number} | {port:.1} | {other:.1} | {mean:.2} | {middle:.2} | {least:.2} | \
          {scene} |"
     );
 }
 
+/// How the scenes of a row are timed.
+type Timed = fn(Builder, &Scene) -> Result<Times, String>;
+
 /// Times a class's scenes, and answers the number of those whose masks are wrong.
-fn row(name: &str, builder: Builder, class: &Class, seed: u64) -> usize {
+fn row(name: &str, (builder, timed): (Builder, Timed), class: &Class, seed: u64) -> usize {
     let mut random = Random::new(seed);
     let (mut all, mut wrong) = (Vec::new(), 0);
     for number in 0..class.scenes {
         let scene = class.scene(&mut random, number);
-        match times(builder, &scene) {
+        match timed(builder, &scene) {
             Ok(times) => all.push((times, describe(&scene))),
             Err(text) => {
                 println!("wrong, {name}, scene {number}: {text}");
@@ -200,18 +243,26 @@ Whole masks, medians of the microseconds; the ratios are the time of the Rust di
 | scenes | number | port | Rust | geometric mean | median | least | where |
 |---|---|---|---|---|---|---|---|";
 
-/// Prints the table, and answers the number of scenes whose masks are wrong.
+const HERTZ_HEAD: &str = "\
+The port on chords by hertz; the ratios are its time on the same chords by note divided by that
+
+| scenes | number | by hertz | by note | geometric mean | median | least | where |
+|---|---|---|---|---|---|---|---|";
+
+/// Prints the tables, and answers the number of scenes whose masks are wrong.
 pub fn table(seed: u64) -> usize {
     println!("{HEAD}");
+    let stereo = Builder::StereoPrecomputed;
     let mut wrong = 0;
     for class in &CLASSES {
-        wrong += row(class.name, Builder::StereoPrecomputed, class, seed);
+        wrong += row(class.name, (stereo, times), class, seed);
     }
     for builder in Builder::ALL {
         if !builder.is_stereo() {
             let name = format!("`{}`, the chords, still", builder.name());
-            wrong += row(&name, builder, &CHORDS, seed);
+            wrong += row(&name, (builder, times), &CHORDS, seed);
         }
     }
-    wrong
+    println!("\n{HERTZ_HEAD}");
+    wrong + row(CHORDS.name, (stereo, hertz_times), &CHORDS, seed)
 }

@@ -2,12 +2,14 @@
 
 use crate::open_calls::note_slice;
 use crate::tally::Tally;
+use linked::VoiceRecord;
 use linked::calls::{self as port, Crossing};
 use oracle::builders::{Builder, Lent, Masks, block_of};
 use oracle::edges::around;
 use oracle::mask_calls::{Call, fault, other_table};
+use oracle::plain_pitch::{HERTZ, NOTE};
 use oracle::random::Random;
-use oracle::refusals::{self as refuse, LEVEL, Outcome, TABLE, within};
+use oracle::refusals::{self as refuse, LEVEL, Outcome, Refusal, TABLE, within};
 use oracle::scenes::{SHAPES, SILENT_LEVEL, Scene};
 use oracle::spectral_dsp::{MANUAL_MASK_POINTS, MaskVoice};
 
@@ -86,6 +88,51 @@ fn block(random: &mut Random, fft_size: usize, table: &[f32]) -> Vec<f32> {
     block
 }
 
+/// Puts any note into the records by hertz, where it does not count, and now and then a form that
+/// is neither into a record whose numbers would do for both.
+fn odd_forms(random: &mut Random, records: &mut [VoiceRecord]) {
+    for record in records.iter_mut().filter(|one| one.pitch_form == HERTZ) {
+        record.note = random.word() as u8;
+    }
+    if !records.is_empty() && random.once_in(16) {
+        let index = random.below(records.len());
+        let record = &mut records[index];
+        record.pitch_form = 2 + random.below(254) as u8;
+        record.note = random.below(128) as u8;
+        record.semitones_or_hertz = random.between(refuse::HERTZ.0, refuse::TUNING.1);
+    }
+}
+
+/// What became of the calls that were given voices by hertz, or of neither form.
+#[derive(Default)]
+struct Forms {
+    done: u64,
+    hertz_refused: u64,
+    neither_refused: u64,
+}
+
+impl Forms {
+    fn count(&mut self, records: &[VoiceRecord], answer: Outcome) {
+        match answer {
+            Ok(()) => self.done += u64::from(records.iter().any(|one| one.pitch_form == HERTZ)),
+            Err(Refusal { number: 5, place }) => match records[place].pitch_form {
+                NOTE => (),
+                HERTZ => self.hertz_refused += 1,
+                _ => self.neither_refused += 1,
+            },
+            Err(_) => (),
+        }
+    }
+
+    fn print(&self) {
+        let (done, hertz, neither) = (self.done, self.hertz_refused, self.neither_refused);
+        println!(
+            "voices by hertz: {done} calls done, {hertz} refused at one; {neither} refused at a \
+             voice of neither form"
+        );
+    }
+}
+
 impl Drawn {
     fn new(random: &mut Random) -> Self {
         let (mut call, curve) = scene(random);
@@ -102,6 +149,8 @@ impl Drawn {
         }
         lent.block = block(random, lent.config.fft_size, &lent.table);
         let mut crossing = Crossing::from(&lent);
+        odd_forms(random, &mut crossing.voices);
+        lent.voices = crossing.read_voices();
         if random.once_in(64) {
             crossing.settings.motion_shape = random.pick(&[8, 9, 255, 256, u32::MAX]);
         }
@@ -122,27 +171,35 @@ impl Drawn {
         builder.build(&self.lent, masks)
     }
 
-    fn compare(&self, number: u64, builder: Builder, tally: &mut Tally) {
+    /// Compares a call, and answers what the oracle answers.
+    fn compare(&self, number: u64, builder: Builder, tally: &mut Tally) -> Outcome {
         let (mut ours, mut theirs) = (self.before.clone(), self.before.clone());
         let given = port::build(builder, &self.lent, &self.crossing, &mut ours);
-        let answer = self.agreed(builder, &mut theirs).map(|()| []);
+        let answer = self.agreed(builder, &mut theirs);
         let lengths = self.before.each_ref().map(Vec::len);
         let slices = [&self.before, &ours, &theirs].map(|masks| masks.concat());
         let slices = slices.each_ref().map(Vec::as_slice);
         let crossing = &self.crossing;
         let arguments = (number, lengths, crossing.settings, &crossing.voices);
-        note_slice(tally, arguments, given, answer, slices);
+        note_slice(tally, arguments, given, answer.map(|()| []), slices);
+        answer
     }
 }
 
 pub fn compare(seed: u64, scenes: u64) -> u64 {
     let mut random = Random::new(seed);
     let mut tallies = Builder::ALL.map(|builder| Tally::new(builder.name()));
+    let mut forms = Forms::default();
     for number in 0..scenes {
         let drawn = Drawn::new(&mut random);
         for (builder, tally) in Builder::ALL.into_iter().zip(&mut tallies) {
-            drawn.compare(number, builder, tally);
+            let answer = drawn.compare(number, builder, tally);
+            if builder.takes_voices() {
+                forms.count(&drawn.crossing.voices, answer);
+            }
         }
     }
-    tallies.into_iter().map(Tally::close).sum()
+    let differences = tallies.into_iter().map(Tally::close).sum();
+    forms.print();
+    differences
 }
