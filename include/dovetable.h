@@ -64,17 +64,25 @@ enum DovetableShape {
     DOVETABLE_CLOUD = 7
 };
 
-/* A held note with its expression. The last five take any finite number. */
+/* The forms of a voice's pitch. Any other number is refusal 5 at its voice. */
+enum DovetablePitchForm {
+    DOVETABLE_PITCH_NOTE = 0, /* a note and its offset in semitones */
+    DOVETABLE_PITCH_HERTZ = 1 /* the fundamental itself, with no tuning added */
+};
+
+/* A held pitch with its expression. The last five take any finite number. */
 struct DovetableVoice {
-    uint8_t note;           /* 0..127 */
-    float level;            /* 0..1, note envelope level; 0 contributes nothing */
-    float tuning_semitones; /* -48..48, offset from the equal-tempered pitch of the note */
-    float pressure;         /* clamped to 0..1 */
-    float timbre;           /* clamped to 0..1; 0.5 keeps the rolloff, lower values darken the
-                             * partials, higher values brighten them */
-    float volume_gain;      /* base strength, including velocity */
-    float expression_gain;  /* linear gain of the note-opened component, not of the background */
-    float pan;              /* clamped: -1 left through 0 center to +1 right; ignored in mono */
+    uint8_t pitch_form;       /* a DovetablePitchForm */
+    uint8_t note;             /* 0..127; ignored for hertz */
+    float semitones_or_hertz; /* for a note -48..48, offset from its equal-tempered pitch; for hertz
+                               * 1..20,000 */
+    float level;              /* 0..1, note envelope level; 0 contributes nothing */
+    float pressure;           /* clamped to 0..1 */
+    float timbre;             /* clamped to 0..1; 0.5 keeps the rolloff, lower values darken the
+                               * partials, higher values brighten them */
+    float volume_gain;        /* base strength, including velocity */
+    float expression_gain;    /* linear gain of the note-opened component, not of the background */
+    float pan;                /* clamped: -1 left through 0 center to +1 right; ignored in mono */
 };
 
 /* A mask's settings. All are tested, including those that a call does not use. */

@@ -1,5 +1,6 @@
 /*
- * A chord as stereo masks, and a refusal. From the repository's root, once the library is there:
+ * A chord as stereo masks, its fifth by hertz, and a refusal. From the repository's root, once the
+ * library is there:
  *
  *     cc -std=c11 -I include bindings/c/example.c \
  *         target/staticlib/libspectral_dsp_c.a -o target/example
@@ -16,9 +17,17 @@ enum { SIZE = 8192, BINS = SIZE / 2 + 1, VOICES = 3 };
 static float curve[DOVETABLE_CURVE_POINTS];
 static float table[BINS], left[BINS], right[BINS];
 
-static struct DovetableVoice voice(uint8_t note, float pan) {
-    struct DovetableVoice made = {.note = note, .level = 1.0f, .pressure = 1.0f, .timbre = 0.5f,
-                                  .volume_gain = 1.0f, .expression_gain = 1.0f, .pan = pan};
+static struct DovetableVoice by_note(uint8_t note, float pan) {
+    struct DovetableVoice made = {.pitch_form = DOVETABLE_PITCH_NOTE, .note = note, .level = 1.0f,
+                                  .pressure = 1.0f, .timbre = 0.5f, .volume_gain = 1.0f,
+                                  .expression_gain = 1.0f, .pan = pan};
+    return made;
+}
+
+static struct DovetableVoice by_hertz(float hertz, float pan) {
+    struct DovetableVoice made = by_note(0, pan);
+    made.pitch_form = DOVETABLE_PITCH_HERTZ;
+    made.semitones_or_hertz = hertz;
     return made;
 }
 
@@ -35,14 +44,16 @@ static uint32_t masks_of(const struct DovetableVoice *chord, struct DovetableSet
 }
 
 int main(void) {
-    /* The bins that are closest to the three notes, one between them, and the last. */
+    /* The bins that are closest to the three voices, one between them, and the last. */
     static const size_t shown[] = {45, 50, 56, 67, BINS - 1};
     struct DovetableSettings settings = {
         .sample_rate = 48000.0f, .fft_size = SIZE, .note_depth_db = 48.0f,
         .note_layer_enabled = true, .width_cents = 50.0f, .partials = 8,
         .harmonic_rolloff_db_per_octave = 6.0f, .motion_shape = DOVETABLE_RIPPLE,
         .motion_depth_db = 12.0f, .motion_phase = 0.25f, .motion_size_octaves = 2.0f};
-    struct DovetableVoice chord[VOICES] = {voice(60, -0.5f), voice(64, 0.0f), voice(67, 0.5f)};
+    /* The fifth is pure: one and a half times the frequency of note 60. */
+    struct DovetableVoice chord[VOICES] = {by_note(60, -0.5f), by_note(64, 0.0f),
+                                           by_hertz(392.44f, 0.5f)};
     size_t place = 0;
 
     /* A curve that falls by 24 dB from the first point to the last. */
@@ -57,7 +68,7 @@ int main(void) {
         printf("%4zu  %.9g  %.9g\n", bin, left[bin], right[bin]);
     }
 
-    chord[2].note = 128;
+    chord[2].semitones_or_hertz = 20001.0f;
     uint32_t number = masks_of(chord, settings, &place);
     printf("refused: %u at %zu\n", (unsigned)number, place);
     return number == DOVETABLE_REFUSED_VOICE ? 0 : 1;

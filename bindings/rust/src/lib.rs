@@ -12,12 +12,15 @@
 //! let mut table = vec![0.0; config.bins()];
 //! MaskWorkspace::prepare(&mut table, config.sample_rate, config.fft_size)?;
 //!
-//! let voice = |note, pan| MaskVoice { note, level: 1.0, pan, ..MaskVoice::default() };
-//! let chord = [voice(60, -0.5), voice(64, 0.0), voice(67, 0.5)];
+//! let voice = |pitch, pan| MaskVoice { pitch, level: 1.0, pan, ..MaskVoice::default() };
+//! let note = |note| Pitch::Note { note, semitones: 0.0 };
+//! let fifth = Pitch::Hertz { hertz: 392.44 };
+//! let chord = [voice(note(60), -0.5), voice(note(64), 0.0), voice(fifth, 0.5)];
 //! let curve = [0.0; MANUAL_MASK_POINTS];
 //! let (mut left, mut right) = (table.clone(), table.clone());
 //! build_stereo_masks_with_voices_precomputed(&mut left, &mut right, &curve, &chord, config, &table)?;
 //! assert!(left[45] > right[45]); // note 60, on the left
+//! assert!(left[67] < right[67]); // the fifth, on the right
 //!
 //! let refused = note_frequency(128).unwrap_err();
 //! assert_eq!(refused.to_string(), "refusal 2: a setting or lone number outside its limits, or NaN");

@@ -8,6 +8,12 @@ use crate::refused::{Refused, outcome};
 use crate::scene::{MaskConfig, MaskVoice};
 use crate::sys;
 
+/// A slice of voices as one of records: the two lie in memory alike, which tests/layout.rs checks.
+/// The note's byte of a pitch by hertz is unset; the library copies it and does not use it.
+fn as_records(voices: &[MaskVoice]) -> *const sys::VoiceRecord {
+    voices.as_ptr().cast()
+}
+
 /// A mask from 128 note levels, of default voices. Tests: 1, 2, 4, 7.
 pub fn build_mask(
     output: &mut [f32],
@@ -33,7 +39,7 @@ pub fn build_mask_with_voices(
 ) -> Result<(), Refused> {
     let (written, bins) = (output.as_mut_ptr(), output.len());
     let (curve, points) = (manual_mask_db.as_ptr(), manual_mask_db.len());
-    let (records, count) = (voices.as_ptr(), voices.len());
+    let (records, count) = (as_records(voices), voices.len());
     let settings = config.into();
     outcome(|place| unsafe {
         sys::dovetable_build_mask_with_voices(
@@ -52,7 +58,7 @@ pub fn build_mask_with_voices_precomputed(
 ) -> Result<(), Refused> {
     let (written, bins) = (output.as_mut_ptr(), output.len());
     let (curve, points) = (manual_mask_db.as_ptr(), manual_mask_db.len());
-    let (records, count) = (voices.as_ptr(), voices.len());
+    let (records, count) = (as_records(voices), voices.len());
     let (entries, length) = (table.as_ptr(), table.len());
     let settings = config.into();
     outcome(|place| unsafe {
@@ -74,7 +80,7 @@ pub fn build_stereo_masks_with_voices_precomputed(
     let (left, left_bins) = (left.as_mut_ptr(), left.len());
     let (right, right_bins) = (right.as_mut_ptr(), right.len());
     let (curve, points) = (manual_mask_db.as_ptr(), manual_mask_db.len());
-    let (records, count) = (voices.as_ptr(), voices.len());
+    let (records, count) = (as_records(voices), voices.len());
     let (entries, length) = (table.as_ptr(), table.len());
     let settings = config.into();
     outcome(|place| unsafe {
@@ -98,7 +104,7 @@ pub fn build_stereo_masks_with_prepared_spectrum(
     let (left, left_bins) = (left.as_mut_ptr(), left.len());
     let (right, right_bins) = (right.as_mut_ptr(), right.len());
     let (curve, points) = (manual_mask_db.as_ptr(), manual_mask_db.len());
-    let (records, count) = (voices.as_ptr(), voices.len());
+    let (records, count) = (as_records(voices), voices.len());
     let (block, length) = (prepared.block().as_ptr(), prepared.block().len());
     let settings = config.into();
     outcome(|place| unsafe {

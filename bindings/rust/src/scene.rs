@@ -1,7 +1,6 @@
 //! Voices and settings, under the Rust's names and with its defaults.
 
 use crate::sys;
-pub use sys::MaskVoice;
 
 /// The points of a drawn curve.
 pub const MANUAL_MASK_POINTS: usize = 8193;
@@ -10,12 +9,45 @@ pub const MIDI_NOTES: usize = 128;
 /// The most partials that a note may have.
 pub const MAX_PARTIALS: usize = 24;
 
+/// A voice's pitch. The two forms are never equal, even where they sound the same frequency.
+#[repr(u8)]
+#[derive(Clone, Copy, Debug, PartialEq)]
+pub enum Pitch {
+    /// A note, 0..127, and an offset from its equal-tempered pitch, -48..48 semitones.
+    Note { note: u8, semitones: f32 },
+    /// The fundamental itself, 1..20,000 Hz, with no tuning added.
+    Hertz { hertz: f32 },
+}
+
+/// A held pitch with its expression. The last five take any finite number. It lies in memory as a
+/// [`sys::VoiceRecord`] does, so that a slice of voices is passed without copying.
+#[repr(C)]
+#[derive(Clone, Copy, Debug, PartialEq)]
+pub struct MaskVoice {
+    pub pitch: Pitch,
+    /// 0..1, note envelope level; 0 contributes nothing.
+    pub level: f32,
+    /// Clamped to 0..1.
+    pub pressure: f32,
+    /// Harmonic tilt, clamped to 0..1. 0.5 keeps the configured rolloff; lower values darken the
+    /// partials and higher values brighten them.
+    pub timbre: f32,
+    /// Base strength (including velocity), bounded to openness before expression.
+    pub volume_gain: f32,
+    /// Linear gain of the note-opened component, independent of the background floor.
+    pub expression_gain: f32,
+    /// Stereo placement, clamped: -1 left through 0 center to +1 right. Ignored in mono.
+    pub pan: f32,
+}
+
 impl Default for MaskVoice {
     fn default() -> Self {
         Self {
-            note: 0,
+            pitch: Pitch::Note {
+                note: 0,
+                semitones: 0.0,
+            },
             level: 0.0,
-            tuning_semitones: 0.0,
             pressure: 1.0,
             timbre: 0.5,
             volume_gain: 1.0,

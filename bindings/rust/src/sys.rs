@@ -4,26 +4,18 @@
 /// Works on `n` numbers in place.
 pub type All = unsafe extern "C" fn(xs: *mut f32, n: usize);
 
-/// A held note with its expression. The last five take any finite number.
+/// A voice as it is passed. The form of its pitch is a number, which may be neither of the two.
 #[repr(C)]
-#[derive(Clone, Copy, Debug, PartialEq)]
-pub struct MaskVoice {
-    /// 0..127.
+#[derive(Clone, Copy, Debug)]
+pub struct VoiceRecord {
+    pub pitch_form: u8,
     pub note: u8,
-    /// 0..1, note envelope level; 0 contributes nothing.
+    pub semitones_or_hertz: f32,
     pub level: f32,
-    /// -48..48, offset in semitones from the equal-tempered pitch of the note.
-    pub tuning_semitones: f32,
-    /// Clamped to 0..1.
     pub pressure: f32,
-    /// Harmonic tilt, clamped to 0..1. 0.5 keeps the configured rolloff; lower values darken the
-    /// partials and higher values brighten them.
     pub timbre: f32,
-    /// Base strength (including velocity), bounded to openness before expression.
     pub volume_gain: f32,
-    /// Linear gain of the note-opened component, independent of the background floor.
     pub expression_gain: f32,
-    /// Stereo placement, clamped: -1 left through 0 center to +1 right. Ignored in mono.
     pub pan: f32,
 }
 
@@ -154,7 +146,7 @@ unsafe extern "C" {
         output_bins: usize,
         manual_mask_db: *const f32,
         points: usize,
-        voices: *const MaskVoice,
+        voices: *const VoiceRecord,
         count: usize,
         settings: Settings,
         place: &mut usize,
@@ -164,7 +156,7 @@ unsafe extern "C" {
         output_bins: usize,
         manual_mask_db: *const f32,
         points: usize,
-        voices: *const MaskVoice,
+        voices: *const VoiceRecord,
         count: usize,
         settings: Settings,
         table: *const f32,
@@ -178,7 +170,7 @@ unsafe extern "C" {
         right_bins: usize,
         manual_mask_db: *const f32,
         points: usize,
-        voices: *const MaskVoice,
+        voices: *const VoiceRecord,
         count: usize,
         settings: Settings,
         table: *const f32,
@@ -192,7 +184,7 @@ unsafe extern "C" {
         right_bins: usize,
         manual_mask_db: *const f32,
         points: usize,
-        voices: *const MaskVoice,
+        voices: *const VoiceRecord,
         count: usize,
         settings: Settings,
         block: *const f32,

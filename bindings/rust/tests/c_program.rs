@@ -28,7 +28,27 @@ fn compiler(name: &str, standard: &str) -> Option<Command> {
     Some(command)
 }
 
-/// The scene of the C program.
+/// The chord of the C program.
+fn chord() -> [MaskVoice; 3] {
+    let voice = |pitch, pan| MaskVoice {
+        pitch,
+        level: 1.0,
+        pan,
+        ..MaskVoice::default()
+    };
+    let note = |note| Pitch::Note {
+        note,
+        semitones: 0.0,
+    };
+    let fifth = Pitch::Hertz { hertz: 392.44 };
+    [
+        voice(note(60), -0.5),
+        voice(note(64), 0.0),
+        voice(fifth, 0.5),
+    ]
+}
+
+/// The masks of the C program's scene.
 fn masks() -> [Vec<f32>; 2] {
     let config = MaskConfig {
         note_depth_db: 48.0,
@@ -42,13 +62,6 @@ fn masks() -> [Vec<f32>; 2] {
         },
         ..MaskConfig::default()
     };
-    let voice = |note, pan| MaskVoice {
-        note,
-        level: 1.0,
-        pan,
-        ..MaskVoice::default()
-    };
-    let chord = [voice(60, -0.5), voice(64, 0.0), voice(67, 0.5)];
     let curve: Vec<f32> = (0..MANUAL_MASK_POINTS)
         .map(|point| -(point as f32) * (24.0 / 8192.0))
         .collect();
@@ -56,7 +69,7 @@ fn masks() -> [Vec<f32>; 2] {
     MaskWorkspace::prepare(&mut table, config.sample_rate, config.fft_size).unwrap();
     let mut masks = [table.clone(), table.clone()];
     let [left, right] = &mut masks;
-    build_stereo_masks_with_voices_precomputed(left, right, &curve, &chord, config, &table)
+    build_stereo_masks_with_voices_precomputed(left, right, &curve, &chord(), config, &table)
         .unwrap();
     masks
 }

@@ -20,13 +20,24 @@ fn table() -> Vec<f32> {
     table
 }
 
-fn voice(note: u8, pan: f32) -> MaskVoice {
-    MaskVoice {
+fn note(note: u8) -> Pitch {
+    Pitch::Note {
         note,
+        semitones: 0.0,
+    }
+}
+
+fn pitched(pitch: Pitch, pan: f32) -> MaskVoice {
+    MaskVoice {
+        pitch,
         level: 1.0,
         pan,
         ..MaskVoice::default()
     }
+}
+
+fn voice(key: u8, pan: f32) -> MaskVoice {
+    pitched(note(key), pan)
 }
 
 fn stereo(
@@ -83,6 +94,99 @@ fn note_levels_are_default_voices() {
     assert_eq!(masks[0], masks[1]);
 }
 
+/// A voice by hertz, panned, beside a note.
+fn with_hertz(hertz: f32) -> [MaskVoice; 2] {
+    [voice(69, -1.0), pitched(Pitch::Hertz { hertz }, 1.0)]
+}
+
+#[test]
+fn hertz_from_1_to_20_000_are_accepted() {
+    for hertz in [1.0, 1.0_f32.next_up(), 440.5, 20_000.0] {
+        assert!(stereo(&with_hertz(hertz), config(), &table()).is_ok());
+    }
+    let past = [1.0_f32.next_down(), 20_000.0_f32.next_up()];
+    let far = [0.0, -440.0, f32::NAN, f32::INFINITY, f32::NEG_INFINITY];
+    for hertz in past.into_iter().chain(far) {
+        let answer = stereo(&with_hertz(hertz), config(), &table());
+        assert_eq!(answer, Err(refused(5, 1)), "{hertz}");
+    }
+}
+
+#[test]
+fn a_note_and_the_hertz_that_it_sounds_have_the_same_masks() {
+    for (key, semitones) in [(69, 0.0), (60, 0.0), (93, -0.3125), (24, 47.5)] {
+        let tuned = Pitch::Note {
+            note: key,
+            semitones,
+        };
+        let hertz = note_frequency_with_tuning(key, semitones).unwrap();
+        let by_note = [voice(69, -1.0), pitched(tuned, 1.0)];
+        let masks = stereo(&by_note, config(), &table()).unwrap();
+        assert_eq!(
+            masks,
+            stereo(&with_hertz(hertz), config(), &table()).unwrap()
+        );
+        let higher = stereo(&with_hertz(hertz * 1.01), config(), &table()).unwrap();
+        assert_ne!(masks, higher);
+    }
+}
+
+/// The number and the place that each builder gives on records, in the order of the header.
+fn of_records(records: &[sys::VoiceRecord]) -> [(u32, usize); 4] {
+    let (voices, count) = (records.as_ptr(), records.len());
+    let (curve, points) = (CURVE.as_ptr(), CURVE.len());
+    let window = [1.0; 1024];
+    let table = table();
+    let prepared = [&window[..], &window, &window, &window, &table].concat();
+    let (entries, n) = (table.as_ptr(), table.len());
+    let (block, length) = (prepared.as_ptr(), prepared.len());
+    let (settings, mut places) = (config().into(), [0; 4]);
+    let (mut left, mut right) = (table.clone(), table.clone());
+    let (left, right) = (left.as_mut_ptr(), right.as_mut_ptr());
+    let [first, second, third, fourth] = &mut places;
+    // Each pointer and length are those of one slice.
+    let numbers = unsafe {
+        [
+            sys::dovetable_build_mask_with_voices(
+                left, n, curve, points, voices, count, settings, first,
+            ),
+            sys::dovetable_build_mask_with_voices_precomputed(
+                left, n, curve, points, voices, count, settings, entries, n, second,
+            ),
+            sys::dovetable_build_stereo_masks_with_voices_precomputed(
+                left, n, right, n, curve, points, voices, count, settings, entries, n, third,
+            ),
+            sys::dovetable_build_stereo_masks_with_prepared_spectrum(
+                left, n, right, n, curve, points, voices, count, settings, block, length, fourth,
+            ),
+        ]
+    };
+    std::array::from_fn(|call| (numbers[call], places[call]))
+}
+
+/// In every builder that takes voices, and whatever the note's byte of a record by hertz holds.
+#[test]
+fn a_form_that_is_neither_is_refused_at_its_voice() {
+    let good = sys::VoiceRecord {
+        pitch_form: 1,
+        note: 255,
+        semitones_or_hertz: 440.0,
+        level: 1.0,
+        pressure: 1.0,
+        timbre: 0.5,
+        volume_gain: 1.0,
+        expression_gain: 1.0,
+        pan: 0.0,
+    };
+    assert_eq!(of_records(&[good; 3]), [(0, 0); 4]);
+    for pitch_form in [2, 3, 127, 128, 255] {
+        let mut records = [good; 3];
+        records[1].pitch_form = pitch_form;
+        records[2].semitones_or_hertz = 0.5;
+        assert_eq!(of_records(&records), [(5, 1); 4]);
+    }
+}
+
 #[test]
 fn single_numbers() {
     assert_eq!(db_to_gain(0.0), Ok(1.0));
@@ -132,7 +236,7 @@ fn each_refusal_has_its_number_and_place() {
         },
     );
     let mut bad_voice = good;
-    bad_voice[2].note = 128;
+    bad_voice[2].pitch = note(128);
     let mut bad_table = table();
     bad_table[4] = f32::NAN;
     let short = &table()[1..];

@@ -26,9 +26,9 @@ const TYPES: [(&str, &str, &str); 12] = [
     ("&[u8]", "const uint8_t *", "*const u8"),
 ];
 const VOICES: (&str, &str, &str) = (
-    "&[MaskVoice]",
+    "&[VoiceRecord]",
     "const struct DovetableVoice *",
-    "*const MaskVoice",
+    "*const VoiceRecord",
 );
 
 #[derive(Clone, Copy, PartialEq)]
@@ -188,7 +188,11 @@ fn every_function() {
 #[test]
 fn both_records() {
     let records = [
-        ("crates/scene/src/lib.rt", "MaskVoice", "DovetableVoice"),
+        (
+            "crates/crossing_voices/src/lib.rt",
+            "VoiceRecord",
+            "DovetableVoice",
+        ),
         (
             "crates/crossing/src/settings.rt",
             "Settings",
