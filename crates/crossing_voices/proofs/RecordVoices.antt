@@ -1,19 +1,28 @@
 -- The voices of a list of records: as many as there are records, each the voice of its record, so
--- that the array of all of them is the one that the records' count fills. Assumes nothing.
+-- that the array of all of them is the one that the records' count fills. A record whose form is
+-- none of the two is a voice outside its limits. Assumes nothing.
 use mathlib.Core.Path.{_≡_, refl, sym, ap, _∙_}
+use mathlib.Core.Bool.{false}
 use mathlib.Core.List.{List}
-use Prim.Native.Nat.{ℕ}
+use Prim.Native.Nat.{ℕ, _≤_}
 use lib.ListN.{length, getD, length-map, List·getD-map}
 use Rattle.scene.specs.declared.MaskVoice.{MaskVoice}
-use Rattle.scene.specs.Accepted.{noVoice}
+use Rattle.scene.specs.Accepted.{noVoice, voiceAccepted}
 use Rattle.scene.specs.PitchNumbers.{pitchOf}
 use Rattle.scene.specs.Gathered.{held, gatheredTo, gathered}
+use Rattle.scene.proofs.PitchNumbers.{other-form-refused}
 use Rattle.crossing_voices.specs.declared.VoiceRecord.{VoiceRecord}
 use Rattle.crossing_voices.specs.VoiceRecords.{voiceOf, recordVoices, noRecord}
 
 no-voice : noVoice ≡ voiceOf noRecord
 unfolding voiceOf pitchOf
 no-voice = refl
+
+pub other-form-outside :
+    (given : VoiceRecord) → 2 ≤ given .«pitch_form» → voiceAccepted (voiceOf given) ≡ false
+unfolding voiceAccepted voiceOf
+other-form-outside given h =
+    rw (other-form-refused (given .«pitch_form») (given .note) (given .«semitones_or_hertz») h) refl
 
 module _ (records : List VoiceRecord) where
   pub length-voices : length (recordVoices records) ≡ length records
