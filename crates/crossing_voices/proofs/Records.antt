@@ -1,5 +1,5 @@
 -- What the proof of a call on a lent slice of records needs of `gather`. What it needs of the array
--- that `gather` gives stands in lent_voices, in proofs/Lent.antt. Assumes nothing.
+-- that `gather` gives stands in scene, in proofs/Filled.antt. Assumes nothing.
 use mathlib.Core.Path.{_≡_}
 use mathlib.Core.List.{List, [], _∷_}
 use lib.ListN.{length}

@@ -51,7 +51,7 @@ fn record_at(records: &[VoiceRecord], index: usize) -> VoiceRecord
 pub fn gather(records: &[VoiceRecord]) -> [MaskVoice; MOST_VOICES]
     ensures { λ r. ⌜ r ≡ gathered (recordVoices (now (records .entry))) ⌝ }
 {
-    let count = lent_voices::held(records.len());
+    let count = scene::held(records.len());
     let mut array = scene::silent_voices();
     let mut i: usize = 0;
     while i < count {

@@ -20,7 +20,7 @@ use denote.Triple.Clauses.{ensured, lasts}
 use denote.Triple.Spec.{tripleOf}
 use Rattle.scene.specs.declared.MaskVoice.{MaskVoice}
 use Rattle.scene.specs.Gathered.{gathered}
-use Rattle.lent_voices.proofs.Filled.{R}
+use Rattle.scene.proofs.Filled.{R}
 use Rattle.lent_voices.proofs.gather as gather
 
 module _ {M : Type 1} (𝓤 : URA M) (H : Heap 𝓤) (A : Atoms 𝓤) (mem : Memory → SProp 𝓤)

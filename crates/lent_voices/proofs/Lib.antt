@@ -1,3 +1,2 @@
 pub mod Heard
-pub mod Filled
 pub mod Lent

@@ -6,7 +6,7 @@ ghost use Rattle.answer.specs.Reply.{ofOutcome};
 ghost use Rattle.answer.specs.Written.{written};
 ghost use Rattle.scene.specs.Accepted.{noVoice};
 ghost use Rattle.lobes.specs.Pan as side;
-ghost use Rattle.scene.specs.Gathered.{held, gathered};
+ghost use Rattle.scene.specs.Gathered.{gathered};
 ghost use Rattle.mask_calls.specs.LentStereo.{lentReply, lentMask};
 use answer::Outcome;
 use limits::lengths::MOST_VOICES;
@@ -21,21 +21,11 @@ fn voice_at(voices: &[MaskVoice], index: usize) -> MaskVoice
     voices[index]
 }
 
-// How many of `count` voices the core's array holds.
-pub fn held(count: usize) -> usize
-    ensures { λ r. ⌜ r ≡ held count ⌝ }
-{
-    if count <= MOST_VOICES {
-        return count;
-    }
-    MOST_VOICES
-}
-
 // Copies the voices of a slice into the core's array, the first 128 where there are more.
 pub fn gather(voices: &[MaskVoice]) -> [MaskVoice; MOST_VOICES]
     ensures { λ r. ⌜ r ≡ gathered (now (voices .entry)) ⌝ }
 {
-    let count = held(voices.len());
+    let count = scene::held(voices.len());
     let mut array = scene::silent_voices();
     let mut i: usize = 0;
     while i < count {

@@ -10,6 +10,7 @@ ghost use Rattle.limits.specs.Lengths.{MOST-VOICES};
 ghost use Rattle.scene.specs.Accepted.{motionAccepted, sizeAccepted, settingsAccepted};
 ghost use Rattle.scene.specs.Accepted.{voiceAccepted, firstVoiceOutside};
 ghost use Rattle.scene.specs.Made.{shapeOf, silentVoice};
+ghost use Rattle.scene.specs.Gathered.{held};
 use limits::lengths::MOST_VOICES;
 
 // A pitch by number or by hertz: a note, with an offset in semitones from its equal-tempered pitch;
@@ -102,6 +103,16 @@ pub fn silent_voices() -> [MaskVoice; MOST_VOICES]
         pan: 0.0f32,
     };
     [voice; MOST_VOICES]
+}
+
+// How many of `count` voices such an array holds.
+pub fn held(count: usize) -> usize
+    ensures { λ r. ⌜ r ≡ held count ⌝ }
+{
+    if count <= MOST_VOICES {
+        return count;
+    }
+    MOST_VOICES
 }
 
 // Whether both tests hold.

@@ -66,8 +66,8 @@ use Rattle.crossing_voices.proofs.RecordVoices.{length-voices, voice-at
 use Rattle.scene.specs.Made.{silentVoice}
 use Rattle.scene.specs.Gathered.{held, gatheredTo, gathered}
 use Rattle.scene.proofs.Gathered.{held-fits, length-gathered, gathered-none, gathered-more}
-use Rattle.lent_voices.proofs.Filled.{R as VR, AR, r-makes as v-makes, a-makes, r-typed as v-typed, a-typed, Held, Silent}
-use Rattle.lent_voices.proofs.Filled.{silent-to, silent-asked, silent-said, held-to, held-asked, held-said}
+use Rattle.scene.proofs.Filled.{R as VR, AR, r-makes as v-makes, a-makes, r-typed as v-typed, a-typed, Held, Silent}
+use Rattle.scene.proofs.Filled.{silent-to, silent-asked, silent-said, held-to, held-asked, held-said}
 use Rattle.crossing_voices.proofs.record_at as ra
 use Rattle.crossing_voices.proofs.record_at.Symbol as ra-def
 use Rattle.crossing_voices.proofs.record_at.Symbol.{name as #record-at}
@@ -76,10 +76,10 @@ use Rattle.crossing_voices.proofs.voice_of as vo
 use Rattle.crossing_voices.proofs.voice_of.Symbol as vo-def
 use Rattle.crossing_voices.proofs.voice_of.Symbol.{name as #voice-of}
 use Rattle.crossing_voices.proofs.voice_of.Met as vo-thm
-use Rattle.lent_voices.proofs.held as held-fn
-use Rattle.lent_voices.proofs.held.Symbol as held-def
-use Rattle.lent_voices.proofs.held.Symbol.{name as #held}
-use Rattle.lent_voices.proofs.held.Met as held-thm
+use Rattle.scene.proofs.held as held-fn
+use Rattle.scene.proofs.held.Symbol as held-def
+use Rattle.scene.proofs.held.Symbol.{name as #held}
+use Rattle.scene.proofs.held.Met as held-thm
 use Rattle.scene.proofs.silent_voices as silent
 use Rattle.scene.proofs.silent_voices.Symbol as silent-def
 use Rattle.scene.proofs.silent_voices.Symbol.{name as #silent-voices}
@@ -350,5 +350,5 @@ gather-spec 𝓤 H 𝓜 𝓖 𝓡 =
     (gather-meets 𝓤 H (𝓖 .A) (givenOf 𝓤 H 𝓜 𝓖) (𝓜 .mem) (𝓡 .run) (tablesOf 𝓤 H 𝓜 (tables 𝓤 H 𝓜 𝓡 code.env))
     (cited 𝓤 H (RecordAt 𝓤 H (𝓖 .A) (𝓜 .mem) (𝓡 .run)) 𝓜 𝓡 code.env #record-at ra-def.routine code.calls-crossing-voices·record-at (ra-thm.met 𝓤 H 𝓜 𝓖 𝓡))
     (cited 𝓤 H (VoiceOf 𝓤 H (𝓖 .A) (𝓜 .mem) (𝓡 .run)) 𝓜 𝓡 code.env #voice-of vo-def.routine code.calls-crossing-voices·voice-of (vo-thm.met 𝓤 H 𝓜 𝓖 𝓡))
-    (cited 𝓤 H (Held 𝓤 H (𝓖 .A) (𝓜 .mem) (𝓡 .run)) 𝓜 𝓡 code.env #held held-def.routine code.calls-lent-voices·held (held-thm.met 𝓤 H 𝓜 𝓖 𝓡))
+    (cited 𝓤 H (Held 𝓤 H (𝓖 .A) (𝓜 .mem) (𝓡 .run)) 𝓜 𝓡 code.env #held held-def.routine code.calls-scene·held (held-thm.met 𝓤 H 𝓜 𝓖 𝓡))
     (cited 𝓤 H (Silent 𝓤 H (𝓖 .A) (𝓜 .mem) (𝓡 .run)) 𝓜 𝓡 code.env #silent-voices silent-def.routine code.calls-scene·silent-voices (silent-thm.met 𝓤 H 𝓜 𝓖 𝓡)))

@@ -60,7 +60,7 @@ use Rattle.mask_calls.proofs.build_stereo_masks_with_voices_precomputed.Symbol.
 use Rattle.mask_calls.proofs.build_stereo_masks_with_voices_precomputed.Met as core-thm
 use Rattle.scene.specs.Gathered.{gathered}
 use Rattle.lent_voices.proofs.Heard.{stereo-same, stereo-few, written-same}
-use Rattle.lent_voices.proofs.Filled.{R, AR, a-makes, a-typed}
+use Rattle.scene.proofs.Filled.{R, AR, a-makes, a-typed}
 use Rattle.lent_voices.proofs.Lent.{Gather, gather-to, gather-asked, gather-said}
 use Rattle.lent_voices.proofs.gather as gather
 use Rattle.lent_voices.proofs.gather.Symbol as gather-def

@@ -60,16 +60,16 @@ use Rattle.scene.proofs.MaskVoice.Laws as T′
 use Rattle.scene.specs.Made.{silentVoice}
 use Rattle.scene.specs.Gathered.{held, gatheredTo, gathered}
 use Rattle.scene.proofs.Gathered.{held-fits, length-gathered, gathered-none, gathered-more}
-use Rattle.lent_voices.proofs.Filled.{R, AR, r-makes, a-makes, r-typed, a-typed, Held, Silent}
-use Rattle.lent_voices.proofs.Filled.{silent-to, silent-asked, silent-said, held-to, held-asked, held-said}
+use Rattle.scene.proofs.Filled.{R, AR, r-makes, a-makes, r-typed, a-typed, Held, Silent}
+use Rattle.scene.proofs.Filled.{silent-to, silent-asked, silent-said, held-to, held-asked, held-said}
 use Rattle.lent_voices.proofs.voice_at as va
 use Rattle.lent_voices.proofs.voice_at.Symbol as va-def
 use Rattle.lent_voices.proofs.voice_at.Symbol.{name as #voice-at}
 use Rattle.lent_voices.proofs.voice_at.Met as va-thm
-use Rattle.lent_voices.proofs.held as held-fn
-use Rattle.lent_voices.proofs.held.Symbol as held-def
-use Rattle.lent_voices.proofs.held.Symbol.{name as #held}
-use Rattle.lent_voices.proofs.held.Met as held-thm
+use Rattle.scene.proofs.held as held-fn
+use Rattle.scene.proofs.held.Symbol as held-def
+use Rattle.scene.proofs.held.Symbol.{name as #held}
+use Rattle.scene.proofs.held.Met as held-thm
 use Rattle.scene.proofs.silent_voices as silent
 use Rattle.scene.proofs.silent_voices.Symbol as silent-def
 use Rattle.scene.proofs.silent_voices.Symbol.{name as #silent-voices}
@@ -303,5 +303,5 @@ gather-spec 𝓤 H 𝓜 𝓖 𝓡 =
     (tables 𝓤 H 𝓜 𝓡 code.env .C) (tables 𝓤 H 𝓜 𝓡 code.env .Λ) #gather code.function (code.unfolded 𝓤 H 𝓜 𝓡)
     (gather-meets 𝓤 H (𝓖 .A) (givenOf 𝓤 H 𝓜 𝓖) (𝓜 .mem) (𝓡 .run) (tablesOf 𝓤 H 𝓜 (tables 𝓤 H 𝓜 𝓡 code.env))
     (cited 𝓤 H (VoiceAt 𝓤 H (𝓖 .A) (𝓜 .mem) (𝓡 .run)) 𝓜 𝓡 code.env #voice-at va-def.routine code.calls-lent-voices·voice-at (va-thm.met 𝓤 H 𝓜 𝓖 𝓡))
-    (cited 𝓤 H (Held 𝓤 H (𝓖 .A) (𝓜 .mem) (𝓡 .run)) 𝓜 𝓡 code.env #held held-def.routine code.calls-lent-voices·held (held-thm.met 𝓤 H 𝓜 𝓖 𝓡))
+    (cited 𝓤 H (Held 𝓤 H (𝓖 .A) (𝓜 .mem) (𝓡 .run)) 𝓜 𝓡 code.env #held held-def.routine code.calls-scene·held (held-thm.met 𝓤 H 𝓜 𝓖 𝓡))
     (cited 𝓤 H (Silent 𝓤 H (𝓖 .A) (𝓜 .mem) (𝓡 .run)) 𝓜 𝓡 code.env #silent-voices silent-def.routine code.calls-scene·silent-voices (silent-thm.met 𝓤 H 𝓜 𝓖 𝓡)))

@@ -59,7 +59,7 @@ use Rattle.crossing_masks.proofs.tabled.Symbol as core-def
 use Rattle.crossing_masks.proofs.tabled.Symbol.{name as #core}
 use Rattle.crossing_masks.proofs.tabled.Met as core-thm
 use Rattle.scene.specs.Gathered.{gathered}
-use Rattle.lent_voices.proofs.Filled.{AR, a-makes, a-typed}
+use Rattle.scene.proofs.Filled.{AR, a-makes, a-typed}
 use Rattle.crossing_voices.specs.declared.VoiceRecord.{VoiceRecord}
 use Rattle.crossing_voices.specs.VoiceRecords.{recordVoices}
 use Rattle.lent_voices.proofs.Heard.{tabled-same, tabled-few, written-same}

@@ -25,13 +25,13 @@ use denote.Struct.Laws as LL
 use denote.Triple.Statement.{Contract}
 use denote.Triple.Clauses.{ensured, lasts}
 use denote.Triple.Spec.{tripleOf}
 use Rattle.scene.specs.declared.MaskVoice.{MaskVoice}
 use Rattle.scene.specs.Made.{silentVoice}
 use Rattle.scene.specs.Gathered.{held as heldOf}
 use Rattle.scene.proofs.MaskVoice as T
 use Rattle.scene.proofs.MaskVoice.Laws as T′
 use Rattle.scene.proofs.silent_voices as silent
-use Rattle.lent_voices.proofs.held as held
+use Rattle.scene.proofs.held as held
 
 -- a voice, and the array of them
 abbrev pub R : RattleType

@@ -1,7 +1,7 @@
--- `lent_voices::held` meets its contract. Assumes nothing.
+-- `scene::held` meets its contract. Assumes nothing.
 use borrow.Author.Tests.{lt-ltb, le-ltb}
-use Rattle.lent_voices.proofs.held.Statement.{statement}
-use Rattle.lent_voices.proofs.held.Tie as tie
+use Rattle.scene.proofs.held.Statement.{statement}
+use Rattle.scene.proofs.held.Tie as tie
 
 returns : tie.Need-returns
 returns c = simp (le-ltb _ _ (c .if1 .taken))
