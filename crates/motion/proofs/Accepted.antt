@@ -17,7 +17,7 @@ use Rattle.float32.specs.Remainder as remainder
 use Rattle.float32.specs.Remainder.{remEuclidOne}
 use Rattle.float32.proofs.OrderAgrees.{maximum-larger}
 use Rattle.power.specs.Log.{L2}
-use Rattle.power.proofs.Ends.{lowest, limit}
+use Rattle.power.specs.Power.{lowest, limit}
 use Rattle.power.proofs.LogRange.{L2-range, L2-real}
 use Rattle.scene.specs.declared.MotionShape.{MotionShape}
 use Rattle.scene.specs.declared.MotionShape.the-variants.{Ripple, Harmonic, Drift, Scan, Notch, Saw, Sprinkle, Cloud}

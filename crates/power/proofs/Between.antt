@@ -15,9 +15,9 @@ use lib.Ieee.Fits.{down-pos}
 use Rattle.float_laws.specs.Signs.{ord-of-le, sub-mul}
 use Rattle.float32.specs.Value.{moved}
 use Rattle.power.specs.Table.{I}
-use Rattle.power.specs.Power.{E2}
+use Rattle.power.specs.Power.{E2, lowest, limit}
 use Rattle.power.proofs.Made.{at-mid}
-use Rattle.power.proofs.Ends.{lowest, limit, high-of-le, under-of-lt, pos-high}
+use Rattle.power.proofs.Ends.{high-of-le, under-of-lt, pos-high}
 
 -- ---- one value, two fractions
 same-value : (x : Float) (s : Bool) (a c b d : ℕ) → 0 < c → a * d ≡ b * c → HasValue x s a c → HasValue x s b d

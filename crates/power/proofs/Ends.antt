@@ -11,15 +11,8 @@ use lib.Ieee.{Float, nan, inf, fin, up, down, le, lt, isNan, ofBits, binary32}
 use lib.Ieee.Fits.{down-pos}
 use Rattle.float_laws.specs.Signs.{ord-of-le}
 use Rattle.float32.specs.Value.{moved}
-use Rattle.power.specs.Power.{positiveZero, largest, E2}
+use Rattle.power.specs.Power.{positiveZero, largest, lowest, limit, E2}
 use Rattle.power.proofs.Made.{nan-is, at-low, at-high}
-
--- -126, and 128
-abbrev pub lowest : Float
-lowest = fin true 63 (pos 1)
-
-abbrev pub limit : Float
-limit = fin false 1 (pos 7)
 
 zero-is : ofBits binary32 0 ≡ positiveZero
 unfolding ofBits

@@ -18,13 +18,12 @@ use Rattle.float_laws.specs.Round.{round-number}
 use Rattle.float_laws.specs.Bounds.{real-between}
 use Rattle.power.specs.Table.{powerTable, I}
 use Rattle.power.specs.Rules.{Roots, P-rule}
-use Rattle.power.specs.Power.{positiveZero, largest}
+use Rattle.power.specs.Power.{positiveZero, largest, lowest, limit}
 use Rattle.power.specs.Log.{greatest, leastNormal, positiveNormal, unitsOf, rounded, logAt, logOf, L2}
 use Rattle.power.proofs.Division.{found-by-division}
 use Rattle.power.proofs.Logs.{L2-is, L2-elsewhere}
 use Rattle.power.proofs.LogRising.{rounded-mono, M-low, F-lt}
 use Rattle.power.proofs.Normal.{largest-value, units-are, units-low, units-mono}
-use Rattle.power.proofs.Ends.{lowest, limit}
 
 -- ---- of a power of two
 F-first : greatest I (128 * 2 ^ 23) (2 ^ 24) ≡ 0

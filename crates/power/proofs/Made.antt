@@ -8,7 +8,6 @@ use native.Mathlib.Nat.{le-trans}
 use native.Mathlib.Omega.{arith}
 use borrow.Author.Tests.{lt-ltb, le-ltb}
 use lib.Dec.{T, lit≤}
-use lib.Bits.{bitAnd, and-mask}
 use lib.Ieee.{Float, nan, binary32, odd, ofBits, nanBits, isNan}
 use lib.Ieee.Bits.{cond-no}
 use Rattle.float32.specs.Value.{moved}
@@ -56,14 +55,11 @@ module _ (x : Float) (f : T (not (isNan x))) where
 pub record Middle (y i : ℕ) : Type 0 where
   pub from : 2 * 2 ^ 24 ≤ y
   pub below : y < 256 * 2 ^ 24
-  pub power : i ≡ I (bitAnd y (2 ^ 24 - 1))
+  pub power : i ≡ I (y % 2 ^ 24)
 
 module _ {y i : ℕ} (c : Middle y i) where
-  masked : i ≡ I (y % 2 ^ 24)
-  masked = c .power ∙ ap (λ (z : ℕ). I z) (and-mask y 24)
-
   bounds : (2 ^ 30 ≤ i) × (i < 2 ^ 31)
-  bounds = rw masked (interp-low P-rule (y % 2 ^ 24) (omega arith), interp-high P-rule (y % 2 ^ 24) (omega arith))
+  bounds = rw (c .power) (interp-low P-rule (y % 2 ^ 24) (omega arith), interp-high P-rule (y % 2 ^ 24) (omega arith))
 
   whole : (2 ≤ y / 2 ^ 24) × (y / 2 ^ 24 < 256)
   whole = let l = c .from in let h = c .below in (omega arith, omega arith)
@@ -82,5 +78,5 @@ module _ {y i : ℕ} (c : Middle y i) where
       let b = bounds in
       let h = whole in
       rw shifted
-      (made (y / 2 ^ 24 - 2) (i / 128) (omega arith) (omega arith) (omega arith) ∙ ap (λ (z : ℕ). odd 24 false (z / 128) (y / 2 ^ 24 - 2) 149) masked
+      (made (y / 2 ^ 24 - 2) (i / 128) (omega arith) (omega arith) (omega arith) ∙ ap (λ (z : ℕ). odd 24 false (z / 128) (y / 2 ^ 24 - 2) 149) (c .power)
       ∙ sym (mid-is (y / 2 ^ 24) (y % 2 ^ 24) (h .0) (h .1)))

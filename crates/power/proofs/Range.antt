@@ -21,12 +21,12 @@ use Rattle.float32.proofs.Made.{made}
 use Rattle.lists.specs.Interpolation.{interp}
 use Rattle.power.specs.Table.{lowBits, powerTable, P, I}
 use Rattle.power.specs.Rules.{P-rule}
-use Rattle.power.specs.Power.{positiveZero, largest, powerAt, powerOf, E2}
+use Rattle.power.specs.Power.{positiveZero, largest, powerAt, powerOf, E2, lowest, limit}
 use Rattle.power.specs.Log.{leastNormal, positiveNormal}
 use Rattle.power.proofs.Interpolated.{interp-low, interp-high}
 use Rattle.power.proofs.Rising.{E2-mono, power-value}
 use Rattle.power.proofs.Made.{nan-is, at-mid}
-use Rattle.power.proofs.Ends.{lowest, limit, high-of-le, under-of-lt}
+use Rattle.power.proofs.Ends.{high-of-le, under-of-lt}
 
 -- ---- three values
 pub E2-zero : E2 positiveZero ≡ one

@@ -8,7 +8,7 @@
 -- Each definition takes a table p and its w low bits, and E2 is that for P. That it is what
 -- document 01 says, without any moving, is shown in proofs/Ends.antt and proofs/Between.antt.
 -- Assumes nothing.
-use mathlib.Core.Bool.{false, cond}
+use mathlib.Core.Bool.{true, false, cond}
 use Prim.Native.Nat.{ℕ, _-_, _/_, _%_, _^_}
 use lib.Dec.{ltb}
 use lib.IntN.{pos}
@@ -23,6 +23,13 @@ positiveZero = fin false 0 (pos 0)
 
 abbrev pub largest : Float
 largest = fin false 16777215 (pos 104)
+
+-- -126 and 128, between which the result is neither of these two
+abbrev pub lowest : Float
+lowest = fin true 63 (pos 1)
+
+abbrev pub limit : Float
+limit = fin false 1 (pos 7)
 
 -- Below -126, where N is below 2, it is 0, and from 128 up, where N is 256 or more, the largest
 -- finite f32. Between it is floor (I(F) / 128) * 2 ^ (n - 23), and n - 23 is (N - 2) - 149:

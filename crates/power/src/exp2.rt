@@ -1,22 +1,21 @@
 ghost use mathlib.Core.Path.{_≡_};
 ghost use Prim.Native.Nat.{_*_, _/_, _%_, _^_, _≤_, _<_};
-ghost use Rattle.power.specs.Table.{lowBits, powerTable, P};
-ghost use Rattle.power.specs.Power.{powerAt, E2};
+ghost use lib.Dec.{T};
+ghost use lib.Ieee.{le, lt};
+ghost use Rattle.float32.specs.Value.{moved};
+ghost use Rattle.power.specs.Table.{lowBits, powerTable, P, I};
+ghost use Rattle.power.specs.Power.{lowest, limit, powerAt, E2};
 use crate::table::PowerTable;
 use crate::table::interpolate;
 use fixed_point::LEAST;
 use fixed_point::far_steps;
 use fixed_point::near_steps;
 use float32::order::abs;
-use float32::order::in_range;
 
 pub const LARGEST: f32 = 3.4028235e38;
 
-// Below LOWEST the result is 0, from LIMIT up it is LARGEST. Up to HIGHEST_NEAR `near_steps` can be
-// used.
+// Below LOWEST the result is 0, from LIMIT up it is LARGEST.
 pub const LOWEST: f32 = -126.0;
-
-const HIGHEST_NEAR: f32 = 126.0;
 
 pub const LIMIT: f32 = 128.0;
 
@@ -26,13 +25,25 @@ const NEAR_MORE: u64 = 15032385536;
 
 pub const FAR_MORE: u64 = 140735340871680;
 
-// 2^(y / 2^24 - 128): y has the integer part of the exponent above its 24 fraction bits, F.
-fn power_of_steps(powers: &PowerTable, y: u64) -> f32
-    requires { ⌜ (now powers ≡ powerTable) × (2 * 2 ^ 24 ≤ y) × (y < 256 * 2 ^ 24) ⌝ }
+// floor((x + 128) * 2^24): the integer part of the exponent above its 24 fraction bits, F.
+pub fn steps(x: f32) -> u64
+    requires { ⌜ T (le lowest x) × T (lt x limit) ⌝ }
+    ensures { λ r. ⌜ r ≡ moved 128 x ⌝ }
+{
+    if LEAST <= abs(x) {
+        return near_steps(x) - NEAR_MORE;
+    }
+    far_steps(x) - FAR_MORE
+}
+
+// 2^(y / 2^24 - 128) from I(F), where F is y's 24 low bits: the leading bits of I(F) are added to
+// the exponent field, into which their leading 1 carries.
+pub fn power_of_steps(y: u64, i: u64) -> f32
+    requires { ⌜ (2 * 2 ^ 24 ≤ y) × (y < 256 * 2 ^ 24) × (i ≡ I (y % 2 ^ 24)) ⌝ }
     ensures { λ r. ⌜ r ≡ powerAt lowBits P (y / 2 ^ 24) (y % 2 ^ 24) ⌝ }
 {
     let n = y >> 24;
-    let q = interpolate(powers, y & 0xff_ffff) >> 7;
+    let q = i >> 7;
     f32::from_bits((((n - 2) << 23) + q) as u32)
 }
 
@@ -41,24 +52,20 @@ fn power_of_steps(powers: &PowerTable, y: u64) -> f32
 // Method. x + 128 is rounded down to a multiple of 2^-24 by one addition (fixed_point): its integer
 // part gives the exponent of the result, its 24 fraction bits are F. The table P (table.rt) holds
 // 2^(30 + h/256) rounded down; the 8 high bits of F choose an entry, and the 16 low bits
-// interpolate linearly to the next. The 24 leading bits of that are added to the exponent field,
-// into which their leading 1 carries. power_rows does the same for a row of numbers.
+// interpolate linearly to the next. The 24 leading bits of that are added to the exponent field.
+// power_rows does the same for a row of numbers, single_power for one number without the table.
 // Error, measured over the floats from -126 to 128: from -1.6e-7 to 9.2e-7 of 2^x. The line lies
 // above the curve, and rounding down lowers it.
 pub fn exp2(powers: &PowerTable, x: f32) -> f32
     requires { ⌜ now powers ≡ powerTable ⌝ }
     ensures { λ r. ⌜ r ≡ E2 x ⌝ }
 {
-    if in_range(x, LOWEST, HIGHEST_NEAR) {
-        if LEAST <= abs(x) {
-            return power_of_steps(powers, near_steps(x) - NEAR_MORE);
-        }
-    }
     if !(LOWEST <= x) {
         return 0.0;
     }
     if !(x < LIMIT) {
         return LARGEST;
     }
-    power_of_steps(powers, far_steps(x) - FAR_MORE)
+    let y = steps(x);
+    power_of_steps(y, interpolate(powers, y & 0xff_ffff))
 }

@@ -1,6 +1,6 @@
 ghost use mathlib.Core.Path.{_≡_};
-ghost use Prim.Native.Nat.{_^_, _<_, _≤_};
-ghost use Rattle.power.specs.Table.{highBits, powerTable, P, I};
+ghost use Prim.Native.Nat.{_+_, _/_, _^_, _<_, _≤_};
+ghost use Rattle.power.specs.Table.{highBits, lowBits, powerTable, P, I};
 
 // The table P of document 01, 2^(30 + j/256) rounded down: one step for each value of F's 8 high
 // bits, and the end of the last. exp2 and log2 read it, here and in power_rows; its rule is proved
@@ -9,7 +9,7 @@ pub type PowerTable = [u32; 257];
 
 // F has 24 bits: the high ones choose a step of the table, the low ones the position within the
 // step.
-pub(crate) const LOW_BITS: u64 = 16;
+pub const LOW_BITS: u64 = 16;
 
 pub(crate) const LOW_MASK: u64 = 0xffff;
 
@@ -36,15 +36,22 @@ pub(crate) fn power(powers: &PowerTable, j: usize) -> u64
     entry(powers, j) as u64
 }
 
-// I(F): linear interpolation between two adjacent entries, rounded down.
+// I(F) from the two entries around it, P[h] and P[h + 1] where h is F's high bits: linear
+// interpolation, rounded down.
+pub fn between(a: u64, b: u64, f: u64) -> u64
+    requires { ⌜ (f < 2 ^ 24) × (a ≡ P (f / 2 ^ lowBits)) × (b ≡ P (f / 2 ^ lowBits + 1)) ⌝ }
+    ensures { λ r. ⌜ r ≡ I f ⌝ }
+{
+    a + (((b - a) * (f & LOW_MASK)) >> LOW_BITS)
+}
+
+// I(F), from the table.
 pub fn interpolate(powers: &PowerTable, f: u64) -> u64
     requires { ⌜ (now powers ≡ powerTable) × (f < 2 ^ 24) ⌝ }
     ensures { λ r. ⌜ r ≡ I f ⌝ }
 {
     let h = (f >> LOW_BITS) as usize;
-    let a = power(powers, h);
-    let b = power(powers, h + 1);
-    a + (((b - a) * (f & LOW_MASK)) >> LOW_BITS)
+    between(power(powers, h), power(powers, h + 1), f)
 }
 
 const POWERS: PowerTable = [

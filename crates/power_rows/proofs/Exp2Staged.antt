@@ -13,9 +13,9 @@ use Rattle.lists.specs.Maps.{mapRange}
 use Rattle.lists.specs.Stages.{row-at}
 use Rattle.float32.specs.Value.{moved}
 use Rattle.power.specs.Table.{lowBits, P, I}
-use Rattle.power.specs.Power.{positiveZero, powerAt, E2}
+use Rattle.power.specs.Power.{positiveZero, powerAt, E2, lowest, limit}
 use Rattle.power_rows.specs.Exp2.{between, clipped, digits, Found}
-use Rattle.power.proofs.Ends.{lowest, limit, high-of-le}
+use Rattle.power.proofs.Ends.{high-of-le}
 use Rattle.power.proofs.Made.{Middle, at, bits-are, bits-fit, bits-no-nan}
 
 -- ---- between the ends

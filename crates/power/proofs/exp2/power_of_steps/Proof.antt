@@ -1,18 +1,12 @@
 -- `power_of_steps` meets its contract: the high and low bits of y are N and F, from which the bits
 -- are made as proofs/Made.antt says. Assumes nothing.
-use native.Mathlib.Nat.{lt-of-le-of-lt}
-use lib.Bits.{and-le-r}
-use lib.Dec.{lit<}
 use borrow.Author.Needs.{needs}
 use Rattle.power.proofs.Made.{Middle, bits-are, bits-fit, bits-no-nan}
 use Rattle.power.proofs.exp2.power_of_steps.Statement.{statement}
 use Rattle.power.proofs.exp2.power_of_steps.Tie as tie
 
-interpolate-requires : tie.Need-interpolate-requires
-interpolate-requires c κs = (c .pre .0, lt-of-le-of-lt (and-le-r (c .args .y) _) (lit< tt))
-
-middle : (c : tie.After-interpolate) → Middle (c .before .args .y) (c .interpolate .result)
-middle c = record { from = c .before .pre .1; below = c .before .pre .2; power = c .interpolate .ensures }
+middle : (c : tie.Start) → Middle (c .args .y) (c .args .i)
+middle c = record { from = c .pre .0; below = c .pre .1; power = c .pre .2 }
 
 sub-result : tie.Need-sub-result
 sub-result c = search needs
@@ -30,4 +24,4 @@ returns : tie.Need-returns
 returns c = bits-are (middle c)
 
 pub power-of-steps-spec : {M : Type 1} → statement M
-power-of-steps-spec = tie.close (tie.spec interpolate-requires sub-result add-result cast-result float-from-bits-result returns)
+power-of-steps-spec = tie.close (tie.spec sub-result add-result cast-result float-from-bits-result returns)

@@ -4,7 +4,7 @@ use mathlib.Core.Path.{_≡_, sym, subst, _∙_}
 use mathlib.Core.Bool.{Bool, true, false, not, true≢false}
 use lib.Dec.{T}
 use lib.Ieee.{binary32, fits, le, lt, ofBits}
-use Rattle.power.proofs.Ends.{lowest, limit}
+use Rattle.power.specs.Power.{lowest, limit}
 use Rattle.power.proofs.InSteps.{not-from, not-under}
 use Rattle.power_rows.proofs.Exp2Staged.{found-from, found-power}
 use Rattle.power_rows.proofs.exp2.power_of.Statement.{statement}
