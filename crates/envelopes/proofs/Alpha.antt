@@ -17,6 +17,9 @@ use Rattle.float_laws.specs.Bounds as bounds
 use Rattle.float_laws.specs.Bounds.{mul-real}
 use Rattle.float32.specs.Constants.{LOG2-E}
 use Rattle.float32.proofs.InUnit.{InUnit, one-in-unit, one-less}
+use Rattle.float32.proofs.Limits.{within-low, within-real}
+use Rattle.limits.specs.Limits as limits
+use Rattle.limits.specs.Limits.{LEAST-ELAPSED, MOST-ELAPSED, LEAST-FADE, MOST-FADE}
 use Rattle.power.specs.Decimal.{exp}
 use Rattle.power.proofs.Range.{E2-nonneg, E2-real}
 use Rattle.power.proofs.Bases.{exp-at-most-one}
@@ -54,3 +57,13 @@ alpha-unit elapsed time p h q = go (le time plus-zero) (not-le-f binary32 time p
 pub fade-alpha-unit : (elapsed fade : Float) → T (real binary32 elapsed) → T (le plus-zero elapsed) → T (real binary32 fade) → T (le plus-zero fade) → InUnit (fadeAlpha elapsed fade)
 unfolding ofBits le fits
 fade-alpha-unit elapsed fade p h q l = alpha-unit elapsed (mul binary32 fade SECONDS-PER-MS) p h (mul-real binary32 fade SECONDS-PER-MS q tt l tt tt)
+
+-- as the tests of the call say it, of f32 values
+pub accepted-alpha-unit : (elapsed fade : Float) → T (fits binary32 elapsed) → T (fits binary32 fade) → T (limits.elapsed elapsed) → T (limits.fade fade) → InUnit (fadeAlpha elapsed fade)
+unfolding fits ofBits
+accepted-alpha-unit elapsed fade p q s t =
+    fade-alpha-unit elapsed fade
+    (within-real LEAST-ELAPSED MOST-ELAPSED elapsed s binary32 p tt tt)
+    (within-low LEAST-ELAPSED MOST-ELAPSED elapsed s)
+    (within-real LEAST-FADE MOST-FADE fade t binary32 q tt tt)
+    (within-low LEAST-FADE MOST-FADE fade t)

@@ -18,12 +18,24 @@ use Rattle.float_laws.specs.Range.{toward-lower-nonneg, toward-lower-most, towa
 use Rattle.float32.specs.Order.{magnitude}
 use Rattle.float32.specs.Remainder.{zero}
 use Rattle.float32.proofs.InUnit.{InUnit, zero-in-unit}
+use Rattle.float32.proofs.Limits.{within-low, within-high, within-real}
 use Rattle.float32.proofs.Magnitude.{magnitude-clear, magnitude-size, magnitude-is-number}
+use Rattle.limits.specs.Limits as limits
+use Rattle.limits.specs.Limits.{LEAST-LEVEL, MOST-LEVEL}
 use Rattle.envelopes.specs.Envelope.{targetOf, SILENCE, settled, nextLevel}
 
 -- where a level is before it is settled
 abbrev pub moved : Bool → Float → Float → Float
 moved held alpha level = add binary32 level (mul binary32 (sub binary32 (targetOf held) level) alpha)
+
+-- ---- what the test of a level says of an f32
+pub accepted-unit : (x : Float) → T (fits binary32 x) → T (limits.level x) → InUnit x
+unfolding ofBits fits
+accepted-unit x F w = record {
+  finite = within-real LEAST-LEVEL MOST-LEVEL x w binary32 F tt tt;
+  low = within-low LEAST-LEVEL MOST-LEVEL x w;
+  high = within-high LEAST-LEVEL MOST-LEVEL x w;
+}
 
 -- ---- what is below in magnitude is below
 module _ (f : Format) (x y : Float) (p : T (number f x)) (q : T (number f y)) where
@@ -52,7 +64,7 @@ module _ (alpha level : Float) (a : InUnit alpha) (l : InUnit level) where
   unfolding ofBits
   rises = toward-one-least level alpha (l .finite) (a .finite) (l .low) (l .high) (a .low) (a .high)
 
-  moved-unit : (held : Bool) → InUnit (moved held alpha level)
+  pub moved-unit : (held : Bool) → InUnit (moved held alpha level)
   unfolding ofBits
   moved-unit false =
       let z = le-refl-f binary32 plus-zero zero-number in

@@ -3,3 +3,5 @@ pub mod Alpha
 pub mod Levels
 pub mod Bank
 pub mod Rest
+pub mod Words
+pub mod Steps

@@ -3,14 +3,15 @@
 -- Every operation is rounded, in the order of the Rust. Assumes nothing.
 use mathlib.Core.Bool.{Bool, cond}
 use mathlib.Core.List.{List}
-use Prim.Native.Nat.{ℕ, _-_, _/_, _%_, _^_}
-use lib.Dec.{eqb}
+use Prim.Native.Nat.{ℕ, _-_, _/_, _%_, _^_, _≤_, _<_}
+use lib.Dec.{T, eqb}
 use lib.ListN.{getD}
-use lib.Ieee.{Float, binary32, ofBits, add, sub, mul, div, neg, lt, le}
+use lib.Ieee.{Float, nan, binary32, ofBits, add, sub, mul, div, neg, lt, le}
 use Rattle.lists.specs.Maps.{mapAt}
 use Rattle.float32.specs.Order.{magnitude}
 use Rattle.float32.specs.Remainder.{zero, one}
 use Rattle.power.specs.Decimal.{exp}
+use Rattle.limits.specs.Limits as limits
 
 -- "Held notes are 16 bytes, most significant bit first: note 0 is the top bit of byte 0." A note
 -- past the last byte is not held.
@@ -42,12 +43,13 @@ SILENCE = ofBits binary32 0x3586_37bd
 unfoldable pub settled : Float → Float
 settled level = cond (lt (magnitude level) SILENCE) zero level
 
--- one level's step toward a target
-abbrev pub levelToward : Float → Float → Float → Float
-levelToward target alpha level = settled (add binary32 level (mul binary32 (sub binary32 target level) alpha))
-
+-- one level's step toward its target
 abbrev pub nextLevel : Bool → Float → Float → Float
-nextLevel held alpha level = levelToward (targetOf held) alpha level
+nextLevel held alpha level = settled (add binary32 level (mul binary32 (sub binary32 (targetOf held) level) alpha))
+
+-- the levels of the notes from `first` on and below `last` are within their limits
+abbrev pub Accepted : List Float → ℕ → ℕ → Type 0
+Accepted levels first last = (note : ℕ) → first ≤ note → note < last → T (limits.level (getD levels note nan))
 
 -- the bank after one step: entry n is the level of note n
 abbrev pub advanced : List ℕ → Float → Float → List Float → List Float

@@ -1,123 +1,134 @@
 // The envelopes of the 128 notes: each level moves toward 1 while its note is held and toward 0
-// while it is not.
+// while it is not. The sixteen bytes of held notes are read as two words of 64 notes each.
 ghost use mathlib.Core.Path.{_≡_};
-ghost use Prim.Native.Nat.{_+_, _-_, _*_, _/_, _%_, _^_, _<_};
-ghost use lib.Dec.{eqb};
-ghost use lib.Ieee.{nan};
+ghost use Prim.Native.Nat.{_+_, _-_, _*_, _%_, _<_};
+ghost use lib.Dec.{T};
+ghost use lib.Ieee.{le};
 ghost use lib.ListN.{length, getD};
-ghost use Rattle.lists.specs.Maps.{mapAt, mapRange, tabulate};
+ghost use Rattle.lists.specs.Maps.{mapAt, mapRange};
+ghost use Rattle.float32.specs.Remainder.{zero};
+ghost use Rattle.limits.specs.Limits as limits;
 ghost use Rattle.limits.specs.Lengths.{MIDI-NOTES, HELD-BYTES};
-ghost use Rattle.power.specs.Table.{powerTable};
-ghost use Rattle.envelopes.specs.Envelope.{isHeld, smoothingAlpha, targetOf, settled};
-ghost use Rattle.envelopes.specs.Envelope.{levelToward, advanced};
-use limits::lengths::HELD_BYTES;
-use limits::lengths::MIDI_NOTES;
-use power::table::PowerTable;
+ghost use Rattle.envelopes.specs.Envelope.{isHeld, smoothingAlpha, fadeAlpha, targetOf};
+ghost use Rattle.envelopes.specs.Envelope.{settled, nextLevel, Accepted};
+ghost use Rattle.envelopes.specs.Words.{Bytes, wordOf, isSet};
 
 const SECONDS_PER_MS: f32 = 0.001;
 
-// A level below this in magnitude is silence.
+// A level below this is silence.
 const SILENCE: f32 = 1.0e-6;
-
-const MINUS_SILENCE: f32 = -1.0e-6;
 
 // The fraction of the distance to its target that a level covers in the seconds elapsed; all of it
 // where the time constant is 0 or less.
-pub fn smoothing_alpha(powers: &PowerTable, elapsed_seconds: f32, time_seconds: f32) -> f32
-    requires { ⌜ now powers ≡ powerTable ⌝ }
+fn smoothing_alpha(elapsed_seconds: f32, time_seconds: f32) -> f32
     ensures { λ r. ⌜ r ≡ smoothingAlpha «elapsed_seconds» «time_seconds» ⌝ }
 {
     if time_seconds <= 0.0 {
         return 1.0;
     }
-    1.0 - power::decimal::exp(powers, -elapsed_seconds / time_seconds)
+    1.0 - single_power::exp(-elapsed_seconds / time_seconds)
 }
 
-// A note's target from its bit of the byte; bit 0 is the top one. The bit is converted to a number,
-// since a branch on it would be unpredictable.
-fn target_of(byte: u8, bit: usize) -> f32
-    requires { ⌜ bit < 8 ⌝ }
-    ensures { λ r. ⌜ r ≡ targetOf (eqb (byte / 2 ^ (7 - bit) % 2) 1) ⌝ }
+// The same for a fade in milliseconds. It is in 0..1.
+pub fn fade_alpha(elapsed_seconds: f32, fade_ms: f32) -> f32
+    requires { ⌜ T (limits.elapsed «elapsed_seconds») × T (limits.fade «fade_ms») ⌝ }
+    ensures { λ r. ⌜ (r ≡ fadeAlpha «elapsed_seconds» «fade_ms») × T (limits.level r) ⌝ }
 {
-    let place = (7 - bit) as u8;
-    ((byte >> place) & 1) as f32
+    smoothing_alpha(elapsed_seconds, fade_ms * SECONDS_PER_MS)
 }
 
-// Silence becomes 0, so that a released level comes to rest.
+fn wide(byte: u8) -> u64
+    ensures { λ r. ⌜ (r ≡ byte) × (r < 256) ⌝ }
+{
+    byte as u64
+}
+
+// Byte k of a word.
+fn byte_of(held: &[u8], index: usize, k: usize) -> u8
+    requires { ⌜ (length (now held) ≡ HELD-BYTES) × (index < 2) × (k < 8) ⌝ }
+    ensures { λ r. ⌜ r ≡ getD (now (held .entry)) (8 * index + k) 0 ⌝ }
+{
+    held[8 * index + k]
+}
+
+// The eight bytes of a word, the first the most significant.
+fn word_of(held: &[u8], index: usize) -> u64
+    requires { ⌜ (length (now held) ≡ HELD-BYTES) × (index < 2) ⌝ }
+    ensures { λ r. ⌜ (r ≡ wordOf (now (held .entry)) index)
+        × Bytes (now (held .entry)) (8 * index) 8 ⌝ }
+{
+    let mut word: u64 = 0;
+    let mut k: usize = 0;
+    while k < 8 {
+        word = word * 256 + wide(byte_of(held, index, k));
+        k += 1;
+    }
+    word
+}
+
+// A note's target from its bit of half a word; bit 0 is the top one.
+fn target_of(half: u32, bit: usize) -> f32
+    requires { ⌜ bit < 32 ⌝ }
+    ensures { λ r. ⌜ r ≡ targetOf (isSet half (31 - bit)) ⌝ }
+{
+    let place = (31 - bit) as u32;
+    if (half >> place) & 1 == 1 { 1.0 } else { 0.0 }
+}
+
+// Silence becomes 0, so that a released level comes to rest. No level is below 0, so one test is
+// enough for its magnitude.
 fn settle(level: f32) -> f32
+    requires { ⌜ T (le zero level) ⌝ }
     ensures { λ r. ⌜ r ≡ settled level ⌝ }
 {
-    if level < SILENCE {
-        if MINUS_SILENCE < level {
-            return 0.0;
-        }
-        return level;
-    }
-    level
+    if level < SILENCE { 0.0 } else { level }
 }
 
-fn next_level(target: f32, alpha: f32, level: f32) -> f32
-    ensures { λ r. ⌜ r ≡ levelToward target alpha level ⌝ }
+fn next_level(half: u32, bit: usize, alpha: f32, level: f32) -> f32
+    requires { ⌜ (bit < 32) × T (limits.level alpha) × T (limits.level level) ⌝ }
+    ensures { λ r. ⌜ r ≡ nextLevel (isSet half (31 - bit)) alpha level ⌝ }
 {
-    settle(level + (target - level) * alpha)
+    settle(level + (target_of(half, bit) - level) * alpha)
 }
 
-// The targets of the eight notes of the byte at `index`.
-fn byte_targets(all: &mut [f32], byte: u8, index: usize)
-    requires { ⌜ (length (now all) ≡ MIDI-NOTES) × (index < HELD-BYTES) ⌝ }
-    ensures { λ _. ⌜ now (all .exit) ≡ mapRange
-        (λ note x. targetOf (eqb (byte / 2 ^ (7 - note % 8) % 2) 1)) (8 * index) (8 * index + 8)
-        (now (all .entry)) ⌝ }
+// The step of the 32 notes of half a word, the one at `index` of four. The bank is changed in place,
+// and not copied. By halves, since SSE2 compares numbers of 32 bits and not of 64.
+fn step_half(levels: &mut [f32], half: u32, index: usize, alpha: f32)
+    requires { ⌜ (length (now levels) ≡ MIDI-NOTES) × (index < 4) × T (limits.level alpha)
+        × Accepted (now levels) (32 * index) (32 * index + 32) ⌝ }
+    ensures { λ _. ⌜ now (levels .exit) ≡ mapRange
+        (λ note level. nextLevel (isSet half (31 - note % 32)) alpha level)
+        (32 * index) (32 * index + 32) (now (levels .entry)) ⌝ }
 {
     let mut bit: usize = 0;
-    while bit < 8 {
-        all[8 * index + bit] = target_of(byte, bit);
+    while bit < 32 {
+        let note = 32 * index + bit;
+        levels[note] = next_level(half, bit, alpha, levels[note]);
         bit += 1;
     }
 }
 
-// The targets of all notes, read byte by byte before the loop over the levels, so that both loops
-// are vectorized.
-fn targets(held: [u8; HELD_BYTES]) -> [f32; MIDI_NOTES]
-    ensures { λ r. ⌜ r ≡ tabulate MIDI-NOTES (λ note. targetOf (isHeld held note)) ⌝ }
+// The step of the 64 notes of a word.
+fn step_word(levels: &mut [f32], word: u64, index: usize, alpha: f32)
+    requires { ⌜ (length (now levels) ≡ MIDI-NOTES) × (index < 2) × T (limits.level alpha)
+        × Accepted (now levels) (64 * index) (64 * index + 64) ⌝ }
+    ensures { λ _. ⌜ now (levels .exit) ≡ mapRange
+        (λ note level. nextLevel (isSet word (63 - note % 64)) alpha level)
+        (64 * index) (64 * index + 64) (now (levels .entry)) ⌝ }
 {
-    let mut all = [0.0f32; MIDI_NOTES];
-    let mut index: usize = 0;
-    while index < HELD_BYTES {
-        byte_targets(&mut all, held[index], index);
-        index += 1;
-    }
-    all
+    step_half(levels, (word >> 32) as u32, 2 * index, alpha);
+    step_half(levels, (word & 0xffff_ffff) as u32, 2 * index + 1, alpha);
 }
 
-// The bank is changed in place, and not copied.
-fn step(bank: &mut [f32], targets: &[f32], alpha: f32)
-    requires { ⌜ (length (now bank) ≡ MIDI-NOTES) × (length (now targets) ≡ MIDI-NOTES) ⌝ }
-    ensures { λ _. ⌜ now (bank .exit) ≡ mapAt
-        (λ note level. levelToward (getD (now (targets .entry)) note nan) alpha level)
-        (now (bank .entry)) ⌝ }
+// Advances a bank of note envelopes by one STFT frame, in which a level covers the fraction alpha of
+// the distance to its target.
+pub fn advance(levels: &mut [f32], held: &[u8], alpha: f32)
+    requires { ⌜ (length (now levels) ≡ MIDI-NOTES) × (length (now held) ≡ HELD-BYTES)
+        × T (limits.level alpha) × Accepted (now levels) 0 MIDI-NOTES ⌝ }
+    ensures { λ _. ⌜ now (levels .exit) ≡ mapAt
+        (λ note level. nextLevel (isHeld (now (held .entry)) note) alpha level)
+        (now (levels .entry)) ⌝ }
 {
-    let mut note: usize = 0;
-    while note < MIDI_NOTES {
-        bank[note] = next_level(targets[note], alpha, bank[note]);
-        note += 1;
-    }
-}
-
-// Advances a bank of note envelopes by one STFT frame.
-pub fn advance(
-    powers: &PowerTable,
-    levels: [f32; MIDI_NOTES],
-    held: [u8; HELD_BYTES],
-    elapsed_seconds: f32,
-    fade_ms: f32,
-) -> [f32; MIDI_NOTES]
-    requires { ⌜ now powers ≡ powerTable ⌝ }
-    ensures { λ r. ⌜ r ≡ advanced held «elapsed_seconds» «fade_ms» levels ⌝ }
-{
-    let alpha = smoothing_alpha(powers, elapsed_seconds, fade_ms * SECONDS_PER_MS);
-    let toward = targets(held);
-    let mut bank = levels;
-    step(&mut bank, &toward, alpha);
-    bank
+    step_word(levels, word_of(held, 0), 0, alpha);
+    step_word(levels, word_of(held, 1), 1, alpha);
 }

@@ -1,52 +1,66 @@
--- `envelopes::advance` meets its contract, by those of the functions it calls: the targets' entry
--- at a note is the note's target. Assumes nothing.
-use mathlib.Core.Path.{_≡_, ap, _∙_}
+-- `envelopes::advance` meets its contract: both words' notes make their step, which is what is held
+-- of each. Assumes nothing.
+use mathlib.Core.Path.{_≡_, sym, ap, subst, _∙_}
 use mathlib.Core.List.{List}
 use Prim.Native.Nat.{ℕ}
 use native.Mathlib.Omega.{arith}
-use lib.ListN.{length, getD}
-use lib.Ieee.{Float, nan}
+use lib.ListN.{length}
+use lib.Ieee.{Float}
 use borrow.Author.Needs.{needs}
-use Rattle.lists.specs.Maps.{mapAt, mapFrom-same, tabulate, getD-tabulate}
-use Rattle.envelopes.specs.Envelope.{isHeld, targetOf, levelToward, nextLevel}
+use Rattle.lists.specs.Maps.{mapRange, length-mapRange}
+use Rattle.envelopes.specs.Envelope.{Accepted}
+use Rattle.envelopes.proofs.Steps.{still-accepted, by-word, by-words}
 use Rattle.envelopes.proofs.advance.Statement.{statement}
 use Rattle.envelopes.proofs.advance.Tie as tie
 
-by-targets : (held : List ℕ) (alpha : Float) (levels : List Float) → length levels ≡ 128
-    → mapAt (λ note level. levelToward (getD (tabulate 128 (λ n. targetOf (isHeld held n))) note nan) alpha level) levels ≡ mapAt (λ note level. nextLevel (isHeld held note) alpha level) levels
-by-targets held alpha levels l =
-    mapFrom-same (λ note level. levelToward (getD (tabulate 128 (λ n. targetOf (isHeld held n))) note nan) alpha level) (λ note level. nextLevel (isHeld held note) alpha level) 0 levels
-    (λ note level p q. ap (λ target. levelToward target alpha level) (getD-tabulate (λ n. targetOf (isHeld held n)) 128 note nan (omega arith)))
+word-of-requires : tie.Need-word-of-requires
+word-of-requires c κs = search needs
 
-smoothing-alpha-requires : tie.Need-smoothing-alpha-requires
-smoothing-alpha-requires c κs = search needs
+step-word-requires : tie.Need-step-word-requires
+step-word-requires c κs =
+    let p = c .before .before .before .before .pre in
+    (p .0, omega arith, p .2, λ note a b. p .3 note (omega arith) (omega arith))
 
-targets-requires : tie.Need-targets-requires
-targets-requires c κs = search needs
+word-of-requires-2 : tie.Need-word-of-requires-2
+word-of-requires-2 c κs = search needs
 
-slice-aggregate-step : tie.Need-slice-aggregate-step
-slice-aggregate-step c = search needs
+step-word-requires-2 : tie.Need-step-word-requires-2
+step-word-requires-2 c κs =
+    let first = c .before .before .before .before in
+    let start = first .before .before .before .before .before in
+    let p = start .pre in
+    let levels = start .args .levels .now in
+    let e = first .step-word .ensures in
+    let kept = still-accepted _ levels 0 64 128 (omega (arith, p .0)) (λ note a b. p .3 note (omega arith) b) in
+    let rest = subst (λ (xs : List Float). Accepted xs 64 128) (sym e) kept in
+    (ap length e ∙ length-mapRange _ 0 64 levels ∙ p .0, omega arith, p .2, rest)
 
-slice-aggregate-step-2 : tie.Need-slice-aggregate-step-2
-slice-aggregate-step-2 c = search needs
-
-step-requires : tie.Need-step-requires
-step-requires c κs = search needs
+same-length : tie.Need-same-length
+same-length c = search needs
 
 returns : tie.Need-returns
 returns c =
-    let t = c .before .before .before .before in
-    let s = t .before .before in
-    let l : length (s .args .levels) ≡ 128 = search needs in
-    c .before .step .ensures ∙ simp (t .targets .ensures, t .before .smoothing-alpha .ensures) (by-targets (s .args .held) _ (s .args .levels) l)
+    let second = c .before .before in
+    let first = second .before .before .before .before .before in
+    let start = first .before .before .before .before .before in
+    let a = start .args in
+    let held = a .held .now in
+    let levels = a .levels .now in
+    let after = first .step-word .last .0 in
+    let one = first .before .word-of .ensures in
+    let two = second .before .word-of2 .ensures in
+    let step : ℕ → ℕ → ℕ → ℕ → List Float → List Float = λ word i lo hi xs. mapRange (by-word (a .alpha) word i) lo hi xs in
+    by-words (a .alpha) held levels after (start .pre .0) (one .1) (two .1)
+    (first .step-word .ensures ∙ ap (λ (word : ℕ). step word 0 0 64 levels) (one .0))
+    (second .step-word2 .ensures ∙ ap (λ (word : ℕ). step word 1 64 128 after) (two .0))
 
 pub advance-spec : {M : Type 1} → statement M
 advance-spec =
     tie.close
     (tie.spec
-    smoothing-alpha-requires
-    targets-requires
-    slice-aggregate-step
-    slice-aggregate-step-2
-    step-requires
+    word-of-requires
+    step-word-requires
+    word-of-requires-2
+    step-word-requires-2
+    same-length
     returns)

@@ -1,23 +1,12 @@
 -- `envelopes::target_of` meets its contract: a shift and a mask of one bit are a division and a
--- remainder, and as a number a bit is 0 or 1. Assumes nothing.
-use mathlib.Core.Path.{_≡_, refl, ap, _∙_}
-use Prim.Native.Nat.{ℕ, zero, suc, _-_, _/_, _%_, _^_, _<_}
-use native.Mathlib.Omega.{arith}
+-- remainder. Assumes nothing.
+use mathlib.Core.Path.{_≡_, refl, sym, _∙_}
+use Prim.Native.Nat.{_-_, _/_, _^_}
 use lib.Bits.{and-mask}
-use lib.Count.{trailingZeros}
-use lib.Dec.{eqb}
-use lib.IntN.{pos}
-use lib.Ieee.{binary32, ofBits, ofInt, round, size, span, climb, units, odd}
 use borrow.Author.Needs.{needs}
-use Rattle.envelopes.specs.Envelope.{targetOf}
+use borrow.Author.Tests.{eq-eqb, ne-eqb}
 use Rattle.envelopes.proofs.target_of.Statement.{statement}
 use Rattle.envelopes.proofs.target_of.Tie as tie
-
-of-bit : (bit : ℕ) → bit < 2 → ofInt binary32 (pos bit) ≡ targetOf (eqb bit 1)
-unfolding ofBits ofInt round size span climb units odd trailingZeros
-of-bit zero h = refl
-of-bit (suc zero) h = refl
-of-bit (suc (suc n)) h = absurd (omega arith)
 
 sub-place : tie.Need-sub-place
 sub-place c = search needs
@@ -25,16 +14,20 @@ sub-place c = search needs
 cast-place : tie.Need-cast-place
 cast-place c = search needs
 
-shr-result : tie.Need-shr-result
-shr-result c = search needs
-
-int-to-float-result : tie.Need-int-to-float-result
-int-to-float-result c = search needs
+shr-if1 : tie.Need-shr-if1
+shr-if1 c = search needs
 
 returns : tie.Need-returns
 returns c =
-    let x = c .before .args .byte / 2 ^ (7 - c .before .args .bit) in
-    ap (λ (bit : ℕ). ofInt binary32 (pos bit)) (and-mask x 1) ∙ of-bit (x % 2) (omega arith)
+    let a = c .before .args in
+    let x = a .half / 2 ^ (31 - a .bit) in
+    rw (eq-eqb _ _ (sym (and-mask x 1) ∙ c .if1 .taken)) refl
+
+returns-2 : tie.Need-returns-2
+returns-2 c =
+    let a = c .before .args in
+    let x = a .half / 2 ^ (31 - a .bit) in
+    rw (ne-eqb _ _ (λ e. c .if1 .left (and-mask x 1 ∙ e))) refl
 
 pub target-of-spec : {M : Type 1} → statement M
-target-of-spec = tie.close (tie.spec sub-place cast-place shr-result int-to-float-result returns)
+target-of-spec = tie.close (tie.spec sub-place cast-place shr-if1 returns returns-2)
