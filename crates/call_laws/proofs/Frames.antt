@@ -10,20 +10,18 @@ use native.Mathlib.Nat.{le-refl}
 use borrow.Author.Tests.{le-ltb}
 use lib.Dec.{T, ltb}
 use lib.ListN.{length, getD}
-use lib.Ieee.{Float, nan, binary32, ofBits, fits}
+use lib.Ieee.{Float, nan, binary32, fits}
 use lib.Ieee.Bits.{is-true}
 use Rattle.float_laws.specs.Units.{real-number}
 use Rattle.float_laws.specs.Order.{le-refl-f}
 use Rattle.lists.specs.Folds.{fold, fold-keeps, firstBad, bad-none}
 use Rattle.float32.proofs.InUnit.{InUnit, unit-within}
-use Rattle.float32.proofs.Limits.{within-low, within-real}
 use Rattle.answer.specs.Refusal.{SETTING, LIST-VALUE}
 use Rattle.answer.specs.Reply.{done, refused}
 use Rattle.answer.specs.Written.{written}
 use Rattle.limits.specs.Limits as limits
-use Rattle.limits.specs.Limits.{LEAST-ELAPSED, MOST-ELAPSED, LEAST-FADE, MOST-FADE}
 use Rattle.envelopes.specs.Envelope.{isHeld, fadeAlpha, advanced}
-use Rattle.envelopes.proofs.Alpha.{fade-alpha-unit}
+use Rattle.envelopes.proofs.Alpha.{accepted-alpha-unit}
 use Rattle.envelopes.proofs.Bank.{Levels, Toward, levels-stay, none-moves-away}
 use Rattle.list_calls.specs.Advanced.{advanceReply, advanceOf}
 
@@ -67,15 +65,8 @@ by-cases P bank frame same next =
 alpha-unit :
     (frame : Frame) → T (limits.elapsed (frame .elapsed)) → T (limits.fade (frame .fade))
     → InUnit (fadeAlpha (frame .elapsed) (frame .fade))
-unfolding fits ofBits
 alpha-unit frame s t =
-    let e = frame .elapsed in
-    let f = frame .fade in
-    fade-alpha-unit e f
-    (within-real LEAST-ELAPSED MOST-ELAPSED e s binary32 (frame .elapsed-fits) tt tt)
-    (within-low LEAST-ELAPSED MOST-ELAPSED e s)
-    (within-real LEAST-FADE MOST-FADE f t binary32 (frame .fade-fits) tt tt)
-    (within-low LEAST-FADE MOST-FADE f t)
+    accepted-alpha-unit (frame .elapsed) (frame .fade) (frame .elapsed-fits) (frame .fade-fits) s t
 
 -- ---- one call
 levels-stay-once : (bank : List Float) (frame : Frame) → Levels bank → Levels (after bank frame)

@@ -7,7 +7,8 @@ ghost use Rattle.answer.specs.Reply.{ofOutcome};
 ghost use Rattle.answer.specs.Written.{written};
 ghost use Rattle.lists.specs.Maps.{tabulate};
 ghost use Rattle.frequencies.specs.Frequency.{prepared};
-ghost use Rattle.list_calls.specs.Advanced.{ofEnvelopes, advanceOf};
+ghost use Rattle.envelopes.specs.Envelope.{advanced};
+ghost use Rattle.list_calls.specs.Advanced.{ofEnvelopes, advanceOf, bankReply};
 ghost use Rattle.list_calls.specs.Prepared.{prepareReply};
 use answer::Envelopes;
 use answer::Outcome;
@@ -42,8 +43,38 @@ impl MaskWorkspace {
     }
 }
 
-// The levels of the 128 notes after one frame: 16 bytes say which notes are held, note 0 by the top
-// bit of byte 0.
+// The levels of the 128 notes after one frame, in the slice that holds them: 16 bytes say which
+// notes are held, note 0 by the top bit of byte 0.
+pub fn advance_bank(levels: &mut [f32], held: &[u8], elapsed_seconds: f32, fade_ms: f32) -> Outcome
+    ensures { λ r. ⌜ ofOutcome r
+        ≡ bankReply (now (levels .entry)) (now (held .entry)) «elapsed_seconds» «fade_ms» ⌝ }
+    ensures { λ r. ⌜ now (levels .exit) ≡ written (ofOutcome r)
+        (advanced (now (held .entry)) «elapsed_seconds» «fade_ms» (now (levels .entry)))
+        (now (levels .entry)) ⌝ }
+{
+    if !limits::elapsed(elapsed_seconds) {
+        return Outcome::Refused(refusal::SETTING, 0);
+    }
+    if !limits::fade(fade_ms) {
+        return Outcome::Refused(refusal::SETTING, 0);
+    }
+    if levels.len() != MIDI_NOTES {
+        return Outcome::Refused(refusal::LENGTH, 0);
+    }
+    if held.len() != HELD_BYTES {
+        return Outcome::Refused(refusal::LENGTH, 0);
+    }
+    // The division and the power are begun first: the levels are tested while they are under way.
+    let alpha = envelopes::fade_alpha(elapsed_seconds, fade_ms);
+    let note = limits::first_outside(levels, limits::LEAST_LEVEL, limits::MOST_LEVEL);
+    if note < MIDI_NOTES {
+        return Outcome::Refused(refusal::LIST_VALUE, note);
+    }
+    envelopes::advance(levels, held, alpha);
+    Outcome::Done
+}
+
+// The same for a bank that is passed by value and comes back beside the answer.
 pub fn advance_note_envelopes(
     levels: [f32; MIDI_NOTES],
     held: [u8; HELD_BYTES],
@@ -52,29 +83,10 @@ pub fn advance_note_envelopes(
 ) -> Envelopes
     ensures { λ r. ⌜ ofEnvelopes r ≡ advanceOf levels held «elapsed_seconds» «fade_ms» ⌝ }
 {
-    if !limits::elapsed(elapsed_seconds) {
-        return Envelopes {
-            outcome: Outcome::Refused(refusal::SETTING, 0),
-            levels: levels,
-        };
-    }
-    if !limits::fade(fade_ms) {
-        return Envelopes {
-            outcome: Outcome::Refused(refusal::SETTING, 0),
-            levels: levels,
-        };
-    }
-    let note = limits::first_outside(&levels, limits::LEAST_LEVEL, limits::MOST_LEVEL);
-    if note < MIDI_NOTES {
-        return Envelopes {
-            outcome: Outcome::Refused(refusal::LIST_VALUE, note),
-            levels: levels,
-        };
-    }
-    let powers = power::table::power_table();
-    let next = envelopes::advance(&powers, levels, held, elapsed_seconds, fade_ms);
+    let mut bank = levels;
+    let outcome = advance_bank(&mut bank, &held, elapsed_seconds, fade_ms);
     Envelopes {
-        outcome: Outcome::Done,
-        levels: next,
+        outcome: outcome,
+        levels: bank,
     }
 }

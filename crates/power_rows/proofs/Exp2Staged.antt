@@ -5,7 +5,6 @@ use mathlib.Core.Bool.{Bool, true, false, cond, not}
 use mathlib.Core.List.{List}
 use Prim.Native.Nat.{ℕ, _+_, _-_, _*_, _/_, _%_, _^_, _≤_, _<_}
 use lib.Dec.{T}
-use lib.Bits.{bitAnd, and-mask}
 use lib.ListN.{length, getD}
 use lib.Ieee.{Float, nan, binary32, le, lt, eq, ofBits, nanBits}
 use lib.Ieee.Fits.{and-i, and-l, and-r}
@@ -49,13 +48,13 @@ clipped-same x l h = go (between x) (and-i (le lowest x) (lt x limit) l h)
 -- ---- the bits made of the digits
 module _ (y q : ℕ) (from : 2 * 2 ^ 24 ≤ y) (below : y < 256 * 2 ^ 24) (e : q ≡ digits y) where
   abbrev i : ℕ
-  i = I (bitAnd y (2 ^ 24 - 1))
+  i = I (y % 2 ^ 24)
 
   middle : Middle y i
   middle = record { from = from; below = below; power = refl }
 
   cut : i / 128 ≡ q
-  cut = ap (λ (z : ℕ). I z / 128) (and-mask y 24) ∙ sym e
+  cut = sym e
 
   pub made-fit : (y / 2 ^ 24 - 2) * 2 ^ 23 % 2 ^ 64 + q < 2 ^ 32
   made-fit = subst (λ (z : ℕ). (y / 2 ^ 24 - 2) * 2 ^ 23 % 2 ^ 64 + z < 2 ^ 32) cut (bits-fit middle)

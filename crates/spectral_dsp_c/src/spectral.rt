@@ -7,16 +7,16 @@ ghost use Rattle.envelopes.specs.Envelope.{advanced};
 ghost use Rattle.frequencies.specs.Frequency.{prepared};
 ghost use Rattle.number_calls.specs.Gates.{noteEmphasisGain, noteGateGain, manualGainAtBin};
 ghost use Rattle.motion_calls.specs.Motion.{opennessReply, attenuationReply, compensationReply};
+ghost use Rattle.list_calls.specs.Advanced.{bankReply};
 ghost use Rattle.list_calls.specs.Prepared.{prepareReply};
 ghost use Rattle.crossing.specs.Given.{Given, GivenValue};
 ghost use Rattle.crossing.specs.Settings.{motionOf, withShape};
-ghost use Rattle.crossing_bank.specs.Bank.{bankReply};
 use answer::Answer;
 use answer::refusal;
 use crossing::answers::give_answer;
 use crossing::answers::give_outcome;
 use crossing::settings::motion_of;
-use crossing_bank::advance_bank;
+use list_calls::advance_bank;
 
 #[no_mangle]
 pub extern "C" fn dovetable_note_emphasis_gain(
