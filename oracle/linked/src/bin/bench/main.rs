@@ -1,10 +1,11 @@
 //! Nanoseconds per call of the port beside Rust's std and beside the unaltered Rust, in one run,
 //! the best of many.
 //!
-//!     bench [SEED [masks]]
+//!     bench [SEED [masks | calls]]
 //!
-//! The scenes of the mask builders are drawn from SEED, 1 where it is left out; with the word
-//! `masks` they alone are timed. Exits 1 where a mask is not the oracle's.
+//! The scenes of the mask builders are drawn from SEED, 1 where it is left out. With the word
+//! `masks` the mask builders alone are timed, with `calls` the other open calls alone. Exits 1
+//! where a mask is not the oracle's.
 
 mod classes;
 mod masks;
@@ -13,32 +14,53 @@ mod open_calls;
 
 use std::process::ExitCode;
 
-/// The seed, and whether all is timed.
-fn order(words: &[&str]) -> Option<(u64, bool)> {
-    match words {
-        [] => Some((1, true)),
-        [seed] => Some((seed.parse().ok()?, true)),
-        [seed, "masks"] => Some((seed.parse().ok()?, false)),
-        _ => None,
-    }
+/// What is timed.
+enum Part {
+    All,
+    Masks,
+    Calls,
 }
 
-fn main() -> ExitCode {
-    let words: Vec<String> = std::env::args().skip(1).collect();
-    let words: Vec<&str> = words.iter().map(String::as_str).collect();
-    let Some((seed, all)) = order(&words) else {
-        eprintln!("usage: bench [SEED [masks]]");
-        return ExitCode::from(2);
+/// The seed, and the part.
+fn order(words: &[&str]) -> Option<(u64, Part)> {
+    let part = match words {
+        [] | [_] => Part::All,
+        [_, "masks"] => Part::Masks,
+        [_, "calls"] => Part::Calls,
+        _ => return None,
     };
-    if all {
-        numbers::table();
-        println!();
-        open_calls::table();
-        println!();
-    }
+    let seed = words.first().map_or(Ok(1), |seed| seed.parse()).ok()?;
+    Some((seed, part))
+}
+
+/// Prints the tables of the mask builders, and answers the status of the program.
+fn mask_tables(seed: u64) -> ExitCode {
     let wrong = masks::table(seed);
     if wrong > 0 {
         println!("\n{wrong} scenes with masks that are not the oracle's");
     }
     ExitCode::from(u8::from(wrong > 0))
+}
+
+fn main() -> ExitCode {
+    let words: Vec<String> = std::env::args().skip(1).collect();
+    let words: Vec<&str> = words.iter().map(String::as_str).collect();
+    let Some((seed, part)) = order(&words) else {
+        eprintln!("usage: bench [SEED [masks | calls]]");
+        return ExitCode::from(2);
+    };
+    match part {
+        Part::All => {
+            numbers::table();
+            println!();
+            open_calls::table();
+            println!();
+            mask_tables(seed)
+        }
+        Part::Masks => mask_tables(seed),
+        Part::Calls => {
+            open_calls::table();
+            ExitCode::SUCCESS
+        }
+    }
 }
