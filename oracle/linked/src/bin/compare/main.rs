@@ -1,33 +1,56 @@
 //! Random arguments through each exported function and through the oracle, compared bit by bit.
 //!
-//!     compare SEED COUNT [SCENES]
+//!     compare SEED COUNT [SCENES [NAME]]
 //!
 //! COUNT is the number of calls of each function, SCENES that of the whole scenes that go through
-//! each mask builder, COUNT/100 where it is left out. Two NaNs count as equal; any other
-//! difference in bits is a failure: of an answer, a place, a value, and of each entry of a slice
-//! that the call may write. Exits 1 where there is one.
+//! each mask builder, COUNT/100 where it is left out. With NAME only the function of that name is
+//! called. Two NaNs count as equal; any other difference in bits is a failure: of an answer, a
+//! place, a value, and of each entry of a slice that the call may write. Exits 1 where there is
+//! one.
 
 mod draw;
 mod masks;
 mod numbers;
 mod open_calls;
+mod run;
 mod tally;
 
+use run::Run;
 use std::process::ExitCode;
 
-fn main() -> ExitCode {
-    let words: Result<Vec<u64>, _> = std::env::args().skip(1).map(|word| word.parse()).collect();
-    let (seed, count, scenes) = match words.as_deref() {
-        Ok(&[seed, count]) => (seed, count, count / 100),
-        Ok(&[seed, count, scenes]) => (seed, count, scenes),
-        _ => {
-            eprintln!("usage: compare SEED COUNT [SCENES]");
-            return ExitCode::from(2);
-        }
+fn order(words: &[&str]) -> Option<Run> {
+    let (seed, count, scenes, only) = match *words {
+        [seed, count] => (seed, count, None, None),
+        [seed, count, scenes] => (seed, count, Some(scenes), None),
+        [seed, count, scenes, name] => (seed, count, Some(scenes), Some(name)),
+        _ => return None,
     };
-    let differences = numbers::compare(seed, count)
-        + open_calls::compare(seed, count)
-        + masks::compare(seed, scenes);
+    let count = count.parse().ok()?;
+    Some(Run {
+        seed: seed.parse().ok()?,
+        count,
+        scenes: scenes.map_or(Ok(count / 100), str::parse).ok()?,
+        only: only.map(String::from),
+        kinds: 0,
+        differences: 0,
+    })
+}
+
+fn main() -> ExitCode {
+    let words: Vec<String> = std::env::args().skip(1).collect();
+    let words: Vec<&str> = words.iter().map(String::as_str).collect();
+    let Some(mut run) = order(&words) else {
+        eprintln!("usage: compare SEED COUNT [SCENES [NAME]]");
+        return ExitCode::from(2);
+    };
+    numbers::compare(&mut run);
+    open_calls::compare(&mut run);
+    masks::compare(&mut run);
+    if run.kinds == 0 {
+        eprintln!("no function has that name");
+        return ExitCode::from(2);
+    }
+    let differences = run.differences;
     println!("{differences} differences");
     ExitCode::from(u8::from(differences > 0))
 }

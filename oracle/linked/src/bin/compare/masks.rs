@@ -1,6 +1,7 @@
 //! The mask builders on whole scenes: answers, places, and every bin of every mask.
 
 use crate::open_calls::note_slice;
+use crate::run::Run;
 use crate::tally::Tally;
 use linked::VoiceRecord;
 use linked::calls::{self as port, Crossing};
@@ -186,20 +187,24 @@ impl Drawn {
     }
 }
 
-pub fn compare(seed: u64, scenes: u64) -> u64 {
-    let mut random = Random::new(seed);
-    let mut tallies = Builder::ALL.map(|builder| Tally::new(builder.name()));
+pub fn compare(run: &mut Run) {
+    let taken = |builder: &Builder| run.takes(builder.name());
+    let builders: Vec<Builder> = Builder::ALL.into_iter().filter(taken).collect();
+    if builders.is_empty() {
+        return;
+    }
+    let mut random = Random::new(run.seed);
+    let mut tallies: Vec<Tally> = builders.iter().map(|one| Tally::new(one.name())).collect();
     let mut forms = Forms::default();
-    for number in 0..scenes {
+    for number in 0..run.scenes {
         let drawn = Drawn::new(&mut random);
-        for (builder, tally) in Builder::ALL.into_iter().zip(&mut tallies) {
+        for (&builder, tally) in builders.iter().zip(&mut tallies) {
             let answer = drawn.compare(number, builder, tally);
             if builder.takes_voices() {
                 forms.count(&drawn.crossing.voices, answer);
             }
         }
     }
-    let differences = tallies.into_iter().map(Tally::close).sum();
+    tallies.into_iter().for_each(|tally| run.close(tally));
     forms.print();
-    differences
 }

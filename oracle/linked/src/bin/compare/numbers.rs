@@ -1,6 +1,6 @@
 //! The functions of the number layer.
 
-use crate::tally::Tally;
+use crate::run::Run;
 use linked::*;
 use oracle::functions::*;
 use oracle::numbers::bits_of;
@@ -38,41 +38,35 @@ fn arguments(random: &mut Random) -> [u32; 3] {
 /// A name, the port's function over a slice, and the oracle's of one number.
 type Pair = (&'static str, All, fn(f32) -> f32);
 
-fn compare_all(seed: u64, count: u64, (name, all, of): Pair) -> u64 {
-    let mut random = Random::new(seed);
-    let mut tally = Tally::new(name);
-    while tally.calls < count {
+fn compare_all(run: &mut Run, (name, all, of): Pair) {
+    let count = run.count;
+    run.calls_of(name, |random, tally| {
         let length = (count - tally.calls).min(1 + random.below(LENT) as u64);
-        let bits: Vec<u32> = (0..length).map(|_| argument(&mut random)).collect();
+        let bits: Vec<u32> = (0..length).map(|_| argument(random)).collect();
         let mut xs: Vec<f32> = bits.iter().map(|&bits| f32::from_bits(bits)).collect();
         in_place(all, &mut xs);
         for (bits, x) in bits.into_iter().zip(xs) {
             tally.count(&[bits], same(x), same(of(f32::from_bits(bits))));
         }
-    }
-    tally.close()
+    });
 }
 
 /// `port` and `of` give the bits of their answers.
 fn compare_one<const N: usize>(
-    seed: u64,
-    count: u64,
+    run: &mut Run,
     name: &'static str,
     port: fn([f32; N]) -> u64,
     of: fn([f32; N]) -> u64,
-) -> u64 {
-    let mut random = Random::new(seed);
-    let mut tally = Tally::new(name);
-    for _ in 0..count {
-        let three = arguments(&mut random);
+) {
+    run.calls_of(name, |random, tally| {
+        let three = arguments(random);
         let bits: [u32; N] = std::array::from_fn(|index| three[index]);
         let xs = bits.map(f32::from_bits);
         tally.count(&bits, port(xs), of(xs));
-    }
-    tally.close()
+    });
 }
 
-pub fn compare(seed: u64, count: u64) -> u64 {
+pub fn compare(run: &mut Run) {
     let all: [Pair; 12] = [
         ("exp2", dovetable_exp2_all, exp2),
         ("log2", dovetable_log2_all, log2),
@@ -87,58 +81,49 @@ pub fn compare(seed: u64, count: u64) -> u64 {
         ("powi5", dovetable_powi5_all, powi5),
         ("abs", dovetable_abs_all, abs),
     ];
-    let mut differences = 0;
     for pair in all {
-        differences += compare_all(seed, count, pair);
+        compare_all(run, pair);
     }
-    differences
-        + compare_one(
-            seed,
-            count,
-            "max",
-            |[a, b]| same(dovetable_max(a, b)),
-            |[a, b]| same(max(a, b)),
-        )
-        + compare_one(
-            seed,
-            count,
-            "min",
-            |[a, b]| same(dovetable_min(a, b)),
-            |[a, b]| same(min(a, b)),
-        )
-        + compare_one(
-            seed,
-            count,
-            "clamp",
-            |[x, low, high]| same(dovetable_clamp(x, low, high)),
-            |[x, low, high]| same(clamp(x, low, high)),
-        )
-        + compare_one(
-            seed,
-            count,
-            "floor_to_count",
-            |[x]| dovetable_floor_to_count(x) as u64,
-            |[x]| floor_to_count(x) as u64,
-        )
-        + compare_one(
-            seed,
-            count,
-            "ceil_to_count",
-            |[x]| dovetable_ceil_to_count(x) as u64,
-            |[x]| ceil_to_count(x) as u64,
-        )
-        + compare_one(
-            seed,
-            count,
-            "bits_of",
-            |[x]| u64::from(dovetable_bits_of(x)),
-            |[x]| same(x),
-        )
-        + compare_one(
-            seed,
-            count,
-            "of_bits",
-            |[x]| same(dovetable_of_bits(x.to_bits())),
-            |[x]| same(x),
-        )
+    compare_one(
+        run,
+        "max",
+        |[a, b]| same(dovetable_max(a, b)),
+        |[a, b]| same(max(a, b)),
+    );
+    compare_one(
+        run,
+        "min",
+        |[a, b]| same(dovetable_min(a, b)),
+        |[a, b]| same(min(a, b)),
+    );
+    compare_one(
+        run,
+        "clamp",
+        |[x, low, high]| same(dovetable_clamp(x, low, high)),
+        |[x, low, high]| same(clamp(x, low, high)),
+    );
+    compare_one(
+        run,
+        "floor_to_count",
+        |[x]| dovetable_floor_to_count(x) as u64,
+        |[x]| floor_to_count(x) as u64,
+    );
+    compare_one(
+        run,
+        "ceil_to_count",
+        |[x]| dovetable_ceil_to_count(x) as u64,
+        |[x]| ceil_to_count(x) as u64,
+    );
+    compare_one(
+        run,
+        "bits_of",
+        |[x]| u64::from(dovetable_bits_of(x)),
+        |[x]| same(x),
+    );
+    compare_one(
+        run,
+        "of_bits",
+        |[x]| same(dovetable_of_bits(x.to_bits())),
+        |[x]| same(x),
+    );
 }

@@ -1,6 +1,7 @@
 //! The open calls: answers, places, values, and the slices at exit, after a refusal too.
 
 use crate::draw;
+use crate::run::Run;
 use crate::tally::Tally;
 use linked::calls::{self as port, BEFORE, Given, Motion};
 use oracle::calls;
@@ -67,51 +68,34 @@ pub fn note_slice<const N: usize>(
     });
 }
 
-/// Makes COUNT calls of one kind.
-fn calls_of(
-    name: &'static str,
-    seed: u64,
-    count: u64,
-    mut call: impl FnMut(&mut Random, &mut Tally),
-) -> u64 {
-    let mut random = Random::new(seed);
-    let mut tally = Tally::new(name);
-    while tally.calls < count {
-        call(&mut random, &mut tally);
-    }
-    tally.close()
-}
-
-fn tuning(seed: u64, count: u64) -> u64 {
-    calls_of("db_to_gain", seed, count, |random, tally| {
+fn tuning(run: &mut Run) {
+    run.calls_of("db_to_gain", |random, tally| {
         let db = draw::setting(random, DECIBELS);
         note_value(tally, db, port::db_to_gain(db), calls::db_to_gain(db));
-    }) + calls_of("note_frequency", seed, count, |random, tally| {
+    });
+    run.calls_of("note_frequency", |random, tally| {
         let note = random.word() as u8;
         let answer = calls::note_frequency(note);
         note_value(tally, note, port::note_frequency(note), answer);
-    }) + calls_of(
-        "note_frequency_with_tuning",
-        seed,
-        count,
-        |random, tally| {
-            let (note, tuning) = (draw::note(random), draw::setting(random, TUNING));
-            let answer = calls::note_frequency_with_tuning(note, tuning);
-            let given = port::note_frequency_with_tuning(note, tuning);
-            note_value(tally, (note, tuning), given, answer);
-        },
-    )
+    });
+    run.calls_of("note_frequency_with_tuning", |random, tally| {
+        let (note, tuning) = (draw::note(random), draw::setting(random, TUNING));
+        let answer = calls::note_frequency_with_tuning(note, tuning);
+        let given = port::note_frequency_with_tuning(note, tuning);
+        note_value(tally, (note, tuning), given, answer);
+    });
 }
 
-fn gates(seed: u64, count: u64) -> u64 {
-    let mut random = Random::new(seed);
+fn gates(run: &mut Run) {
+    let mut random = Random::new(run.seed);
     let curves: Vec<Vec<f32>> = (0..64).map(|_| scenes::curve(&mut random)).collect();
     let longest = vec![0.0; MANUAL_MASK_POINTS + 1];
-    calls_of("note_emphasis_gain", seed, count, |random, tally| {
+    run.calls_of("note_emphasis_gain", |random, tally| {
         let width = draw::setting(random, WIDTH);
         let answer = calls::note_emphasis_gain(width);
         note_value(tally, width, port::note_emphasis_gain(width), answer);
-    }) + calls_of("note_gate_gain", seed, count, |random, tally| {
+    });
+    run.calls_of("note_gate_gain", |random, tally| {
         let (depth, width) = (
             draw::setting(random, NOTE_DEPTH),
             draw::setting(random, WIDTH),
@@ -123,7 +107,8 @@ fn gates(seed: u64, count: u64) -> u64 {
         let given = port::note_gate_gain(depth, width, openness);
         let answer = calls::note_gate_gain(depth, width, openness);
         note_value(tally, (depth, width, openness), given, answer);
-    }) + calls_of("manual_gain_at_bin", seed, count, |random, tally| {
+    });
+    run.calls_of("manual_gain_at_bin", |random, tally| {
         let size = draw::size(random);
         let bin = match random.below(16) {
             0 => random.pick(&[8192, 8193, 8194, usize::MAX]),
@@ -139,7 +124,7 @@ fn gates(seed: u64, count: u64) -> u64 {
         let given = port::manual_gain_at_bin(curve, bin, size);
         let answer = calls::manual_gain_at_bin(curve, bin, size);
         note_value(tally, (curve.len(), bin, size), given, answer);
-    })
+    });
 }
 
 /// The settings with the shape of this number; refusal 2 where there is none.
@@ -157,27 +142,29 @@ fn shaped(motion: Motion) -> Result<MotionConfig, Refusal> {
     })
 }
 
-fn motions(seed: u64, count: u64) -> u64 {
+fn motions(run: &mut Run) {
     let frequency = |random: &mut Random| match random.once_in(2) {
         true => random.between(0.0, 24_000.0),
         false => draw::setting(random, FREQUENCY),
     };
-    calls_of("motion_openness", seed, count, |random, tally| {
+    run.calls_of("motion_openness", |random, tally| {
         let (hertz, motion) = (frequency(random), draw::motion(random));
         let given = port::motion_openness(hertz, motion);
         let answer = shaped(motion).and_then(|config| calls::motion_openness(hertz, config));
         note_value(tally, (hertz, motion), given, answer);
-    }) + calls_of("motion_attenuation_db", seed, count, |random, tally| {
+    });
+    run.calls_of("motion_attenuation_db", |random, tally| {
         let (hertz, motion) = (frequency(random), draw::motion(random));
         let given = port::motion_attenuation_db(hertz, motion);
         let answer = shaped(motion).and_then(|config| calls::motion_attenuation_db(hertz, config));
         note_value(tally, (hertz, motion), given, answer);
-    }) + calls_of("motion_compensation_gain", seed, count, |random, tally| {
+    });
+    run.calls_of("motion_compensation_gain", |random, tally| {
         let motion = draw::motion(random);
         let given = port::motion_compensation_gain(motion);
         let answer = shaped(motion).and_then(calls::motion_compensation_gain);
         note_value(tally, motion, given, answer);
-    })
+    });
 }
 
 /// The oracle's call with the bank in a slice: the lengths are tested after the settings.
@@ -193,8 +180,8 @@ fn advance(levels: &mut [f32], held: &[u8], elapsed: f32, fade: f32) -> Outcome 
     outcome
 }
 
-fn banks_and_tables(seed: u64, count: u64) -> u64 {
-    calls_of("advance_note_envelopes", seed, count, |random, tally| {
+fn banks_and_tables(run: &mut Run) {
+    run.calls_of("advance_note_envelopes", |random, tally| {
         let (notes, bytes) = (draw::mostly(random, MIDI_NOTES), draw::mostly(random, 16));
         let levels = draw::list(random, notes, LEVEL);
         let held: Vec<u8> = (0..bytes).map(|_| random.word() as u8).collect();
@@ -211,7 +198,8 @@ fn banks_and_tables(seed: u64, count: u64) -> u64 {
         let answer = advance(&mut theirs, &held, elapsed, fade).map(|()| []);
         let arguments = (elapsed, fade, notes, bytes);
         note_slice(tally, arguments, given, answer, [&levels, &ours, &theirs]);
-    }) + calls_of("prepare", seed, count, |random, tally| {
+    });
+    run.calls_of("prepare", |random, tally| {
         let (size, rate) = (draw::size(random), draw::setting(random, RATE));
         let entries = draw::mostly(random, size.min(32_768) / 2 + 1);
         let table = draw::list(random, entries, (7.0, 7.0));
@@ -220,11 +208,11 @@ fn banks_and_tables(seed: u64, count: u64) -> u64 {
         let answer = calls::prepare(&mut theirs, rate, size).map(|()| []);
         let arguments = (rate, size, entries);
         note_slice(tally, arguments, given, answer, [&table, &ours, &theirs]);
-    })
+    });
 }
 
-fn gain_lists(seed: u64, count: u64) -> u64 {
-    calls_of("soften_spectral_edges", seed, count, |random, tally| {
+fn gain_lists(run: &mut Run) {
+    run.calls_of("soften_spectral_edges", |random, tally| {
         let length = draw::length(random, MAX_GAINS);
         let source = draw::list(random, length, GAIN);
         let others = draw::mostly(random, length);
@@ -234,7 +222,8 @@ fn gain_lists(seed: u64, count: u64) -> u64 {
         let answer = calls::soften_spectral_edges(&source, &mut theirs).map(|()| []);
         let slices = [&output[..], &ours, &theirs];
         note_slice(tally, (length, others), given, answer, slices);
-    }) + calls_of("smooth_mask_in_db", seed, count, |random, tally| {
+    });
+    run.calls_of("smooth_mask_in_db", |random, tally| {
         let length = draw::length(random, MAX_GAINS);
         let current = draw::list(random, length, GAIN);
         let others = draw::mostly(random, length);
@@ -248,34 +237,30 @@ fn gain_lists(seed: u64, count: u64) -> u64 {
         let answer = calls::smooth_mask_in_db(&mut theirs, &target, elapsed).map(|()| []);
         let arguments = (elapsed, length, others);
         note_slice(tally, arguments, given, answer, [&current, &ours, &theirs]);
-    })
+    });
 }
 
-fn windows(seed: u64, count: u64) -> u64 {
-    calls_of(
-        "build_dual_synthesis_window",
-        seed,
-        count,
-        |random, tally| {
-            let overlap = draw::overlap(random);
-            let length = match random.once_in(8) {
-                true => draw::length(random, MAX_WINDOW),
-                false => {
-                    let hops = draw::length(random, MAX_WINDOW / 16);
-                    hops * overlap.min(16)
-                }
-            };
-            let analysis = draw::list(random, length, WINDOW);
-            let others = draw::mostly(random, length);
-            let synthesis = draw::list(random, others, (7.0, 7.0));
-            let (mut ours, mut theirs) = (synthesis.clone(), synthesis.clone());
-            let given = port::build_dual_synthesis_window(&analysis, &mut ours, overlap);
-            let answer = calls::build_dual_synthesis_window(&analysis, &mut theirs, overlap);
-            let arguments = (overlap, length, others);
-            let slices = [&synthesis[..], &ours, &theirs];
-            note_slice(tally, arguments, given, answer.map(|()| []), slices);
-        },
-    ) + calls_of("prepared_spectrum_new", seed, count, |random, tally| {
+fn windows(run: &mut Run) {
+    run.calls_of("build_dual_synthesis_window", |random, tally| {
+        let overlap = draw::overlap(random);
+        let length = match random.once_in(8) {
+            true => draw::length(random, MAX_WINDOW),
+            false => {
+                let hops = draw::length(random, MAX_WINDOW / 16);
+                hops * overlap.min(16)
+            }
+        };
+        let analysis = draw::list(random, length, WINDOW);
+        let others = draw::mostly(random, length);
+        let synthesis = draw::list(random, others, (7.0, 7.0));
+        let (mut ours, mut theirs) = (synthesis.clone(), synthesis.clone());
+        let given = port::build_dual_synthesis_window(&analysis, &mut ours, overlap);
+        let answer = calls::build_dual_synthesis_window(&analysis, &mut theirs, overlap);
+        let arguments = (overlap, length, others);
+        let slices = [&synthesis[..], &ours, &theirs];
+        note_slice(tally, arguments, given, answer.map(|()| []), slices);
+    });
+    run.calls_of("prepared_spectrum_new", |random, tally| {
         let (size, rate) = (draw::size(random).min(32_768), draw::setting(random, RATE));
         let overlap = match random.once_in(2) {
             true => 1 << random.below(5),
@@ -291,14 +276,14 @@ fn windows(seed: u64, count: u64) -> u64 {
         let answer = calls::prepared_spectrum_new(rate, &window, &smooth, overlap, &mut theirs);
         let arguments = (rate, size, smooths, overlap, entries);
         note_slice(tally, arguments, given, answer, [&block, &ours, &theirs]);
-    })
+    });
 }
 
-pub fn compare(seed: u64, count: u64) -> u64 {
-    tuning(seed, count)
-        + gates(seed, count)
-        + motions(seed, count)
-        + banks_and_tables(seed, count)
-        + gain_lists(seed, count)
-        + windows(seed, count)
+pub fn compare(run: &mut Run) {
+    tuning(run);
+    gates(run);
+    motions(run);
+    banks_and_tables(run);
+    gain_lists(run);
+    windows(run);
 }
