@@ -99,3 +99,89 @@ pub fn list(random: &mut Random, length: usize, (low, high): (f32, f32)) -> Vec<
     }
     list
 }
+
+/// Levels outside their limits, by their bits.
+pub const OUTSIDE: [u32; 10] = [
+    0x8000_0001, // the next below 0
+    0x807f_ffff,
+    0xbf80_0000, // -1
+    0xff80_0000, // -infinity
+    0xffc0_0000, // NaN of either sign
+    0xff80_0001,
+    0x7fc0_0000,
+    0x7fff_ffff,
+    0x7f80_0000, // infinity
+    0x3f80_0001, // the next above 1
+];
+
+/// A level below this one comes to rest at 0.
+const REST: f32 = 1.0e-6;
+
+/// Levels within their limits at which a test or a result changes.
+const EDGE_LEVELS: [f32; 10] = [
+    0.0,
+    -0.0,
+    f32::from_bits(1),
+    f32::from_bits(0x7f_ffff), // the greatest subnormal
+    f32::MIN_POSITIVE,
+    REST.next_down(),
+    REST,
+    REST.next_up(),
+    1.0_f32.next_down(),
+    1.0,
+];
+
+/// A bank of 0s, of 1s, of both, of levels at an edge or near rest, or a list. In one of four a
+/// level is outside its limits, now and then several.
+pub fn bank(random: &mut Random, length: usize) -> Vec<f32> {
+    let kind = random.below(8);
+    let mut each = |of: fn(&mut Random) -> f32| (0..length).map(|_| of(random)).collect();
+    let mut bank: Vec<f32> = match kind {
+        0 => vec![0.0; length],
+        1 => vec![1.0; length],
+        2 => each(|random| random.pick(&[0.0, 1.0])),
+        3 => each(|random| random.pick(&EDGE_LEVELS)),
+        4 => each(|random| random.between(0.0, 4.0 * REST)),
+        _ => list(random, length, LEVEL),
+    };
+    if length > 0 && random.once_in(4) {
+        for _ in 0..random.pick(&[1, 1, 1, 2, 20]) {
+            bank[random.below(length)] = f32::from_bits(random.pick(&OUTSIDE));
+        }
+    }
+    bank
+}
+
+/// The bytes of the held notes: none, all, one alone, all but one, or any.
+pub fn held(random: &mut Random, length: usize) -> Vec<u8> {
+    let kind = random.below(8);
+    let mut held: Vec<u8> = match kind {
+        0 | 1 => vec![0; length],
+        2 | 3 => vec![0xff; length],
+        _ => (0..length).map(|_| random.word() as u8).collect(),
+    };
+    if length > 0 && (kind == 1 || kind == 3) {
+        held[random.below(length)] ^= 1 << random.below(8);
+    }
+    held
+}
+
+/// The time of a frame in seconds, and a fade in milliseconds. Now and then they move no level,
+/// each level all the way, or a held note from 0 to near rest.
+pub fn times(random: &mut Random) -> (f32, f32) {
+    let elapsed = match random.once_in(2) {
+        true => random.between(0.0, 0.05),
+        false => setting(random, ELAPSED),
+    };
+    let fade = match random.once_in(2) {
+        true => random.between(0.0, 500.0),
+        false => setting(random, FADE),
+    };
+    let least = [0.0, -0.0, f32::from_bits(1), f32::MIN_POSITIVE];
+    match random.below(8) {
+        0 => (random.pick(&least), fade),
+        1 => (elapsed, random.pick(&least)),
+        2 => (fade * 0.001 * random.between(0.0, 2.0 * REST), fade),
+        _ => (elapsed, fade),
+    }
+}

@@ -9,6 +9,7 @@
 //! one.
 
 mod draw;
+mod envelopes;
 mod masks;
 mod numbers;
 mod open_calls;

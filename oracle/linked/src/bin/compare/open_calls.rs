@@ -1,15 +1,15 @@
 //! The open calls: answers, places, values, and the slices at exit, after a refusal too.
 
-use crate::draw;
 use crate::run::Run;
 use crate::tally::Tally;
+use crate::{draw, envelopes};
 use linked::calls::{self as port, BEFORE, Given, Motion};
 use oracle::calls;
 use oracle::numbers::{bits_of, first_difference};
 use oracle::random::Random;
-use oracle::refusals::{self as refuse, *};
+use oracle::refusals::*;
 use oracle::scenes::{self, SHAPES};
-use oracle::spectral_dsp::{MANUAL_MASK_POINTS, MIDI_NOTES, MotionConfig};
+use oracle::spectral_dsp::{MANUAL_MASK_POINTS, MotionConfig};
 use std::fmt::Debug;
 
 /// What a call has to give where the oracle answers so: the values where it is done, and the place
@@ -167,38 +167,7 @@ fn motions(run: &mut Run) {
     });
 }
 
-/// The oracle's call with the bank in a slice: the lengths are tested after the settings.
-fn advance(levels: &mut [f32], held: &[u8], elapsed: f32, fade: f32) -> Outcome {
-    refuse::setting(within(elapsed, ELAPSED))?;
-    refuse::setting(within(fade, FADE))?;
-    refuse::length(levels.len() == MIDI_NOTES)?;
-    refuse::length(held.len() == MIDI_NOTES / 8)?;
-    let bank = (&*levels).try_into().expect("the length was tested");
-    let bytes = held.try_into().expect("the length was tested");
-    let (outcome, bank) = calls::advance_note_envelopes(bank, bytes, elapsed, fade);
-    levels.copy_from_slice(&bank);
-    outcome
-}
-
-fn banks_and_tables(run: &mut Run) {
-    run.calls_of("advance_note_envelopes", |random, tally| {
-        let (notes, bytes) = (draw::mostly(random, MIDI_NOTES), draw::mostly(random, 16));
-        let levels = draw::list(random, notes, LEVEL);
-        let held: Vec<u8> = (0..bytes).map(|_| random.word() as u8).collect();
-        let elapsed = match random.once_in(2) {
-            true => random.between(0.0, 0.05),
-            false => draw::setting(random, ELAPSED),
-        };
-        let fade = match random.once_in(2) {
-            true => random.between(0.0, 500.0),
-            false => draw::setting(random, FADE),
-        };
-        let (mut ours, mut theirs) = (levels.clone(), levels.clone());
-        let given = port::advance_note_envelopes(&mut ours, &held, elapsed, fade);
-        let answer = advance(&mut theirs, &held, elapsed, fade).map(|()| []);
-        let arguments = (elapsed, fade, notes, bytes);
-        note_slice(tally, arguments, given, answer, [&levels, &ours, &theirs]);
-    });
+fn tables(run: &mut Run) {
     run.calls_of("prepare", |random, tally| {
         let (size, rate) = (draw::size(random), draw::setting(random, RATE));
         let entries = draw::mostly(random, size.min(32_768) / 2 + 1);
@@ -283,7 +252,8 @@ pub fn compare(run: &mut Run) {
     tuning(run);
     gates(run);
     motions(run);
-    banks_and_tables(run);
+    envelopes::compare(run);
+    tables(run);
     gain_lists(run);
     windows(run);
 }
