@@ -129,6 +129,8 @@ pub fn advance(levels: &mut [f32], held: &[u8], alpha: f32)
         (λ note level. nextLevel (isHeld (now (held .entry)) note) alpha level)
         (now (levels .entry)) ⌝ }
 {
-    step_word(levels, word_of(held, 0), 0, alpha);
-    step_word(levels, word_of(held, 1), 1, alpha);
+    let first = word_of(held, 0);
+    let second = word_of(held, 1);
+    step_word(levels, first, 0, alpha);
+    step_word(levels, second, 1, alpha);
 }

@@ -16,18 +16,18 @@ use Rattle.envelopes.proofs.advance.Tie as tie
 word-of-requires : tie.Need-word-of-requires
 word-of-requires c κs = search needs
 
-step-word-requires : tie.Need-step-word-requires
-step-word-requires c κs =
-    let p = c .before .before .before .before .pre in
-    (p .0, omega arith, p .2, λ note a b. p .3 note (omega arith) (omega arith))
-
 word-of-requires-2 : tie.Need-word-of-requires-2
 word-of-requires-2 c κs = search needs
 
+step-word-requires : tie.Need-step-word-requires
+step-word-requires c κs =
+    let p = c .before .before .before .before .before .pre in
+    (p .0, omega arith, p .2, λ note a b. p .3 note (omega arith) (omega arith))
+
 step-word-requires-2 : tie.Need-step-word-requires-2
 step-word-requires-2 c κs =
-    let first = c .before .before .before .before in
-    let start = first .before .before .before .before .before in
+    let first = c .before .before .before in
+    let start = first .before .before .before .before .before .before in
     let p = start .pre in
     let levels = start .args .levels .now in
     let e = first .step-word .ensures in
@@ -41,14 +41,15 @@ same-length c = search needs
 returns : tie.Need-returns
 returns c =
     let second = c .before .before in
-    let first = second .before .before .before .before .before in
-    let start = first .before .before .before .before .before in
+    let first = second .before .before .before .before in
+    let words = first .before .before in
+    let start = words .before .before .before .before in
     let a = start .args in
     let held = a .held .now in
     let levels = a .levels .now in
     let after = first .step-word .last .0 in
-    let one = first .before .word-of .ensures in
-    let two = second .before .word-of2 .ensures in
+    let one = words .before .word-of .ensures in
+    let two = words .word-of2 .ensures in
     let step : ℕ → ℕ → ℕ → ℕ → List Float → List Float = λ word i lo hi xs. mapRange (by-word (a .alpha) word i) lo hi xs in
     by-words (a .alpha) held levels after (start .pre .0) (one .1) (two .1)
     (first .step-word .ensures ∙ ap (λ (word : ℕ). step word 0 0 64 levels) (one .0))
@@ -59,8 +60,8 @@ advance-spec =
     tie.close
     (tie.spec
     word-of-requires
-    step-word-requires
     word-of-requires-2
+    step-word-requires
     step-word-requires-2
     same-length
     returns)
