@@ -8,15 +8,20 @@ use lib.IntN.{pos}
 use lib.Ieee.{Float, nan, inf, fin, binary32, le, lt, eq, neg, fits, isNan}
 use lib.Ieee.Fits.{and-i}
 use Rattle.float_laws.specs.Units.{number}
-use Rattle.float_laws.specs.Order.{le-right, le-trans-f, lt→le-f, not-lt-f, not-le-f}
+use Rattle.float_laws.specs.Order.{le-right, le-trans-f, lt-of-le-of-lt-f, lt→le-f, not-lt-f, not-le-f}
 use Rattle.float32.specs.Value.{moved}
 use Rattle.float32.specs.Order.{within}
+use Rattle.float32.proofs.Limits.{within-low, within-high}
 use Rattle.fixed_point.specs.Fixed.{nearby, farthest}
 use Rattle.fixed_point.proofs.Wide.{moved-more}
 use Rattle.power.specs.Table.{lowBits, P}
 use Rattle.power.specs.Power.{positiveZero, largest, lowest, limit, powerAt, E2}
 use Rattle.power.proofs.Made.{at}
 use Rattle.power.proofs.Ends.{high-of-le, under-of-lt, E2-nan, E2-below, E2-from}
+
+-- 126
+abbrev pub highest : Float
+highest = fin false 63 (pos 1)
 
 -- ---- beyond the ends, as the code tests them
 pub not-from : (x : Float) → T (fits binary32 x) → T (not (le lowest x)) → positiveZero ≡ E2 x
@@ -28,6 +33,15 @@ not-from (fin s m e) F n = sym (E2-below (fin s m e) (not-le-f binary32 lowest (
 pub not-under : (x : Float) → T (fits binary32 x) → T (le lowest x) → T (not (lt x limit)) → largest ≡ E2 x
 unfolding fits
 not-under x F l n = sym (E2-from x (not-lt-f binary32 x limit (le-right binary32 lowest x F l) tt n))
+
+-- ---- what lies between -126 and 126 lies between the ends
+module _ (x : Float) (F : T (fits binary32 x)) (w : T (within lowest highest x)) where
+  pub near-from : T (le lowest x)
+  near-from = within-low lowest highest x w
+
+  pub near-under : T (lt x limit)
+  unfolding fits lt
+  near-under = lt-of-le-of-lt-f binary32 x highest limit (le-right binary32 lowest x F near-from) tt tt (within-high lowest highest x w) tt
 
 -- ---- between the ends
 module _ (x : Float) (F : T (fits binary32 x)) (l : T (le lowest x)) (h : T (lt x limit)) where

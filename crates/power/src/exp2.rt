@@ -11,11 +11,15 @@ use fixed_point::LEAST;
 use fixed_point::far_steps;
 use fixed_point::near_steps;
 use float32::order::abs;
+use float32::order::in_range;
 
 pub const LARGEST: f32 = 3.4028235e38;
 
-// Below LOWEST the result is 0, from LIMIT up it is LARGEST.
+// Below LOWEST the result is 0, from LIMIT up it is LARGEST. LOWEST..HIGHEST, which lies between, is
+// the same range on both sides of 0, so that one comparison tests it.
 pub const LOWEST: f32 = -126.0;
+
+pub const HIGHEST: f32 = 126.0;
 
 pub const LIMIT: f32 = 128.0;
 
@@ -47,6 +51,15 @@ pub fn power_of_steps(y: u64, i: u64) -> f32
     f32::from_bits((((n - 2) << 23) + q) as u32)
 }
 
+// 2^x for an x between the ends.
+fn power_between(powers: &PowerTable, x: f32) -> f32
+    requires { ⌜ (now powers ≡ powerTable) × T (le lowest x) × T (lt x limit) ⌝ }
+    ensures { λ r. ⌜ r ≡ E2 x ⌝ }
+{
+    let y = steps(x);
+    power_of_steps(y, interpolate(powers, y & 0xff_ffff))
+}
+
 // 2^x: E2 of document 01.
 //
 // Method. x + 128 is rounded down to a multiple of 2^-24 by one addition (fixed_point): its integer
@@ -60,12 +73,14 @@ pub fn exp2(powers: &PowerTable, x: f32) -> f32
     requires { ⌜ now powers ≡ powerTable ⌝ }
     ensures { λ r. ⌜ r ≡ E2 x ⌝ }
 {
+    if in_range(x, LOWEST, HIGHEST) {
+        return power_between(powers, x);
+    }
     if !(LOWEST <= x) {
         return 0.0;
     }
     if !(x < LIMIT) {
         return LARGEST;
     }
-    let y = steps(x);
-    power_of_steps(y, interpolate(powers, y & 0xff_ffff))
+    power_between(powers, x)
 }
