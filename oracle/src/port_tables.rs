@@ -1,5 +1,5 @@
 //! The tables of constants that the port's files hold, made from their rules and laid out as they
-//! stand there: in code as an array, in specs and proofs as a list.
+//! stand there: in code as an array, in specs and proofs as a list, and one of them in rows too.
 
 use crate::functions::{exp2, log2};
 use crate::spectral_dsp::{
@@ -12,6 +12,8 @@ use std::path::{Path, PathBuf};
 
 /// The longest line of a list.
 const COLUMNS: usize = 100;
+/// The steps of a row of P, where it stands in rows.
+const ROW: usize = 16;
 
 enum Entries {
     Whole(Vec<u64>),
@@ -123,6 +125,25 @@ fn list_lines(entries: &[String]) -> String {
     lines.join("\n") + "\n"
 }
 
+/// Sixteen steps a row, with the entries at both ends of each, as the arms of a `match`.
+fn row_lines(entries: &[String]) -> String {
+    let rows = entries.len() / ROW;
+    let row = |k: usize| {
+        let key = if k + 1 < rows {
+            k.to_string()
+        } else {
+            String::from("_")
+        };
+        let ends = &entries[k * ROW..=(k + 1) * ROW];
+        let lines: String = ends
+            .iter()
+            .map(|entry| format!("            {entry},\n"))
+            .collect();
+        format!("        {key} => of_sixteen(\n            i,\n{lines}        ),\n")
+    };
+    (0..rows).map(row).collect::<String>() + "    }\n}\n"
+}
+
 /// A table as one file of the port has it.
 pub struct Block {
     /// The crate.
@@ -163,9 +184,11 @@ impl Block {
     }
 }
 
-/// Each table as its two files have it.
+/// Each table as its two files have it, and P in rows.
 pub fn blocks() -> Vec<Block> {
-    let mut blocks = Vec::new();
+    let in_rows = ["src/ends.rt", "    match h / 16 {"];
+    let rows = row_lines(&Entries::Whole(POWERS.to_vec()).in_code());
+    let mut blocks = vec![Block::new("single_power", in_rows, rows)];
     for table in &TABLES {
         let entries = (table.entries)();
         let array = array_lines(&entries.in_code());
