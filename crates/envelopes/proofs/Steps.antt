@@ -1,6 +1,6 @@
 -- A range of levels that made their step by half words has made it by the word, and the bank that
 -- made it by both words has made it by what is held. Assumes nothing.
-use mathlib.Core.Path.{_≡_, refl, sym, ap, _∙_, subst}
+use mathlib.Core.Path.{_≡_, sym, ap, _∙_, subst}
 use mathlib.Core.List.{List}
 use Prim.Native.Nat.{ℕ, _+_, _-_, _*_, _/_, _%_, _^_, _≤_, _<_}
 use native.Mathlib.Decide.{decLt}
@@ -8,8 +8,8 @@ use native.Mathlib.Omega.{arith}
 use lib.Dec.{T}
 use lib.ListN.{length, getD}
 use lib.Ieee.{Float, nan}
-use Rattle.lists.specs.Maps.{mapAt, mapRange, between, between-low, between-in, between-high, length-mapRange, getD-mapRange, mapFrom-same}
-use Rattle.lists.specs.Turned.{Turned, turned-none, turned-on, turned-all, turned-to}
+use Rattle.lists.specs.Maps.{mapAt, mapRange, between, between-low, between-in, between-high, getD-mapRange, mapFrom-same}
+use Rattle.lists.specs.Turned.{turned-none, turned-on, turned-all}
 use Rattle.limits.specs.Limits as limits
 use Rattle.envelopes.specs.Envelope.{isHeld, nextLevel, Accepted}
 use Rattle.envelopes.specs.Words.{Bytes, wordOf, isSet}

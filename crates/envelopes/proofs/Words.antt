@@ -8,9 +8,9 @@ use native.Mathlib.Nat.{div-div-eq-div-mul, add-zero, zero-add, div-one, pow-suc
 use native.Mathlib.Numerals.{add-one}
 use native.Mathlib.Decide.{decLt}
 use native.Mathlib.Omega.{arith}
-use lib.Dec.{eqb, lit<, lit≤}
+use lib.Dec.{eqb, lit≤}
 use lib.Pow.{pow-add, shr-shr, field, mod-mod-pow}
-use lib.ListN.{length, getD}
+use lib.ListN.{getD}
 use Rattle.envelopes.specs.Envelope.{isHeld}
 use Rattle.envelopes.specs.Words.{joined, wordOf, isSet, Bytes, HeldByWords}
 

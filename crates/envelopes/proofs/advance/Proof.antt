@@ -1,6 +1,6 @@
 -- `envelopes::advance` meets its contract: both words' notes make their step, which is what is held
 -- of each. Assumes nothing.
-use mathlib.Core.Path.{_≡_, sym, ap, subst, _∙_}
+use mathlib.Core.Path.{sym, ap, subst, _∙_}
 use mathlib.Core.List.{List}
 use Prim.Native.Nat.{ℕ}
 use native.Mathlib.Omega.{arith}

@@ -1,8 +1,7 @@
 -- `envelopes::fade_alpha` meets its contract: within their limits the times give a fraction in
 -- 0..1 (proofs/Alpha.antt). Assumes nothing.
-use mathlib.Core.Path.{_≡_, sym, subst, _∙_}
+use mathlib.Core.Path.{sym, subst}
 use lib.Dec.{T}
-use lib.Ieee.{binary32, fits}
 use borrow.Author.Needs.{needs}
 use Rattle.float32.proofs.InUnit.{InUnit, unit-within}
 use Rattle.limits.specs.Limits as limits

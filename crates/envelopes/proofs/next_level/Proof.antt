@@ -1,9 +1,9 @@
 -- `envelopes::next_level` meets its contract, by those of the functions it calls: a step of a level
 -- in 0..1 ends in 0..1, so it can be settled. Assumes nothing.
-use mathlib.Core.Path.{_≡_, sym, ap, subst, _∙_}
+use mathlib.Core.Path.{sym, ap, subst, _∙_}
 use Prim.Native.Nat.{_-_}
 use lib.Dec.{T}
-use lib.Ieee.{Float, binary32, fits, ofBits, add, sub, mul, le}
+use lib.Ieee.{Float, binary32, ofBits, add, sub, mul, le}
 use borrow.Author.Needs.{needs}
 use Rattle.float32.specs.Remainder.{zero}
 use Rattle.float32.proofs.InUnit.{InUnit}

@@ -1,7 +1,7 @@
 -- `envelopes::settle` meets its contract: its test is the one on the magnitude. Assumes nothing.
-use mathlib.Core.Path.{_≡_, sym, subst, _∙_}
+use mathlib.Core.Path.{_≡_, sym, subst}
 use lib.Dec.{T}
-use lib.Ieee.{binary32, fits, lt}
+use lib.Ieee.{lt}
 use Rattle.float32.specs.Order.{magnitude}
 use Rattle.envelopes.specs.Envelope.{SILENCE, settled}
 use Rattle.envelopes.proofs.Silence.{silence-from-zero}

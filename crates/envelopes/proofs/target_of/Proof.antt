@@ -1,6 +1,6 @@
 -- `envelopes::target_of` meets its contract: a shift and a mask of one bit are a division and a
 -- remainder. Assumes nothing.
-use mathlib.Core.Path.{_≡_, refl, sym, _∙_}
+use mathlib.Core.Path.{refl, sym, _∙_}
 use Prim.Native.Nat.{_-_, _/_, _^_}
 use lib.Bits.{and-mask}
 use borrow.Author.Needs.{needs}

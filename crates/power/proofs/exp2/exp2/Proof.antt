@@ -3,7 +3,7 @@
 use mathlib.Core.Path.{_≡_, sym, subst, _∙_}
 use mathlib.Core.Bool.{Bool, true, false, not, true≢false}
 use lib.Dec.{T}
-use lib.Ieee.{Float, binary32, fits, le, lt, ofBits}
+use lib.Ieee.{binary32, fits, le, lt, ofBits}
 use borrow.Author.Needs.{needs}
 use Rattle.float32.specs.Order.{within}
 use Rattle.power.specs.Power.{lowest, limit}

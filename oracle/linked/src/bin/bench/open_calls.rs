@@ -1,6 +1,7 @@
 //! The open calls, beside the unaltered Rust at the same sizes and on the same numbers.
 
 use linked::calls::{self as port, Motion};
+use linked::dovetable_advance_note_envelopes;
 use oracle::calls::is_held;
 use oracle::random::Random;
 use oracle::spectral_dsp::{MIDI_NOTES, MotionConfig};
@@ -102,8 +103,8 @@ fn single_numbers() {
 #[repr(align(64))]
 struct Aligned<T>(T);
 
-/// A bank of which these notes are held, put back before each call. The port is called through its
-/// binding, as a program in Rust calls it: what `linked` lends for a comparison takes 2 ns more.
+/// A bank of which these notes are held, put back before each call. The library's function is called
+/// itself, as a program in C calls it: what `port` lends and looks at around a call takes 3 ns.
 fn envelopes(name: &str, held: [u8; 16]) {
     let levels = spread(MIDI_NOTES, 0.0, 1.0).try_into();
     let levels: Aligned<[f32; MIDI_NOTES]> = Aligned(levels.expect("a level for each note"));
@@ -111,13 +112,19 @@ fn envelopes(name: &str, held: [u8; 16]) {
     let (held, flags) = (Aligned(held), Aligned(flags));
     let (mut ours, mut theirs) = (levels, levels);
     let (elapsed, fade) = (0.01, 50.0);
+    let mut place = 0;
     row(
         &format!("advance_note_envelopes, {name}"),
         SHORT,
         || {
             ours = *black_box(&levels);
             let (bank, held) = (&mut ours.0, &black_box(&held).0);
-            let _ = black_box(dovetable::advance_note_envelopes(bank, held, elapsed, fade));
+            let (notes, n) = (bank.as_mut_ptr(), bank.len());
+            let (bytes, m) = (held.as_ptr(), held.len());
+            // A pointer and a length are those of one array.
+            black_box(unsafe {
+                dovetable_advance_note_envelopes(notes, n, bytes, m, elapsed, fade, &mut place)
+            });
             black_box(&ours);
         },
         || {
