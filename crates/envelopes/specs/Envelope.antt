@@ -45,11 +45,13 @@ settled level = cond (lt (magnitude level) SILENCE) zero level
 
 -- one level's step toward its target
 abbrev pub nextLevel : Bool → Float → Float → Float
-nextLevel held alpha level = settled (add binary32 level (mul binary32 (sub binary32 (targetOf held) level) alpha))
+nextLevel held alpha level =
+    settled (add binary32 level (mul binary32 (sub binary32 (targetOf held) level) alpha))
 
 -- the levels of the notes from `first` on and below `last` are within their limits
 abbrev pub Accepted : List Float → ℕ → ℕ → Type 0
-Accepted levels first last = (note : ℕ) → first ≤ note → note < last → T (limits.level (getD levels note nan))
+Accepted levels first last =
+    (note : ℕ) → first ≤ note → note < last → T (limits.level (getD levels note nan))
 
 -- the bank after one step: entry n is the level of note n
 abbrev pub advanced : List ℕ → Float → Float → List Float → List Float

@@ -91,8 +91,8 @@ fn next_level(half: u32, bit: usize, alpha: f32, level: f32) -> f32
     settle(level + (target_of(half, bit) - level) * alpha)
 }
 
-// The step of the 32 notes of half a word, the one at `index` of four. The bank is changed in place,
-// and not copied. By halves, since SSE2 compares numbers of 32 bits and not of 64.
+// The step of the 32 notes of half a word, the one at `index` of four. The bank is changed in
+// place, and not copied. By halves, since SSE2 compares numbers of 32 bits and not of 64.
 fn step_half(levels: &mut [f32], half: u32, index: usize, alpha: f32)
     requires { ⌜ (length (now levels) ≡ MIDI-NOTES) × (index < 4) × T (limits.level alpha)
         × Accepted (now levels) (32 * index) (32 * index + 32) ⌝ }
@@ -120,8 +120,8 @@ fn step_word(levels: &mut [f32], word: u64, index: usize, alpha: f32)
     step_half(levels, (word & 0xffff_ffff) as u32, 2 * index + 1, alpha);
 }
 
-// Advances a bank of note envelopes by one STFT frame, in which a level covers the fraction alpha of
-// the distance to its target.
+// Advances a bank of note envelopes by one STFT frame, in which a level covers the fraction alpha
+// of the distance to its target. Both words are read before the first level is written.
 pub fn advance(levels: &mut [f32], held: &[u8], alpha: f32)
     requires { ⌜ (length (now levels) ≡ MIDI-NOTES) × (length (now held) ≡ HELD-BYTES)
         × T (limits.level alpha) × Accepted (now levels) 0 MIDI-NOTES ⌝ }

@@ -48,7 +48,8 @@ abbrev pub advanceReply : List Float → Float → Float → Reply
 advanceReply levels elapsed fade = afterTimes elapsed fade (levelReply levels)
 
 unfoldable pub bankReply : List Float → List ℕ → Float → Float → Reply
-bankReply levels held elapsed fade = afterTimes elapsed fade (afterLengths levels held (levelReply levels))
+bankReply levels held elapsed fade =
+    afterTimes elapsed fade (afterLengths levels held (levelReply levels))
 
 abbrev pub advanceOf : List Float → List ℕ → Float → Float → Advance
 advanceOf levels held elapsed fade =

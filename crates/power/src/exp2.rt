@@ -15,8 +15,8 @@ use float32::order::in_range;
 
 pub const LARGEST: f32 = 3.4028235e38;
 
-// Below LOWEST the result is 0, from LIMIT up it is LARGEST. LOWEST..HIGHEST, which lies between, is
-// the same range on both sides of 0, so that one comparison tests it.
+// Below LOWEST the result is 0, from LIMIT up it is LARGEST. LOWEST..HIGHEST, which lies between,
+// reaches as far on both sides of 0, so that one comparison tests it.
 pub const LOWEST: f32 = -126.0;
 
 pub const HIGHEST: f32 = 126.0;
