@@ -111,7 +111,7 @@ pub fn log2(v: f32) -> f32 {
 fn greatest_at_most(value: u64) -> u64 {
     let h = POWERS.partition_point(|&entry| entry <= value) - 1;
     let (above, step) = (value - POWERS[h], POWERS[h + 1] - POWERS[h]);
-    // floor(step·r / 2^16) <= above is the same as step·r < (above + 1)·2^16.
+    // With w low bits, floor(step·r / 2^w) <= above is the same as step·r < (above + 1)·2^w.
     let r = (((above + 1) << POWER_LOW_BITS) - 1) / step;
     ((h as u64) << POWER_LOW_BITS) + r
 }

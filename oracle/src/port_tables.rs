@@ -13,7 +13,7 @@ use std::path::{Path, PathBuf};
 /// The longest line of a list.
 const COLUMNS: usize = 100;
 /// The steps of a row of P, where it stands in rows.
-const ROW: usize = 16;
+const ROW: usize = 32;
 
 enum Entries {
     Whole(Vec<u64>),
@@ -125,7 +125,7 @@ fn list_lines(entries: &[String]) -> String {
     lines.join("\n") + "\n"
 }
 
-/// Sixteen steps a row, with the entries at both ends of each, as the arms of a `match`.
+/// Row after row of steps, with the entries at both ends of each, as the arms of a `match`.
 fn row_lines(entries: &[String]) -> String {
     let rows = entries.len() / ROW;
     let row = |k: usize| {
@@ -139,7 +139,7 @@ fn row_lines(entries: &[String]) -> String {
             .iter()
             .map(|entry| format!("            {entry},\n"))
             .collect();
-        format!("        {key} => of_sixteen(\n            i,\n{lines}        ),\n")
+        format!("        {key} => of_row(\n            i,\n{lines}        ),\n")
     };
     (0..rows).map(row).collect::<String>() + "    }\n}\n"
 }
@@ -186,7 +186,7 @@ impl Block {
 
 /// Each table as its two files have it, and P in rows.
 pub fn blocks() -> Vec<Block> {
-    let in_rows = ["src/ends.rt", "    match h / 16 {"];
+    let in_rows = ["src/ends.rt", "    match h / 32 {"];
     let rows = row_lines(&Entries::Whole(POWERS.to_vec()).in_code());
     let mut blocks = vec![Block::new("single_power", in_rows, rows)];
     for table in &TABLES {

@@ -5,7 +5,7 @@ use crate::bignum::Natural;
 use std::sync::LazyLock;
 
 /// Of the 24 bits of F, the high ones choose an entry of P and the low ones a place after it.
-pub const POWER_HIGH_BITS: usize = 8;
+pub const POWER_HIGH_BITS: usize = 10;
 pub const POWER_LOW_BITS: usize = 24 - POWER_HIGH_BITS;
 pub const POWER_STEPS: usize = 1 << POWER_HIGH_BITS;
 
@@ -14,7 +14,7 @@ pub const SINE_HALVINGS: usize = 8;
 pub const SINE_LOW_BITS: usize = 22 - SINE_HALVINGS;
 pub const SINE_STEPS: usize = 1 << SINE_HALVINGS;
 
-/// P[j], near 2^30 times the j-th of 256 equal steps from 1 to 2.
+/// P[j], near 2^30 times the j-th of 1,024 equal steps from 1 to 2.
 pub static POWERS: LazyLock<[u64; POWER_STEPS + 1]> =
     LazyLock::new(|| std::array::from_fn(power_entry));
 
@@ -39,10 +39,12 @@ fn greatest(mut low: u64, mut high: u64, allowed: impl Fn(u64) -> bool) -> u64 {
     low
 }
 
-/// P[j] is the greatest whole number with P[j]^256 <= 2^(7680 + j); 7680 is 30 times 256.
+/// P[j] is the greatest whole number with P[j]^1024 <= 2^(30720 + j); 30720 is 30 times 1,024. It
+/// lies from 2^30, whose power is 2^30720, to 2^31, whose power is 2^(30720 + 1024).
 fn power_entry(j: usize) -> u64 {
     let limit = Natural::power_of_two(30 * POWER_STEPS + j);
-    greatest(0, 1 << 32, |p| Natural::from(p).power(POWER_STEPS) <= limit)
+    let allowed = |p| Natural::from(p).power(POWER_STEPS) <= limit;
+    greatest(1 << 30, (1 << 31) + 1, allowed)
 }
 
 /// K[0] = 0, and K[i+1] is the greatest whole number whose square is at most (2^30 + K[i])·2^29.

@@ -16,18 +16,18 @@ fn whole(x: f32) -> Natural {
     }
 }
 
-/// (f(1 - 2^-18))^12 <= 440^12·2^(note - 69) <= (f(1 + 2^-18))^12
+/// (f(1 - 2^-20))^12 <= 440^12·2^(note - 69) <= (f(1 + 2^-20))^12
 #[test]
 fn equal_temperament() {
     for note in 0..=127 {
         let f = whole(note_frequency(note).expect("a note is accepted"));
-        // Both sides in parts of 2^-(149 + 18) to the 12th, times 2^69.
+        // Both sides in parts of 2^-(149 + 20) to the 12th, times 2^69.
         let near = |parts: u64| f.times(&Natural::from(parts)).power(12).shifted(69);
         let tempered = Natural::from(440)
             .power(12)
-            .shifted(12 * (149 + 18) + note as usize);
-        assert!(near((1 << 18) - 1) <= tempered, "note {note}");
-        assert!(tempered <= near((1 << 18) + 1), "note {note}");
+            .shifted(12 * (149 + 20) + note as usize);
+        assert!(near((1 << 20) - 1) <= tempered, "note {note}");
+        assert!(tempered <= near((1 << 20) + 1), "note {note}");
     }
 }
 

@@ -48,7 +48,7 @@ fn exp2_is_e2() {
             assert_eq!(result, f32::MAX);
         } else {
             let (n, f) = (floor_24(x) >> 24, floor_24(x) & 0xff_ffff);
-            let significand = between(&*POWERS, 16, f) / 128;
+            let significand = between(&*POWERS, 14, f) / 128;
             let bits = (n + 126) * (1 << 23) + significand;
             assert_eq!(i128::from(result.to_bits()), bits, "{x:e}");
         }
@@ -79,7 +79,7 @@ fn log2_is_l2() {
         }
         let e = i128::from(v.to_bits() >> 23) - 127;
         let m = i128::from(v.to_bits() & 0x7f_ffff | 0x80_0000);
-        let f = greatest(|f| between(&*POWERS, 16, f) <= 128 * m);
+        let f = greatest(|f| between(&*POWERS, 14, f) <= 128 * m);
         // Scaled so, the exact number and the floats around it are whole.
         let exact = (e << 24) + f;
         let distance =

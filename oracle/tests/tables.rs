@@ -14,11 +14,11 @@ fn power(base: u64, exponent: usize) -> Natural {
 
 #[test]
 fn each_power_is_the_greatest() {
-    assert_eq!(POWERS.len(), 257);
+    assert_eq!(POWERS.len(), 1025);
     for (j, &p) in POWERS.iter().enumerate() {
-        let limit = Natural::power_of_two(7680 + j);
-        assert!(power(p, 256) <= limit);
-        assert!(power(p + 1, 256) > limit);
+        let limit = Natural::power_of_two(30720 + j);
+        assert!(power(p, 1024) <= limit);
+        assert!(power(p + 1, 1024) > limit);
     }
 }
 

@@ -28,10 +28,10 @@ L2-is v = go (positiveNormal v) refl
 
 abbrev octaveBits : List ℕ
 octaveBits =
-    0x00000000 ∷ 0x00000000 ∷ 0x3f800000 ∷ 0x3fcae004 ∷ 0x40000000 ∷ 0x40149a73 ∷ 0x40257002 ∷
-    0x4033abaf ∷ 0x40400000 ∷ 0x404ae008 ∷ 0x40549a73 ∷ 0x405d674e ∷ 0x40657002 ∷ 0x406cd3fc ∷
-    0x4073abaf ∷ 0x407a0a7c ∷ 0x40800000 ∷ 0x4082cc7c ∷ 0x40857004 ∷ 0x4087ef03 ∷ 0x408a4d39 ∷
-    0x408c8dda ∷ 0x408eb3a7 ∷ 0x4090c105 ∷ 0x4092b801 ∷ []
+    0x00000000 ∷ 0x00000000 ∷ 0x3f800000 ∷ 0x3fcae00d ∷ 0x40000000 ∷ 0x40149a78 ∷ 0x40257006 ∷
+    0x4033abb4 ∷ 0x40400000 ∷ 0x404ae00d ∷ 0x40549a78 ∷ 0x405d6754 ∷ 0x40657006 ∷ 0x406cd401 ∷
+    0x4073abb4 ∷ 0x407a0a7e ∷ 0x40800000 ∷ 0x4082cc7f ∷ 0x40857006 ∷ 0x4087ef06 ∷ 0x408a4d3c ∷
+    0x408c8ddd ∷ 0x408eb3aa ∷ 0x4090c105 ∷ 0x4092b803 ∷ []
 
 all-computed : tabulate 25 (λ (partial : ℕ). computed (ofInt binary32 (pos partial))) ≡ map (ofBits binary32) octaveBits
 unfolding tabFrom ofBits ofFields odd trailingZeros add sum ofInt div mul round size span climb units le interp powerTable unitsOf rounded

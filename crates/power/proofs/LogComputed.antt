@@ -13,22 +13,22 @@ use lib.Ieee.Digits.{size-lt}
 use Rattle.power.specs.Table.{lowBits, P, I}
 use Rattle.power.specs.Rules.{P-rule}
 use Rattle.power.specs.Log.{greatest, positiveNormal, unitsOf, rounded, logAt, logOf, L2}
-use Rattle.power.specs.Stages.{guessed}
+use Rattle.power.specs.Stages.{guessOf}
 use Rattle.power.proofs.Division.{found-by-division}
 use Rattle.power.proofs.Search.{step-is}
-use Rattle.power.proofs.Guess.{guess-within, guess-from, guess-to, step-from}
+use Rattle.power.proofs.Guess.{guess-is, step-from}
 use Rattle.power.proofs.Normal.{units-low}
 use Rattle.power.proofs.LogRising.{size-high, M-low}
 
 abbrev pub stepAt : ℕ → ℕ
-stepAt t = let g = guessed ((t - 2 ^ 30) / 2 ^ 20) in g + boolByte (leb (P (g + 1)) t)
+stepAt t = let g = guessOf t in g + boolByte (leb (P (g + 1)) t)
 
 abbrev pub placeAt : ℕ → ℕ → ℕ
 placeAt t h = h * 2 ^ lowBits + ((t - P h + 1) * 2 ^ lowBits - 1) / (P (h + 1) - P h)
 
 place-is : (t : ℕ) → 2 ^ 30 ≤ t → t < 2 ^ 31 → placeAt t (stepAt t) ≡ greatest I t (2 ^ 24)
 place-is t l u =
-    let s = step-is t (stepAt t) l u (step-from t (guessed ((t - 2 ^ 30) / 2 ^ 20)) u (guess-within t l u) (guess-from t l u) (guess-to t l u)) in
+    let s = step-is t (stepAt t) l u (step-from t (guessOf t) u (guess-is t l u)) in
     found-by-division P-rule t (stepAt t) (s .within) (s .from) (s .to)
 
 -- for M * 2 ^ k units

@@ -1,8 +1,8 @@
 -- The place within a step by one quotient of f64's. For 0 < x ≤ d ≤ 2 ^ 30 and n = floor
--- ((x * 2 ^ 16 - 1) / d) the quotient x / d is at most (n + 1) / 2 ^ 16, and above n / 2 ^ 16 by
--- 2 ^ -46 or more. Both bounds are values of f64, so the rounded quotient keeps to them, and what
--- it leaves of 6, in the steps of 2 ^ -50 that f64 has there, begins with the digits of
--- 2 ^ 17 - (n + 1).
+-- ((x * 2 ^ lowBits - 1) / d) the quotient x / d is at most (n + 1) / 2 ^ lowBits, and above
+-- n / 2 ^ lowBits by 2 ^ -46 or more. Both bounds are values of f64, so the rounded quotient keeps
+-- to them, and what it leaves of 6, in the steps of 2 ^ -50 that f64 has there, begins with the
+-- digits of 2 ^ (lowBits + 1) - (n + 1).
 -- Assumes nothing.
 use mathlib.Core.Path.{_≡_, refl, sym, ap, _∙_}
 use mathlib.Core.Bool.{Bool, true, false, not, cond}
@@ -62,17 +62,17 @@ module _ (x d : ℕ) (some : 0 < x) (inside : x ≤ d) (wide : d ≤ 2 ^ 30) whe
   d-pos : 0 < d
   d-pos = omega arith
 
-  from : n * d + 1 ≤ x * 2 ^ 16
+  from : n * d + 1 ≤ x * 2 ^ lowBits
   from = let u = mul-div-le (x * 2 ^ lowBits - 1) d in let v = mul-comm d n in omega arith
 
-  to : x * 2 ^ 16 ≤ suc n * d
+  to : x * 2 ^ lowBits ≤ suc n * d
   to = let u = div-lt-iff-lt-mul {k = d} {x = x * 2 ^ lowBits - 1} {y = suc n} d-pos .0 (self n) in omega arith
     where
       self : (n : ℕ) → n < suc n
       self n = omega arith
 
-  n-lt : n < 2 ^ 16
-  n-lt = div-lt-iff-lt-mul {k = d} {x = x * 2 ^ lowBits - 1} {y = 2 ^ 16} d-pos .1 (omega arith)
+  n-lt : n < 2 ^ lowBits
+  n-lt = div-lt-iff-lt-mul {k = d} {x = x * 2 ^ lowBits - 1} {y = 2 ^ lowBits} d-pos .1 (omega arith)
 
   -- ---- the quotient
   abbrev X : Float
@@ -108,28 +108,28 @@ module _ (x d : ℕ) (some : 0 < x) (inside : x ≤ d) (wide : d ≤ 2 ^ 30) whe
       ∙ rnd-same f (mag f X) (mag f D) x d D-size d-pos
       (ap (λ (z : ℕ). z * d) (mag-whole f x x-small) ∙ mul-right-comm x (2 ^ low f) d ∙ mul-assoc x d (2 ^ low f) ∙ ap (λ (z : ℕ). x * z) (sym (mag-whole f d d-small)))
 
-  at-most : mag f part ≤ suc n * 2 ^ 34 * 2 ^ 1024
+  at-most : mag f part ≤ suc n * 2 ^ (50 - lowBits) * 2 ^ 1024
   at-most =
       let l = n-lt in
       le-trans (le-of-eq part-size)
-      (le-trans (rnd-mono f x d (suc n * 2 ^ 34) (2 ^ 50) d-pos (pow-pos 50) (scaled x d n to)) (le-of-eq (held-at (suc n * 2 ^ 34) (omega arith))))
+      (le-trans (rnd-mono f x d (suc n * 2 ^ (50 - lowBits)) (2 ^ 50) d-pos (pow-pos 50) (scaled x d n to)) (le-of-eq (held-at (suc n * 2 ^ (50 - lowBits)) (omega arith))))
     where
-      scaled : (x d n : ℕ) → x * 2 ^ 16 ≤ suc n * d → x * 2 ^ 50 ≤ suc n * 2 ^ 34 * d
-      scaled x d n h = let e = mul-right-comm (suc n) (2 ^ 34) d in omega arith
+      scaled : (x d n : ℕ) → x * 2 ^ lowBits ≤ suc n * d → x * 2 ^ 50 ≤ suc n * 2 ^ (50 - lowBits) * d
+      scaled x d n h = let e = mul-right-comm (suc n) (2 ^ (50 - lowBits)) d in omega arith
 
-  at-least : (n * 2 ^ 34 + 16) * 2 ^ 1024 ≤ mag f part
+  at-least : (n * 2 ^ (50 - lowBits) + 16) * 2 ^ 1024 ≤ mag f part
   at-least =
       let l = n-lt in
-      le-trans (le-of-eq (sym (held-at (n * 2 ^ 34 + 16) (omega arith))))
-      (le-trans (rnd-mono f (n * 2 ^ 34 + 16) (2 ^ 50) x d (pow-pos 50) d-pos (scaled x d n from wide)) (le-of-eq (sym part-size)))
+      le-trans (le-of-eq (sym (held-at (n * 2 ^ (50 - lowBits) + 16) (omega arith))))
+      (le-trans (rnd-mono f (n * 2 ^ (50 - lowBits) + 16) (2 ^ 50) x d (pow-pos 50) d-pos (scaled x d n from wide)) (le-of-eq (sym part-size)))
     where
-      scaled : (x d n : ℕ) → n * d + 1 ≤ x * 2 ^ 16 → d ≤ 2 ^ 30 → (n * 2 ^ 34 + 16) * d ≤ x * 2 ^ 50
-      scaled x d n h w = let e = mul-right-comm n (2 ^ 34) d in let g = add-mul (n * 2 ^ 34) 16 d in omega arith
+      scaled : (x d n : ℕ) → n * d + 1 ≤ x * 2 ^ lowBits → d ≤ 2 ^ 30 → (n * 2 ^ (50 - lowBits) + 16) * d ≤ x * 2 ^ 50
+      scaled x d n h w = let e = mul-right-comm n (2 ^ (50 - lowBits)) d in let g = add-mul (n * 2 ^ (50 - lowBits)) 16 d in omega arith
 
   size-is : mag f part ≤ 2 ^ 50 * 2 ^ 1024
   size-is = le-trans at-most (mul-le-mul-right (2 ^ 1024) (room n n-lt))
     where
-      room : (n : ℕ) → n < 2 ^ 16 → suc n * 2 ^ 34 ≤ 2 ^ 50
+      room : (n : ℕ) → n < 2 ^ lowBits → suc n * 2 ^ (50 - lowBits) ≤ 2 ^ 50
       room n l = omega arith
 
   part-real : T (real f part)
@@ -158,21 +158,21 @@ module _ (x d : ℕ) (some : 0 < x) (inside : x ≤ d) (wide : d ≤ 2 ^ 30) whe
       signed-floor f (neg part) six 1024 (3 * 2 ^ 51) (2 ^ 50) (real-neg f part part-real) six-real six-key neg-size (lit≤ tt) (lit≤ tt) (lit≤ tt)
       ∙ rw (sign-neg f part part-real, part-sign, mag-neg f part) refl
 
-  counted : bitAnd (toBits f left) (2 ^ 52 - 1) / 2 ^ 34 ≡ 2 ^ 17 - suc n
+  counted : bitAnd (toBits f left) (2 ^ 52 - 1) / 2 ^ (50 - lowBits) ≡ 2 ^ (lowBits + 1) - suc n
   counted =
-      ap (λ (z : ℕ). z / 2 ^ 34) (and-mask (toBits f left) 52 ∙ digits-are)
-      ∙ go (lt (neg part) (sub f left six)) rest n n-lt (left-from (3 * 2 ^ 51) (suc n * 2 ^ 34) (2 ^ 1024) (mag f part) (pow-pos 1024) at-most)
-      (left-to (3 * 2 ^ 51) (n * 2 ^ 34 + 16) (2 ^ 1024) (mag f part) (pow-pos 1024) at-least)
+      ap (λ (z : ℕ). z / 2 ^ (50 - lowBits)) (and-mask (toBits f left) 52 ∙ digits-are)
+      ∙ go (lt (neg part) (sub f left six)) rest n n-lt (left-from (3 * 2 ^ 51) (suc n * 2 ^ (50 - lowBits)) (2 ^ 1024) (mag f part) (pow-pos 1024) at-most)
+      (left-to (3 * 2 ^ 51) (n * 2 ^ (50 - lowBits) + 16) (2 ^ 1024) (mag f part) (pow-pos 1024) at-least)
     where
-      go : (b : Bool) (r n : ℕ) → n < 2 ^ 16 → 3 * 2 ^ 51 - suc n * 2 ^ 34 ≤ r → r ≤ 3 * 2 ^ 51 - (n * 2 ^ 34 + 16) → (r - 2 ^ 52 + bit b) / 2 ^ 34 ≡ 2 ^ 17 - suc n
+      go : (b : Bool) (r n : ℕ) → n < 2 ^ lowBits → 3 * 2 ^ 51 - suc n * 2 ^ (50 - lowBits) ≤ r → r ≤ 3 * 2 ^ 51 - (n * 2 ^ (50 - lowBits) + 16) → (r - 2 ^ 52 + bit b) / 2 ^ (50 - lowBits) ≡ 2 ^ (lowBits + 1) - suc n
       go true r n l g h = omega arith
       go false r n l g h = omega arith
 
-  pub left-fits : bitAnd (toBits f left) (2 ^ 52 - 1) / 2 ^ 34 ≤ 2 ^ 17 - 1
+  pub left-fits : bitAnd (toBits f left) (2 ^ 52 - 1) / 2 ^ (50 - lowBits) ≤ 2 ^ (lowBits + 1) - 1
   left-fits = rw counted (omega arith)
 
-  pub placed : 2 ^ 17 - 1 - bitAnd (toBits f left) (2 ^ 52 - 1) / 2 ^ 34 ≡ (x * 2 ^ lowBits - 1) / d
+  pub placed : 2 ^ (lowBits + 1) - 1 - bitAnd (toBits f left) (2 ^ 52 - 1) / 2 ^ (50 - lowBits) ≡ (x * 2 ^ lowBits - 1) / d
   placed = rw counted (back n n-lt)
     where
-      back : (n : ℕ) → n < 2 ^ 16 → 2 ^ 17 - 1 - (2 ^ 17 - suc n) ≡ n
+      back : (n : ℕ) → n < 2 ^ lowBits → 2 ^ (lowBits + 1) - 1 - (2 ^ (lowBits + 1) - suc n) ≡ n
       back n l = omega arith

@@ -7,24 +7,15 @@ use native.Mathlib.Nat.{lt-trans}
 use native.Mathlib.Omega.{arith}
 use lib.Dec.{lit<}
 use Rattle.power.specs.Table.{lowBits}
-use Rattle.power.proofs.Search.{Step, Between, step-is, a-le, a-lt-b, place-some, place-inside, place-wide, sum-fits, is-found}
+use Rattle.power.proofs.Search.{Between, step-is, a-le, a-lt-b, place-some, place-inside, place-wide, sum-fits, is-found}
 use Rattle.power.proofs.log2.find.Statement.{statement}
 use Rattle.power.proofs.log2.find.Tie as tie
 
-step : (c : tie.Start) → Step (c .args .t) (c .args .h)
-step c = step-is (c .args .t) (c .args .h) (c .pre .1) (c .pre .2) (c .pre .3)
-
-entry-requires : tie.Need-entry-requires
-entry-requires c κs = let s = step c in (c .pre .0, omega arith)
-
-add-entry : tie.Need-add-entry
-add-entry c = search needs
-
-entry-requires-2 : tie.Need-entry-requires-2
-entry-requires-2 c κs = let s = step (c .before) in (c .before .pre .0, omega arith)
-
-between : (c : tie.After-entry2) → Between (c .before .before .args .t) (c .before .before .args .h) (c .before .entry .result) (c .entry2 .result)
-between c = record { small = c .before .before .pre .2; step = step (c .before .before); left = c .before .entry .ensures; right = c .entry2 .ensures }
+between : (c : tie.Start) → Between (c .args .t) (c .args .h) (c .args .a) (c .args .b)
+between c =
+    let p = c .pre in
+    let e = p .2 in
+    record { small = p .1; step = step-is (c .args .t) (c .args .h) (p .0) (p .1) (e .step); left = e .from; right = e .to }
 
 cast-result : tie.Need-cast-result
 cast-result c = search needs
@@ -44,22 +35,19 @@ sub-place-2 c = omega (arith, a-lt-b (between c))
 place-requires : tie.Need-place-requires
 place-requires c κs = (place-some (between c), place-inside (between c), place-wide (between c))
 
-abbrev high : tie.After-place → ℕ
-high c = c .before .before .before .args .h * 2 ^ lowBits % 2 ^ 32
+abbrev upper : tie.After-place → ℕ
+upper c = c .before .args .h * 2 ^ lowBits % 2 ^ 32
 
 add-result : tie.Need-add-result
-add-result c = record { fits = subst (λ (r : ℕ). high c + r < 2 ^ 32) (sym (c .place .ensures)) (lt-trans (sum-fits (between (c .before))) (lit< tt)) }
+add-result c = record { fits = subst (λ (r : ℕ). upper c + r < 2 ^ 32) (sym (c .place .ensures)) (lt-trans (sum-fits (between (c .before))) (lit< tt)) }
 
 returns : tie.Need-returns
-returns c = ap (λ (r : ℕ). high c + r) (c .place .ensures) ∙ is-found (between (c .before))
+returns c = ap (λ (r : ℕ). upper c + r) (c .place .ensures) ∙ is-found (between (c .before))
 
 pub find-spec : {M : Type 1} → statement M
 find-spec =
     tie.close
     (tie.spec
-    entry-requires
-    add-entry
-    entry-requires-2
     cast-result
     shl-result
     sub-place

@@ -24,19 +24,19 @@ module _ (c : tie.Start) where
   v = c .args .v
 
   held : T (fits binary32 v)
-  held = subst T (sym (c .good .1 .0 .1)) tt
+  held = subst T (sym (c .good .0 .1)) tt
 
   abbrev field : ℕ
   field = toBits binary32 v / 8388608
 
-  made : Parts v held (c .pre .1)
-  made = fields v held (c .pre .1)
+  made : Parts v held (c .pre .0)
+  made = fields v held (c .pre .0)
 
   field-lt : field < 512
   field-lt = let h = made .high in omega arith
 
 float-to-bits-e : tie.Need-float-to-bits-e
-float-to-bits-e c = no-nan (v c) (c .pre .1)
+float-to-bits-e c = no-nan (v c) (c .pre .0)
 
 cast-e : tie.Need-cast-e
 cast-e c = record { sfits = let h = field-lt c in omega arith }
@@ -44,24 +44,21 @@ cast-e c = record { sfits = let h = field-lt c in omega arith }
 sub-e : tie.Need-sub-e
 sub-e c = exponent-fits (field c) (field-lt c)
 
-digits-requires : tie.Need-digits-requires
-digits-requires c κs = search needs
-
 find-requires : tie.Need-find-requires
 find-requires c κs =
-    let b = digits-in (v (c .before)) in
-    let e = c .digits .ensures in
-    (c .before .pre .0, rw e (b .0), rw e (b .1), rw e (c .before .pre .2))
+    let b = digits-in (v c) in
+    let e = c .pre .1 in
+    (rw e (b .0), rw e (b .1), c .pre .2)
 
-found : (c : tie.After-find) → Found (v (c .before .before)) (mant (v (c .before .before)) (held (c .before .before)) (c .before .before .pre .1)) (field (c .before .before) - 1) (c .find .result)
+found : (c : tie.After-find) → Found (v (c .before)) (mant (v (c .before)) (held (c .before)) (c .before .pre .0)) (field (c .before) - 1) (c .find .result)
 found c =
-    let s = c .before .before in
+    let s = c .before in
     let p = made s in
     record {
       parts = p .parts;
       normal = p .full;
       finite = let h = p .high in omega arith;
-      greatest-F = c .find .ensures ∙ ap (λ (t : ℕ). greatest I t (2 ^ 24)) (c .before .digits .ensures ∙ digits-mant (v s) (held s) (s .pre .1));
+      greatest-F = c .find .ensures ∙ ap (λ (t : ℕ). greatest I t (2 ^ 24)) (s .pre .1 ∙ digits-mant (v s) (held s) (s .pre .0));
     }
 
 -- the mask takes nothing away
@@ -72,12 +69,12 @@ fraction-requires : tie.Need-fraction-requires
 fraction-requires c κs = rw (kept c) (let l = F-lt (found c) in omega arith)
 
 int-to-float-result : tie.Need-int-to-float-result
-int-to-float-result c = let s = c .before .before .before .before in exponent-held (field s) (field-lt s)
+int-to-float-result c = let s = c .before .before .before in exponent-held (field s) (field-lt s)
 
 returns : tie.Need-returns
 returns c =
     let f = c .before .before in
-    let s = f .before .before in
+    let s = f .before in
     let n = field s in
     let l = made s .low in
     let e : n ≡ suc (n - 1) = omega arith in
@@ -92,7 +89,6 @@ log-in-step-spec =
     float-to-bits-e
     cast-e
     sub-e
-    digits-requires
     find-requires
     fraction-requires
     int-to-float-result
