@@ -16,8 +16,10 @@ use Rattle.lists.specs.Stages.{row-at, stages, stage-same}
 use Rattle.float32.specs.Remainder.{one}
 use Rattle.power.specs.Power.{positiveZero}
 use Rattle.power.specs.Log.{positiveNormal, rounded, L2}
-use Rattle.power.specs.Stages.{stepOf}
-use Rattle.power_rows.specs.Log2.{readyOf}
+use Rattle.power.specs.Table.{P}
+use Rattle.power.specs.Stages.{digitsOf, guessOf}
+use Rattle.power_rows.specs.Log2.{readyOf, stepOf, fromOf, toOf, Guessed, Found}
+use Rattle.power.proofs.LogParts.{digits-in}
 use Rattle.power.proofs.Logs.{L2-elsewhere}
 use Rattle.power.proofs.LogRange.{L2-of-power}
 
@@ -57,12 +59,39 @@ ready-at start stop xs ys room e i l u =
     (sym (ap (λ (zs : List Float). getD zs i nan) e ∙ getD-mapRange (λ i v. readyOf v) start stop xs i nan (omega arith) ∙ between-in (λ i v. readyOf v) start stop i (getD xs i nan) l u))
     (ready-normal (getD xs i nan))
 
-pub step-at : (start stop : ℕ) (row : List Float) (before : List ℕ) {steps : List ℕ} → stop ≤ start + length before
-    → steps ≡ mapRange (λ k held. stepOf (getD row (start + k) nan)) 0 (stop - start) before
-    → (i : ℕ) → start ≤ i → i < stop → getD steps (i - start) 0 ≡ stepOf (getD row i nan)
-step-at start stop row before room e i l u =
-    let z : start + (i - start) ≡ i = omega arith in
-    row-at 0 (λ k. stepOf (getD row (start + k) nan)) (stop - start) before (omega arith) e (i - start) (omega arith) ∙ ap (λ (j : ℕ). stepOf (getD row j nan)) z
+module _ (start count : ℕ) (row : List Float) (digits₀ steps₀ from₀ to₀ : List ℕ)
+    (room : (count ≤ length digits₀) × (count ≤ length steps₀) × (count ≤ length from₀) × (count ≤ length to₀))
+    (normal : (k : ℕ) → k < count → T (positiveNormal (getD row (start + k) nan))) where
+  module _ {digits : List ℕ} (a : digits ≡ mapRange (λ k held. digitsOf (getD row (start + k) nan)) 0 count digits₀) where
+    digits-at : (k : ℕ) → k < count → getD digits k 0 ≡ digitsOf (getD row (start + k) nan)
+    digits-at = row-at 0 (λ k. digitsOf (getD row (start + k) nan)) count digits₀ (room .0) a
+
+    pub guessed-at : {guesses : List ℕ} → guesses ≡ mapRange (λ k held. guessOf (getD digits k 0)) 0 count steps₀ → (k : ℕ) → k < count → Guessed (getD digits k 0) (getD guesses k 0)
+    guessed-at g k h =
+        let b = digits-in (getD row (start + k) nan) in
+        record {
+          low = rw (digits-at k h) (b .0);
+          high = rw (digits-at k h) (b .1);
+          guess = row-at 0 (λ k. guessOf (getD digits k 0)) count steps₀ (room .1) g k h;
+        }
+
+    pub found-at : (guesses : List ℕ) {steps from to : List ℕ} → length guesses ≡ length steps₀
+        → steps ≡ mapRange (λ k held. stepOf (getD digits k 0)) 0 count guesses
+        → from ≡ mapRange (λ k held. fromOf (getD digits k 0)) 0 count from₀
+        → to ≡ mapRange (λ k held. toOf (getD digits k 0)) 0 count to₀
+        → (k : ℕ) → k < count → Found (getD row (start + k) nan) (getD digits k 0) (getD steps k 0) (getD from k 0) (getD to k 0)
+    found-at guesses long s f t k h =
+        let e = row-at 0 (λ k. stepOf (getD digits k 0)) count guesses (rw long (room .1)) s k h in
+        record {
+          normal = normal k h;
+          digits = digits-at k h;
+          ends =
+              record {
+                step = e;
+                from = row-at 0 (λ k. fromOf (getD digits k 0)) count from₀ (room .2) f k h ∙ ap P (sym e);
+                to = row-at 0 (λ k. toOf (getD digits k 0)) count to₀ (room .3) t k h ∙ ap (λ (j : ℕ). P (j + 1)) (sym e);
+              };
+        }
 
 pub logs-staged : (start stop : ℕ) (xs : List Float) → mapRange (λ i v. L2 v) start stop (mapRange (λ i v. readyOf v) start stop xs) ≡ mapRange (λ i v. L2 v) start stop xs
 logs-staged start stop xs =

@@ -1,9 +1,36 @@
--- What a number of a row counts as before its logarithm is taken. Assumes nothing.
+-- A logarithm by the stages in which a row of numbers is computed. Assumes nothing.
+use mathlib.Core.Path.{_≡_}
 use mathlib.Core.Bool.{cond}
+use Prim.Native.Nat.{ℕ, _+_, _^_, _≤_, _<_}
+use lib.Dec.{T}
 use lib.Ieee.{Float}
 use Rattle.float32.specs.Remainder.{one}
-use Rattle.power.specs.Log.{positiveNormal}
+use Rattle.power.specs.Table.{highBits, P}
+use Rattle.power.specs.Log.{greatest, positiveNormal}
+use Rattle.power.specs.Stages.{digitsOf, guessOf, EndsAt}
 
 -- any other number counts as 1, whose logarithm is 0 too
 abbrev pub readyOf : Float → Float
 readyOf v = cond (positiveNormal v) v one
+
+-- the step that the digits t lie in, and the table's entries at its ends
+abbrev pub stepOf : ℕ → ℕ
+stepOf t = greatest P t (2 ^ highBits)
+
+abbrev pub fromOf : ℕ → ℕ
+fromOf t = P (stepOf t)
+
+abbrev pub toOf : ℕ → ℕ
+toOf t = P (stepOf t + 1)
+
+-- t are the digits of some number, and g is the guess for them
+pub record Guessed (t g : ℕ) : Type 0 where
+  pub low : 2 ^ 30 ≤ t
+  pub high : t < 2 ^ 31
+  pub guess : g ≡ guessOf t
+
+-- v has a logarithm, and its digits t lie in the step h, from a to b
+pub record Found (v : Float) (t h a b : ℕ) : Type 0 where
+  pub normal : T (positiveNormal v)
+  pub digits : t ≡ digitsOf v
+  pub ends : EndsAt t h a b

@@ -1,27 +1,31 @@
 // The logarithms of a row of numbers.
 //
 // Method. `power::log2` for up to 64 numbers at a time, one short loop per stage: a number without
-// a logarithm becomes 1, whose logarithm is 0 too; then the table steps; then the logarithms within
-// them. No branch depends on a number, and everything but the table lookups is vectorized, the
-// divisions too. Exact: each result is that of log2, bit for bit.
+// a logarithm becomes 1, whose logarithm is 0 too; then the digits, the guesses, the table steps
+// with their ends, and the logarithms within them. No branch depends on a number, and all loops but
+// the table lookup are vectorized, the divisions too. Exact: each result is that of log2, bit for
+// bit.
 ghost use mathlib.Core.Path.{_≡_};
-ghost use Prim.Native.Nat.{ℕ, _+_, _-_, _<_, _≤_};
+ghost use Prim.Native.Nat.{ℕ, _+_, _<_, _≤_};
 ghost use lib.Dec.{T};
 ghost use lib.ListN.{length, getD};
 ghost use lib.Ieee.{nan};
 ghost use Rattle.lists.specs.Maps.{mapRange};
 ghost use Rattle.power.specs.Table.{powerTable};
 ghost use Rattle.power.specs.Log.{positiveNormal, L2};
-ghost use Rattle.power.specs.Stages.{stepOf};
-ghost use Rattle.power_rows.specs.Log2.{readyOf};
+ghost use Rattle.power.specs.Stages.{digitsOf, guessOf};
+ghost use Rattle.power_rows.specs.Log2.{readyOf, stepOf, fromOf, toOf, Guessed, Found};
+use counts::lesser;
 use power::exp2::LARGEST;
 use power::log2::LEAST_NORMAL;
+use power::log2::guess;
 use power::log2::log_in_step;
-use power::log2::step;
+use power::log2::step_from;
 use power::table::PowerTable;
+use power::table::entry;
 
 // How many numbers are computed together.
-const PART: usize = 64;
+const ROW: usize = 64;
 
 fn ready(v: f32) -> f32
     ensures { λ r. ⌜ r ≡ readyOf v ⌝ }
@@ -46,59 +50,120 @@ fn make_ready(row: &mut [f32], start: usize, stop: usize)
     }
 }
 
-fn find_steps(steps: &mut [u32], row: &[f32], powers: &PowerTable, start: usize, count: usize)
-    requires { ⌜ (now powers ≡ powerTable)
-        × (count ≤ length (now steps))
+fn take_digits(digits: &mut [u32], row: &[f32], start: usize, count: usize)
+    requires { ⌜ (count ≤ length (now digits))
         × (start + count ≤ length (now row))
         × ((k : ℕ) → k < count → T (positiveNormal (getD (now row) (start + k) nan))) ⌝ }
-    ensures { λ _. ⌜ now (steps .exit) ≡ mapRange
-        (λ k held. stepOf (getD (now (row .entry)) (start + k) nan)) 0 count
-        (now (steps .entry)) ⌝ }
+    ensures { λ _. ⌜ now (digits .exit) ≡ mapRange
+        (λ k held. digitsOf (getD (now (row .entry)) (start + k) nan)) 0 count
+        (now (digits .entry)) ⌝ }
 {
     let mut k: usize = 0;
     while k < count {
-        steps[k] = step(powers, row[start + k]);
+        digits[k] = power::log2::digits(row[start + k]);
         k += 1;
     }
 }
 
-fn take_logs(row: &mut [f32], steps: &[u32], powers: &PowerTable, start: usize, stop: usize)
-    requires { ⌜ (now powers ≡ powerTable)
-        × (start ≤ stop)
-        × (stop ≤ length (now row))
-        × (stop ≤ start + length (now steps))
-        × ((i : ℕ) → start ≤ i → i < stop →
-        T (positiveNormal (getD (now row) i nan)) ×
-        (getD (now steps) (i - start) 0 ≡ stepOf (getD (now row) i nan))) ⌝ }
-    ensures { λ _. ⌜ now (row .exit) ≡ mapRange (λ i v. L2 v) start stop (now (row .entry)) ⌝ }
+fn guess_steps(steps: &mut [u32], digits: &[u32], count: usize)
+    requires { ⌜ (count ≤ length (now steps)) × (count ≤ length (now digits)) ⌝ }
+    ensures { λ _. ⌜ now (steps .exit) ≡ mapRange
+        (λ k held. guessOf (getD (now (digits .entry)) k 0)) 0 count (now (steps .entry)) ⌝ }
 {
+    let mut k: usize = 0;
+    while k < count {
+        steps[k] = guess(digits[k]) as u32;
+        k += 1;
+    }
+}
+
+// Replaces each guess by its step, with the table's entries at the ends of that. This is the stage
+// with the lookups: the others have none.
+fn find_steps(
+    steps: &mut [u32],
+    from: &mut [u32],
+    to: &mut [u32],
+    digits: &[u32],
+    powers: &PowerTable,
+    count: usize,
+)
+    requires { ⌜ (now powers ≡ powerTable)
+        × (count ≤ length (now steps))
+        × (count ≤ length (now from))
+        × (count ≤ length (now to))
+        × (count ≤ length (now digits))
+        × ((k : ℕ) → k < count → Guessed (getD (now digits) k 0) (getD (now steps) k 0)) ⌝ }
+    ensures { λ _. ⌜ (now (steps .exit) ≡ mapRange
+        (λ k held. stepOf (getD (now (digits .entry)) k 0)) 0 count (now (steps .entry)))
+        × (now (from .exit) ≡ mapRange
+        (λ k held. fromOf (getD (now (digits .entry)) k 0)) 0 count (now (from .entry)))
+        × (now (to .exit) ≡ mapRange
+        (λ k held. toOf (getD (now (digits .entry)) k 0)) 0 count (now (to .entry))) ⌝ }
+{
+    let mut k: usize = 0;
+    while k < count {
+        let guessed = steps[k];
+        let h = step_from(guessed, entry(powers, guessed as usize + 1), digits[k]);
+        steps[k] = h;
+        from[k] = entry(powers, h as usize);
+        to[k] = entry(powers, h as usize + 1);
+        k += 1;
+    }
+}
+
+fn take_logs(
+    row: &mut [f32],
+    digits: &[u32],
+    steps: &[u32],
+    from: &[u32],
+    to: &[u32],
+    start: usize,
+    count: usize,
+)
+    requires { ⌜ (start + count ≤ length (now row))
+        × (count ≤ length (now digits))
+        × (count ≤ length (now steps))
+        × (count ≤ length (now from))
+        × (count ≤ length (now to))
+        × ((k : ℕ) → k < count → Found (getD (now row) (start + k) nan) (getD (now digits) k 0)
+        (getD (now steps) k 0) (getD (now from) k 0) (getD (now to) k 0)) ⌝ }
+    ensures { λ _. ⌜ now (row .exit)
+        ≡ mapRange (λ i v. L2 v) start (start + count) (now (row .entry)) ⌝ }
+{
+    let next = start + count;
     let mut i = start;
-    while i < stop {
-        row[i] = log_in_step(powers, row[i], steps[i - start]);
+    while i < next {
+        let k = i - start;
+        row[i] = log_in_step(row[i], digits[k], steps[k], from[k], to[k]);
         i += 1;
     }
 }
 
-fn log2_part(row: &mut [f32], steps: &mut [u32], powers: &PowerTable, start: usize, stop: usize)
+// The logarithms of `count` numbers from `start` on, for which the lent buffers have room.
+fn few_logs(
+    row: &mut [f32],
+    digits: &mut [u32],
+    steps: &mut [u32],
+    from: &mut [u32],
+    to: &mut [u32],
+    powers: &PowerTable,
+    start: usize,
+    count: usize,
+)
     requires { ⌜ (now powers ≡ powerTable)
-        × (start ≤ stop)
-        × (stop ≤ length (now row))
-        × (stop ≤ start + length (now steps)) ⌝ }
-    ensures { λ _. ⌜ now (row .exit) ≡ mapRange (λ i v. L2 v) start stop (now (row .entry)) ⌝ }
+        × (start + count ≤ length (now row))
+        × (count ≤ length (now digits))
+        × (count ≤ length (now steps))
+        × (count ≤ length (now from))
+        × (count ≤ length (now to)) ⌝ }
+    ensures { λ _. ⌜ now (row .exit)
+        ≡ mapRange (λ i v. L2 v) start (start + count) (now (row .entry)) ⌝ }
 {
-    make_ready(row, start, stop);
-    find_steps(steps, row, powers, start, stop - start);
-    take_logs(row, steps, powers, start, stop);
-}
-
-fn part_end(start: usize, count: usize) -> usize
-    requires { ⌜ start < count ⌝ }
-    ensures { λ r. ⌜ (start < r) × (r ≤ count) × (r ≤ start + 64) ⌝ }
-{
-    if count - start <= PART {
-        return count;
-    }
-    start + PART
+    make_ready(row, start, start + count);
+    take_digits(digits, row, start, count);
+    guess_steps(steps, digits, count);
+    find_steps(steps, from, to, digits, powers, count);
+    take_logs(row, digits, steps, from, to, start, count);
 }
 
 // Replaces the first `count` numbers of the row by their logarithms.
@@ -106,14 +171,23 @@ pub fn log2_row(row: &mut [f32], powers: &PowerTable, count: usize)
     requires { ⌜ (now powers ≡ powerTable) × (count ≤ length (now row)) ⌝ }
     ensures { λ _. ⌜ now (row .exit) ≡ mapRange (λ k v. L2 v) 0 count (now (row .entry)) ⌝ }
 {
-    // A local copy of the table: no store to the row can change it, so the compiler can work on
-    // several numbers at once.
-    let own = *powers;
-    let mut steps = [0u32; PART];
+    let mut digits = [0u32; ROW];
+    let mut steps = [0u32; ROW];
+    let mut from = [0u32; ROW];
+    let mut to = [0u32; ROW];
     let mut start: usize = 0;
     while start < count {
-        let stop = part_end(start, count);
-        log2_part(row, &mut steps, &own, start, stop);
-        start = stop;
+        let few = lesser(count - start, ROW);
+        few_logs(
+            row,
+            &mut digits,
+            &mut steps,
+            &mut from,
+            &mut to,
+            powers,
+            start,
+            few,
+        );
+        start += few;
     }
 }
