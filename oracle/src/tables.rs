@@ -39,12 +39,19 @@ fn greatest(mut low: u64, mut high: u64, allowed: impl Fn(u64) -> bool) -> u64 {
     low
 }
 
-/// P[j] is the greatest whole number with P[j]^1024 <= 2^(30720 + j); 30720 is 30 times 1,024. It
-/// lies from 2^30, whose power is 2^30720, to 2^31, whose power is 2^(30720 + 1024).
+/// P[j] is the greatest whole number with P[j]^1024 <= 2^(30720 + j); 30720 is 30 times 1,024. The
+/// search begins at an estimate, which decides nothing but how long it takes.
 fn power_entry(j: usize) -> u64 {
     let limit = Natural::power_of_two(30 * POWER_STEPS + j);
-    let allowed = |p| Natural::from(p).power(POWER_STEPS) <= limit;
-    greatest(1 << 30, (1 << 31) + 1, allowed)
+    let allowed = |p: u64| Natural::from(p).power(POWER_STEPS) <= limit;
+    let mut p = (30.0 + j as f64 / POWER_STEPS as f64).exp2() as u64;
+    while !allowed(p) {
+        p -= 1;
+    }
+    while allowed(p + 1) {
+        p += 1;
+    }
+    p
 }
 
 /// K[0] = 0, and K[i+1] is the greatest whole number whose square is at most (2^30 + K[i])·2^29.

@@ -70,6 +70,7 @@ pub fn apply(function: Function, xs: &mut [f32])
         Function::Cos => sine_rows::cos_row(xs, &sines, count),
         Function::Pow10 => power_rows::exp2::pow10_row(xs, &powers, count),
         Function::Exp => power_rows::exp2::exp_row(xs, &powers, count),
+        Function::Log10 => power_rows::log2::log10_row(xs, &powers, count),
         _ => apply_one_by_one(function, &powers, &sines, xs),
     }
 }

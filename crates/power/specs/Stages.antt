@@ -17,24 +17,23 @@ pub record EndsAt (t h a b : ℕ) : Type 0 where
   pub from : a ≡ P h
   pub to : b ≡ P (h + 1)
 
--- the upper half of a product of two numbers of sixteen bits
-abbrev pub high : ℕ → ℕ → ℕ
-high a b = a * b / 2 ^ 16
-
 -- The step for the eleven leading digits m of a fraction x, or the one before it: log2 (1 + x) is a
--- little above x * (1.4369 - x * (0.672 - x * (0.3147 - x * 0.0798))). Each stage is in parts of
--- 2 ^ 15, and 32 * m is x in parts of 2 ^ 16
-abbrev pub cubic : ℕ → ℕ
-cubic m = 10312 - high (m * 2 ^ 5) 2616
+-- little above x * (1.4369 - x * (0.672 - x * (0.3147 - x * 0.0798))), whose factors are these in
+-- parts of 2 ^ 52, 2 ^ 41, 2 ^ 30 and 2 ^ 19
+abbrev pub FIRST : ℕ
+FIRST = 6471222304568666
 
-abbrev pub square : ℕ → ℕ
-square m = 22020 - high (m * 2 ^ 5) (cubic m)
+abbrev pub SECOND : ℕ
+SECOND = 1477743627730
 
-abbrev pub slope : ℕ → ℕ
-slope m = 47084 - high (m * 2 ^ 5) (square m)
+abbrev pub THIRD : ℕ
+THIRD = 337906552
+
+abbrev pub FOURTH : ℕ
+FOURTH = 41838
 
 abbrev pub guessed : ℕ → ℕ
-guessed m = high m (slope m)
+guessed m = m * (FIRST - m * (SECOND - m * (THIRD - m * FOURTH))) / 2 ^ 53
 
 -- the guess for t = 2 ^ 30 * (1 + x)
 abbrev pub guessOf : ℕ → ℕ

@@ -3,7 +3,7 @@ ghost use Prim.Native.Nat.{_+_, _-_, _*_, _/_, _^_, _<_, _≤_};
 ghost use lib.Dec.{T};
 ghost use Rattle.power.specs.Table.{highBits, lowBits, powerTable, P, I};
 ghost use Rattle.power.specs.Log.{greatest, positiveNormal, L2};
-ghost use Rattle.power.specs.Stages.{digitsOf, high, guessOf, EndsAt};
+ghost use Rattle.power.specs.Stages.{digitsOf, guessOf, EndsAt};
 use crate::exp2::LARGEST;
 use crate::table::LOW_BITS;
 use crate::table::LOW_MASK;
@@ -29,25 +29,23 @@ pub fn digits(v: f32) -> u32
     ((f32::to_bits(v) & 0x7f_ffff) | 0x80_0000) << 7
 }
 
-// The upper half of a product. In a loop the processor takes eight such products at once.
-fn high(a: u16, b: u16) -> u16
-    ensures { λ r. ⌜ r ≡ high a b ⌝ }
-{
-    ((a as u32 * b as u32) >> 16) as u16
-}
+// log2(1 + x) is slightly above x * (1.4369 - x * (0.672 - x * (0.3147 - x * 0.0798))). These are
+// the four factors in parts of 2^52, 2^41, 2^30 and 2^19: the products below then need no shift.
+const FIRST: u64 = 6471222304568666;
 
-// The table step that contains t = 2^30 * (1 + x), or the one before: log2(1 + x) is slightly above
-// x * (1.4369 - x * (0.672 - x * (0.3147 - x * 0.0798))), which is computed here, in parts of 2^15,
-// for the eleven leading bits of x. proofs/Guess.antt tests all values of those bits.
+const SECOND: u64 = 1477743627730;
+
+const THIRD: u64 = 337906552;
+
+const FOURTH: u64 = 41838;
+
+// The table step that contains t = 2^30 * (1 + x), or the one before, from the eleven leading bits
+// of x. proofs/Guess.antt tests all values of those bits.
 pub fn guess(t: u32) -> u16
     ensures { λ r. ⌜ r ≡ guessOf t ⌝ }
 {
-    let m = ((t >> 19) & 0x7ff) as u16;
-    let x = m << 5;
-    let cubic = 10312 - high(x, 2616);
-    let square = 22020 - high(x, cubic);
-    let slope = 47084 - high(x, square);
-    high(m, slope)
+    let m = ((t >> 19) & 0x7ff) as u64;
+    ((m * (FIRST - m * (SECOND - m * (THIRD - m * FOURTH)))) >> 53) as u16
 }
 
 // The step that contains t: the last whose entry is at most t. It is the guess h or the step after
@@ -58,6 +56,15 @@ pub fn step_from(h: u32, next: u32, t: u32) -> u32
     ensures { λ r. ⌜ r ≡ greatest P t (2 ^ highBits) ⌝ }
 {
     h + ((next <= t) as u32)
+}
+
+// The same, from the table.
+pub fn step_of(powers: &PowerTable, t: u32) -> u32
+    requires { ⌜ (now powers ≡ powerTable) × (2 ^ 30 ≤ t) × (t < 2 ^ 31) ⌝ }
+    ensures { λ r. ⌜ r ≡ greatest P t (2 ^ highBits) ⌝ }
+{
+    let h = guess(t) as usize;
+    step_from(h as u32, entry(powers, h + 1), t)
 }
 
 // ((x << LOW_BITS) - 1) / d, by one f64 division: one less than x / d in steps of 2^-LOW_BITS,
@@ -115,7 +122,6 @@ pub fn log2(powers: &PowerTable, v: f32) -> f32
         return 0.0;
     }
     let t = digits(v);
-    let guessed = guess(t) as usize;
-    let h = step_from(guessed as u32, entry(powers, guessed + 1), t);
+    let h = step_of(powers, t);
     log_in_step(v, t, h, entry(powers, h as usize), entry(powers, h as usize + 1))
 }

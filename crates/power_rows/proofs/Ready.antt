@@ -17,8 +17,8 @@ use Rattle.float32.specs.Remainder.{one}
 use Rattle.power.specs.Power.{positiveZero}
 use Rattle.power.specs.Log.{positiveNormal, rounded, L2}
 use Rattle.power.specs.Table.{P}
-use Rattle.power.specs.Stages.{digitsOf, guessOf}
-use Rattle.power_rows.specs.Log2.{readyOf, stepOf, fromOf, toOf, Guessed, Found}
+use Rattle.power.specs.Stages.{digitsOf}
+use Rattle.power_rows.specs.Log2.{readyOf, stepOf, fromOf, toOf, Scaled, Found}
 use Rattle.power.proofs.LogParts.{digits-in}
 use Rattle.power.proofs.Logs.{L2-elsewhere}
 use Rattle.power.proofs.LogRange.{L2-of-power}
@@ -66,22 +66,15 @@ module _ (start count : ℕ) (row : List Float) (digits₀ steps₀ from₀ to�
     digits-at : (k : ℕ) → k < count → getD digits k 0 ≡ digitsOf (getD row (start + k) nan)
     digits-at = row-at 0 (λ k. digitsOf (getD row (start + k) nan)) count digits₀ (room .0) a
 
-    pub guessed-at : {guesses : List ℕ} → guesses ≡ mapRange (λ k held. guessOf (getD digits k 0)) 0 count steps₀ → (k : ℕ) → k < count → Guessed (getD digits k 0) (getD guesses k 0)
-    guessed-at g k h =
-        let b = digits-in (getD row (start + k) nan) in
-        record {
-          low = rw (digits-at k h) (b .0);
-          high = rw (digits-at k h) (b .1);
-          guess = row-at 0 (λ k. guessOf (getD digits k 0)) count steps₀ (room .1) g k h;
-        }
+    pub scaled-at : (k : ℕ) → k < count → Scaled (getD digits k 0)
+    scaled-at k h = let b = digits-in (getD row (start + k) nan) in record { low = rw (digits-at k h) (b .0); high = rw (digits-at k h) (b .1) }
 
-    pub found-at : (guesses : List ℕ) {steps from to : List ℕ} → length guesses ≡ length steps₀
-        → steps ≡ mapRange (λ k held. stepOf (getD digits k 0)) 0 count guesses
+    pub found-at : {steps from to : List ℕ} → steps ≡ mapRange (λ k held. stepOf (getD digits k 0)) 0 count steps₀
         → from ≡ mapRange (λ k held. fromOf (getD digits k 0)) 0 count from₀
         → to ≡ mapRange (λ k held. toOf (getD digits k 0)) 0 count to₀
         → (k : ℕ) → k < count → Found (getD row (start + k) nan) (getD digits k 0) (getD steps k 0) (getD from k 0) (getD to k 0)
-    found-at guesses long s f t k h =
-        let e = row-at 0 (λ k. stepOf (getD digits k 0)) count guesses (rw long (room .1)) s k h in
+    found-at s f t k h =
+        let e = row-at 0 (λ k. stepOf (getD digits k 0)) count steps₀ (room .1) s k h in
         record {
           normal = normal k h;
           digits = digits-at k h;

@@ -7,7 +7,7 @@ use lib.Ieee.{Float}
 use Rattle.float32.specs.Remainder.{one}
 use Rattle.power.specs.Table.{highBits, P}
 use Rattle.power.specs.Log.{greatest, positiveNormal}
-use Rattle.power.specs.Stages.{digitsOf, guessOf, EndsAt}
+use Rattle.power.specs.Stages.{digitsOf, EndsAt}
 
 -- any other number counts as 1, whose logarithm is 0 too
 abbrev pub readyOf : Float → Float
@@ -23,11 +23,10 @@ fromOf t = P (stepOf t)
 abbrev pub toOf : ℕ → ℕ
 toOf t = P (stepOf t + 1)
 
--- t are the digits of some number, and g is the guess for them
-pub record Guessed (t g : ℕ) : Type 0 where
+-- t are the digits of some number, scaled as the table's entries are
+pub record Scaled (t : ℕ) : Type 0 where
   pub low : 2 ^ 30 ≤ t
   pub high : t < 2 ^ 31
-  pub guess : g ≡ guessOf t
 
 -- v has a logarithm, and its digits t lie in the step h, from a to b
 pub record Found (v : Float) (t h a b : ℕ) : Type 0 where

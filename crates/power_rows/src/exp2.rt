@@ -187,7 +187,7 @@ pub fn exp2_row(row: &mut [f32], powers: &PowerTable, count: usize)
     }
 }
 
-fn scale(row: &mut [f32], factor: f32, count: usize)
+pub(crate) fn scale(row: &mut [f32], factor: f32, count: usize)
     requires { ⌜ count ≤ length (now row) ⌝ }
     ensures { λ _. ⌜ now (row .exit)
         ≡ mapRange (λ k y. mul binary32 y factor) 0 count (now (row .entry)) ⌝ }

@@ -1,8 +1,8 @@
 // The logarithms of a row of numbers.
 //
 // Method. `power::log2` for up to 64 numbers at a time, one short loop per stage: a number without
-// a logarithm becomes 1, whose logarithm is 0 too; then the digits, the guesses, the table steps
-// with their ends, and the logarithms within them. No branch depends on a number, and all loops but
+// a logarithm becomes 1, whose logarithm is 0 too; then the digits, the table steps with their
+// ends, and the logarithms within them. No branch depends on a number, and all loops but
 // the table lookup are vectorized, the divisions too. Exact: each result is that of log2, bit for
 // bit.
 ghost use mathlib.Core.Path.{_≡_};
@@ -13,14 +13,16 @@ ghost use lib.Ieee.{nan};
 ghost use Rattle.lists.specs.Maps.{mapRange};
 ghost use Rattle.power.specs.Table.{powerTable};
 ghost use Rattle.power.specs.Log.{positiveNormal, L2};
-ghost use Rattle.power.specs.Stages.{digitsOf, guessOf};
-ghost use Rattle.power_rows.specs.Log2.{readyOf, stepOf, fromOf, toOf, Guessed, Found};
+ghost use Rattle.power.specs.Decimal.{log10};
+ghost use Rattle.power.specs.Stages.{digitsOf};
+ghost use Rattle.power_rows.specs.Log2.{readyOf, stepOf, fromOf, toOf, Scaled, Found};
+use crate::exp2::scale;
 use counts::lesser;
+use float32::constants::LOG10_2;
 use power::exp2::LARGEST;
 use power::log2::LEAST_NORMAL;
-use power::log2::guess;
 use power::log2::log_in_step;
-use power::log2::step_from;
+use power::log2::step_of;
 use power::table::PowerTable;
 use power::table::entry;
 
@@ -65,20 +67,8 @@ fn take_digits(digits: &mut [u32], row: &[f32], start: usize, count: usize)
     }
 }
 
-fn guess_steps(steps: &mut [u32], digits: &[u32], count: usize)
-    requires { ⌜ (count ≤ length (now steps)) × (count ≤ length (now digits)) ⌝ }
-    ensures { λ _. ⌜ now (steps .exit) ≡ mapRange
-        (λ k held. guessOf (getD (now (digits .entry)) k 0)) 0 count (now (steps .entry)) ⌝ }
-{
-    let mut k: usize = 0;
-    while k < count {
-        steps[k] = guess(digits[k]) as u32;
-        k += 1;
-    }
-}
-
-// Replaces each guess by its step, with the table's entries at the ends of that. This is the stage
-// with the lookups: the others have none.
+// The step of each number's digits, with the table's entries at its ends. This is the stage with the
+// lookups: the others have none.
 fn find_steps(
     steps: &mut [u32],
     from: &mut [u32],
@@ -92,7 +82,7 @@ fn find_steps(
         × (count ≤ length (now from))
         × (count ≤ length (now to))
         × (count ≤ length (now digits))
-        × ((k : ℕ) → k < count → Guessed (getD (now digits) k 0) (getD (now steps) k 0)) ⌝ }
+        × ((k : ℕ) → k < count → Scaled (getD (now digits) k 0)) ⌝ }
     ensures { λ _. ⌜ (now (steps .exit) ≡ mapRange
         (λ k held. stepOf (getD (now (digits .entry)) k 0)) 0 count (now (steps .entry)))
         × (now (from .exit) ≡ mapRange
@@ -102,8 +92,7 @@ fn find_steps(
 {
     let mut k: usize = 0;
     while k < count {
-        let guessed = steps[k];
-        let h = step_from(guessed, entry(powers, guessed as usize + 1), digits[k]);
+        let h = step_of(powers, digits[k]);
         steps[k] = h;
         from[k] = entry(powers, h as usize);
         to[k] = entry(powers, h as usize + 1);
@@ -161,7 +150,6 @@ fn few_logs(
 {
     make_ready(row, start, start + count);
     take_digits(digits, row, start, count);
-    guess_steps(steps, digits, count);
     find_steps(steps, from, to, digits, powers, count);
     take_logs(row, digits, steps, from, to, start, count);
 }
@@ -190,4 +178,12 @@ pub fn log2_row(row: &mut [f32], powers: &PowerTable, count: usize)
         );
         start += few;
     }
+}
+
+pub fn log10_row(row: &mut [f32], powers: &PowerTable, count: usize)
+    requires { ⌜ (now powers ≡ powerTable) × (count ≤ length (now row)) ⌝ }
+    ensures { λ _. ⌜ now (row .exit) ≡ mapRange (λ k v. log10 v) 0 count (now (row .entry)) ⌝ }
+{
+    log2_row(row, powers, count);
+    scale(row, LOG10_2, count);
 }

@@ -10,7 +10,7 @@ use Rattle.lists.specs.Maps.{mapAt, mapRange, between, between-in}
 use Rattle.lists.specs.Runs.{map-same}
 use Rattle.power.specs.Power.{E2}
 use Rattle.power.specs.Log.{L2}
-use Rattle.power.specs.Decimal.{pow10, exp}
+use Rattle.power.specs.Decimal.{pow10, exp, log10}
 use Rattle.sine.specs.Sine.{sinOf, cosOf}
 use borrow.Author.Needs.{needs}
 use Rattle.elementary.proofs.apply.Statement.{statement}
@@ -61,6 +61,12 @@ enum-told-6 c = search needs
 
 exp-row-requires : tie.Need-exp-row-requires
 exp-row-requires c κs = search needs
+
+enum-told-7 : tie.Need-enum-told-7
+enum-told-7 c = search needs
+
+log10-row-requires : tie.Need-log10-row-requires
+log10-row-requires c κs = search needs
 
 apply-one-by-one-requires : tie.Need-apply-one-by-one-requires
 apply-one-by-one-requires c κs = search needs
@@ -117,7 +123,15 @@ same-length-7 : tie.Need-same-length-7
 same-length-7 c = search needs
 
 returns-7 : tie.Need-returns-7
-returns-7 c = c .before .before .apply-one-by-one .ensures
+returns-7 c =
+    let r = c .before .before in
+    rw (r .before .before .before .enum-told7 .given .1) (r .log10-row .ensures ∙ whole (λ k v. log10 v) _)
+
+same-length-8 : tie.Need-same-length-8
+same-length-8 c = search needs
+
+returns-8 : tie.Need-returns-8
+returns-8 c = c .before .before .apply-one-by-one .ensures
 
 pub apply-spec : {M : Type 1} → statement M
 apply-spec =
@@ -137,6 +151,8 @@ apply-spec =
     pow10-row-requires
     enum-told-6
     exp-row-requires
+    enum-told-7
+    log10-row-requires
     apply-one-by-one-requires
     same-length
     returns
@@ -151,4 +167,6 @@ apply-spec =
     same-length-6
     returns-6
     same-length-7
-    returns-7)
+    returns-7
+    same-length-8
+    returns-8)

@@ -7,7 +7,6 @@ use borrow.Author.Needs.{needs}
 use Rattle.power.specs.Log.{positiveNormal}
 use Rattle.power.proofs.LogParts.{digits-in}
 use Rattle.power.proofs.Search.{Step, step-is}
-use Rattle.power.proofs.Guess.{Guess, guess-is}
 use Rattle.power.proofs.LogMade.{log-low, log-high, normal-tests}
 use Rattle.power.proofs.log2.log2.Statement.{statement}
 use Rattle.power.proofs.log2.log2.Tie as tie
@@ -35,52 +34,32 @@ module _ (c : tie.After-digits) where
   below : t < 2 ^ 31
   below = rw (c .digits .ensures) (digits-in (c .before .before .before .args .v) .1)
 
-guessed : (c : tie.After-guess) → Guess (t (c .before)) (c .guess .result)
-guessed c = rw (c .guess .ensures) (guess-is (t (c .before)) (from (c .before)) (below (c .before)))
+stepped : (c : tie.After-step-of) → Step (t (c .before)) (c .step-of .result)
+stepped c = step-is (t (c .before)) (c .step-of .result) (from (c .before)) (below (c .before)) (c .step-of .ensures)
 
-stepped : (c : tie.After-step-from) → Step (t (c .before .before .before)) (c .step-from .result)
-stepped c =
-    let d = c .before .before .before in
-    step-is (t d) (c .step-from .result) (from d) (below d) (c .step-from .ensures)
-
-guess-requires : tie.Need-guess-requires
-guess-requires c κs = search needs
-
-cast-guessed : tie.Need-cast-guessed
-cast-guessed c = search needs
-
-cast-step-from : tie.Need-cast-step-from
-cast-step-from c = search needs
-
-add-entry : tie.Need-add-entry
-add-entry c = search needs
-
-entry-requires : tie.Need-entry-requires
-entry-requires c κs = let g = guessed c .within in (c .before .before .before .before .pre, omega arith)
-
-step-from-requires : tie.Need-step-from-requires
-step-from-requires c κs = let d = c .before .before in (from d, below d, c .before .guess .ensures, c .entry .ensures)
+step-of-requires : tie.Need-step-of-requires
+step-of-requires c κs = (c .before .before .before .pre, from c, below c)
 
 cast-entry : tie.Need-cast-entry
 cast-entry c = search needs
 
-entry-requires-2 : tie.Need-entry-requires-2
-entry-requires-2 c κs = let s = stepped c .within in (c .before .before .before .before .before .before .pre, omega arith)
+entry-requires : tie.Need-entry-requires
+entry-requires c κs = let l = stepped c .within in (c .before .before .before .before .pre, omega arith)
 
 cast-entry-2 : tie.Need-cast-entry-2
 cast-entry-2 c = search needs
 
-add-entry-2 : tie.Need-add-entry-2
-add-entry-2 c = search needs
+add-entry : tie.Need-add-entry
+add-entry c = search needs
 
-entry-requires-3 : tie.Need-entry-requires-3
-entry-requires-3 c κs = let s = stepped (c .before) .within in (c .before .before .before .before .before .before .before .pre, omega arith)
+entry-requires-2 : tie.Need-entry-requires-2
+entry-requires-2 c κs = let l = stepped (c .before) .within in (c .before .before .before .before .before .pre, omega arith)
 
 log-in-step-requires : tie.Need-log-in-step-requires
 log-in-step-requires c κs =
     let s = c .before .before in
-    let d = s .before .before .before in
-    (normal (d .before), d .digits .ensures, record { step = s .step-from .ensures; from = c .before .entry2 .ensures; to = c .entry3 .ensures })
+    let d = s .before in
+    (normal (d .before), d .digits .ensures, record { step = s .step-of .ensures; from = c .before .entry .ensures; to = c .entry2 .ensures })
 
 returns-3 : tie.Need-returns-3
 returns-3 c = search needs
@@ -92,16 +71,11 @@ log2-spec =
     returns
     returns-2
     digits-requires
-    guess-requires
-    cast-guessed
-    cast-step-from
-    add-entry
-    entry-requires
-    step-from-requires
+    step-of-requires
     cast-entry
-    entry-requires-2
+    entry-requires
     cast-entry-2
-    add-entry-2
-    entry-requires-3
+    add-entry
+    entry-requires-2
     log-in-step-requires
     returns-3)

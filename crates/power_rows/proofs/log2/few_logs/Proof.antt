@@ -1,4 +1,4 @@
--- `few_logs` is its five stages, one after the other: what the first leaves has logarithms, and the
+-- `few_logs` is its four stages, one after the other: what the first leaves has logarithms, and the
 -- others find the steps of those (proofs/Ready.antt). Assumes nothing.
 use mathlib.Core.Path.{ap, _∙_}
 use mathlib.Core.List.{List}
@@ -10,7 +10,7 @@ use lib.Ieee.{Float, nan}
 use borrow.Author.Needs.{needs}
 use Rattle.lists.specs.Maps.{mapRange}
 use Rattle.power.specs.Log.{positiveNormal, L2}
-use Rattle.power_rows.proofs.Ready.{ready-at, guessed-at, found-at, logs-staged}
+use Rattle.power_rows.proofs.Ready.{ready-at, scaled-at, found-at, logs-staged}
 use Rattle.power_rows.proofs.log2.few_logs.Statement.{statement}
 use Rattle.power_rows.proofs.log2.few_logs.Tie as tie
 
@@ -36,37 +36,32 @@ take-digits-requires c κs =
     let m = c .before .before .before .before in
     (s m .pre .2, omega (arith, s m .pre .1, m .make-ready .kept .0), normal m)
 
-guess-steps-requires : tie.Need-guess-steps-requires
-guess-steps-requires c κs = search needs
-
 find-steps-requires : tie.Need-find-steps-requires
 find-steps-requires c κs =
-    let g = c .before .before .before .before .before .before in
-    let d = g .before .before .before .before .before in
+    let d = c .before .before .before .before .before .before in
     let m = d .before .before .before .before .before in
     let a = s m .args in (
       s m .pre .0,
-      omega (arith, s m .pre .3, g .guess-steps .kept .0),
+      s m .pre .3,
       s m .pre .4,
       s m .pre .5,
       omega (arith, s m .pre .2, d .take-digits .kept .0),
-      guessed-at (a .start) (a .count) (m .make-ready .last .0) (a .digits .now) (a .steps .now) (a .from .now) (a .to .now) (rooms m) (normal m) (d .take-digits .ensures) (g .guess-steps .ensures),
+      scaled-at (a .start) (a .count) (m .make-ready .last .0) (a .digits .now) (a .steps .now) (a .from .now) (a .to .now) (rooms m) (normal m) (d .take-digits .ensures),
     )
 
 take-logs-requires : tie.Need-take-logs-requires
 take-logs-requires c κs =
     let f = c .before .before .before .before .before .before .before .before .before .before .before in
-    let g = f .before .before .before .before .before .before .before in
-    let d = g .before .before .before .before .before in
+    let d = f .before .before .before .before .before .before .before in
     let m = d .before .before .before .before .before in
     let a = s m .args in (
       omega (arith, s m .pre .1, m .make-ready .kept .0),
       omega (arith, s m .pre .2, d .take-digits .kept .0),
-      omega (arith, s m .pre .3, g .guess-steps .kept .0, f .find-steps .kept .0),
+      omega (arith, s m .pre .3, f .find-steps .kept .0),
       omega (arith, s m .pre .4, f .find-steps .kept .1 .0),
       omega (arith, s m .pre .5, f .find-steps .kept .1 .1 .0),
       found-at (a .start) (a .count) (m .make-ready .last .0) (a .digits .now) (a .steps .now) (a .from .now) (a .to .now) (rooms m) (normal m) (d .take-digits .ensures)
-      (g .guess-steps .last .0) (g .guess-steps .kept .0) (f .find-steps .ensures .0) (f .find-steps .ensures .1) (f .find-steps .ensures .2),
+      (f .find-steps .ensures .0) (f .find-steps .ensures .1) (f .find-steps .ensures .2),
     )
 
 same-length : tie.Need-same-length
@@ -87,7 +82,7 @@ same-length-5 c = search needs
 returns : tie.Need-returns
 returns c =
     let t = c .before .before in
-    let m = t .before .before .before .before .before .before .before .before .before .before .before .before .before .before .before .before .before .before .before .before .before .before .before .before .before .before .before .before .before in
+    let m = t .before .before .before .before .before .before .before .before .before .before .before .before .before .before .before .before .before .before .before .before .before .before .before .before in
     let a = s m .args in
     t .take-logs .ensures
     ∙ ap (λ (xs : List Float). mapRange (λ i v. L2 v) (a .start) (a .start + a .count) xs) (m .make-ready .ensures)
@@ -100,7 +95,6 @@ few-logs-spec =
     add-make-ready
     make-ready-requires
     take-digits-requires
-    guess-steps-requires
     find-steps-requires
     take-logs-requires
     same-length

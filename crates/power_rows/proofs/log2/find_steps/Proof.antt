@@ -1,16 +1,15 @@
--- `find_steps` replaces the first `count` guesses: each entry below k is the step of its own digits,
--- or an entry of the table at an end of that. Assumes nothing.
-use mathlib.Core.Path.{sym, ap, subst, _∙_}
+-- `find_steps` fills the first `count` entries: each entry below k is the step of its own digits, or
+-- an entry of the table at an end of that. Assumes nothing.
+use mathlib.Core.Path.{ap, _∙_}
 use mathlib.Core.Logic.{inl}
 use Prim.Native.Nat.{ℕ, _+_, _-_, _≤_}
 use native.Mathlib.Omega.{arith}
 use lib.ListN.{getD}
 use borrow.Author.Needs.{needs}
-use Rattle.lists.specs.Turned.{Turned, turned-none, turned-read, turned-more, turned-to}
+use Rattle.lists.specs.Turned.{Turned, turned-none, turned-more, turned-to}
 use Rattle.power.specs.Table.{P}
 use Rattle.power.proofs.Search.{Step, step-is}
-use Rattle.power.proofs.Guess.{Guess, guess-is}
-use Rattle.power_rows.specs.Log2.{stepOf, fromOf, toOf, Guessed}
+use Rattle.power_rows.specs.Log2.{stepOf, fromOf, toOf, Scaled}
 use Rattle.power_rows.proofs.log2.find_steps.Statement.{statement}
 use Rattle.power_rows.proofs.log2.find_steps.Tie as tie
 
@@ -24,52 +23,28 @@ abbrev μ-loop : tie.MeasureT-loop
 loop-holds : tie.Need-loop-holds Inv-loop μ-loop
 loop-holds c = (omega arith, turned-none _ _ _, turned-none _ _ _, turned-none _ _ _)
 
--- ---- the digits at k, their guess, and the step that is found from it
+-- ---- the digits at k, and the step that is found of them
 module _ (c : tie.In-loop Inv-loop μ-loop) where
   abbrev s : tie.Start Inv-loop μ-loop
   s = c .before .before .before .before .before .before
 
-  abbrev k : ℕ
-  k = c .before .loop .k
-
   abbrev t : ℕ
-  t = getD (s .args .digits .now) k 0
+  t = getD (s .args .digits .now) (c .before .loop .k) 0
 
-  given : Guessed t (getD (c .before .loop .steps) k 0)
-  given =
-      subst (λ (g : ℕ). Guessed t g) (sym (turned-read 0 (c .before .loop .inv .1) (omega (arith, s .pre .1, c .loop-test .taken)))) (s .pre .5 k (c .loop-test .taken))
+  scaled : Scaled t
+  scaled = s .pre .5 (c .before .loop .k) (c .loop-test .taken)
 
-  guess : Guess t (getD (c .before .loop .steps) k 0)
-  guess = rw (given .guess) (guess-is t (given .low) (given .high))
+found : (c : tie.After-step-of Inv-loop μ-loop) → Step (t (c .before .before)) (c .step-of .result)
+found c = let i = c .before .before in step-is (t i) (c .step-of .result) (scaled i .low) (scaled i .high) (c .step-of .ensures)
 
-found : (c : tie.After-step-from Inv-loop μ-loop) → Step (t (c .before .before .before .before)) (c .step-from .result)
-found c =
-    let i = c .before .before .before .before in
-    step-is (t i) (c .step-from .result) (given i .low) (given i .high) (c .step-from .ensures)
+mul-step-of : tie.Need-mul-step-of Inv-loop μ-loop
+mul-step-of c = search needs
 
-mul-guessed : tie.Need-mul-guessed Inv-loop μ-loop
-mul-guessed c = search needs
+shared-slice-read-step-of : tie.Need-shared-slice-read-step-of Inv-loop μ-loop
+shared-slice-read-step-of c = search needs
 
-slice-read-guessed : tie.Need-slice-read-guessed Inv-loop μ-loop
-slice-read-guessed c = search needs
-
-cast-entry : tie.Need-cast-entry Inv-loop μ-loop
-cast-entry c = record { fits = let l = guess (c .before) .within in omega arith }
-
-add-entry : tie.Need-add-entry Inv-loop μ-loop
-add-entry c = record { fits = let l = guess (c .before) .within in omega arith }
-
-entry-requires : tie.Need-entry-requires Inv-loop μ-loop
-entry-requires c κs = let l = guess (c .before) .within in (s (c .before) .pre .0, omega arith)
-
-mul-step-from : tie.Need-mul-step-from Inv-loop μ-loop
-mul-step-from c = search needs
-
-shared-slice-read-step-from : tie.Need-shared-slice-read-step-from Inv-loop μ-loop
-shared-slice-read-step-from c = search needs
-
-step-from-requires : tie.Need-step-from-requires Inv-loop μ-loop
-step-from-requires c κs = let g = given (c .before .before .before) in (g .low, g .high, g .guess, c .before .entry .ensures)
+step-of-requires : tie.Need-step-of-requires Inv-loop μ-loop
+step-of-requires c κs = let i = c .before in (s i .pre .0, scaled i .low, scaled i .high)
 
 mul-steps : tie.Need-mul-steps Inv-loop μ-loop
 mul-steps c = search needs
@@ -77,11 +52,11 @@ mul-steps c = search needs
 slice-write-steps : tie.Need-slice-write-steps Inv-loop μ-loop
 slice-write-steps c = search needs
 
-cast-entry-2 : tie.Need-cast-entry-2 Inv-loop μ-loop
-cast-entry-2 c = search needs
+cast-entry : tie.Need-cast-entry Inv-loop μ-loop
+cast-entry c = search needs
 
-entry-requires-2 : tie.Need-entry-requires-2 Inv-loop μ-loop
-entry-requires-2 c κs = let l = found c .within in (s (c .before .before .before .before) .pre .0, omega arith)
+entry-requires : tie.Need-entry-requires Inv-loop μ-loop
+entry-requires c κs = let l = found c .within in (s (c .before .before) .pre .0, omega arith)
 
 mul-from : tie.Need-mul-from Inv-loop μ-loop
 mul-from c = search needs
@@ -89,14 +64,14 @@ mul-from c = search needs
 slice-write-from : tie.Need-slice-write-from Inv-loop μ-loop
 slice-write-from c = search needs
 
-cast-entry-3 : tie.Need-cast-entry-3 Inv-loop μ-loop
-cast-entry-3 c = search needs
+cast-entry-2 : tie.Need-cast-entry-2 Inv-loop μ-loop
+cast-entry-2 c = search needs
 
-add-entry-2 : tie.Need-add-entry-2 Inv-loop μ-loop
-add-entry-2 c = search needs
+add-entry : tie.Need-add-entry Inv-loop μ-loop
+add-entry c = search needs
 
-entry-requires-3 : tie.Need-entry-requires-3 Inv-loop μ-loop
-entry-requires-3 c κs = let l = found (c .before) .within in (s (c .before .before .before .before .before) .pre .0, omega arith)
+entry-requires-2 : tie.Need-entry-requires-2 Inv-loop μ-loop
+entry-requires-2 c κs = let l = found (c .before) .within in (s (c .before .before .before) .pre .0, omega arith)
 
 mul-to : tie.Need-mul-to Inv-loop μ-loop
 mul-to c = search needs
@@ -113,12 +88,12 @@ loop-less c = omega arith
 loop-again : tie.Need-loop-again Inv-loop μ-loop
 loop-again c = 
     let f = c .before .before in
-    let i = f .before .before .before .before in
+    let i = f .before .before in
     let v = i .before .loop .inv in (
       omega arith,
-      turned-more 0 (v .1) (omega (arith, s i .pre .1)) (f .step-from .ensures),
-      turned-more 0 (v .2) (omega (arith, s i .pre .2)) (c .before .entry2 .ensures ∙ ap P (f .step-from .ensures)),
-      turned-more 0 (v .3) (omega (arith, s i .pre .3)) (c .entry3 .ensures ∙ ap (λ (h : ℕ). P (h + 1)) (f .step-from .ensures)),
+      turned-more 0 (v .1) (omega (arith, s i .pre .1)) (f .step-of .ensures),
+      turned-more 0 (v .2) (omega (arith, s i .pre .2)) (c .before .entry .ensures ∙ ap P (f .step-of .ensures)),
+      turned-more 0 (v .3) (omega (arith, s i .pre .3)) (c .entry2 .ensures ∙ ap (λ (h : ℕ). P (h + 1)) (f .step-of .ensures)),
     )
 
 same-length : tie.Need-same-length Inv-loop μ-loop
@@ -142,23 +117,18 @@ find-steps-spec =
     Inv-loop
     μ-loop
     loop-holds
-    mul-guessed
-    slice-read-guessed
-    cast-entry
-    add-entry
-    entry-requires
-    mul-step-from
-    shared-slice-read-step-from
-    step-from-requires
+    mul-step-of
+    shared-slice-read-step-of
+    step-of-requires
     mul-steps
     slice-write-steps
-    cast-entry-2
-    entry-requires-2
+    cast-entry
+    entry-requires
     mul-from
     slice-write-from
-    cast-entry-3
-    add-entry-2
-    entry-requires-3
+    cast-entry-2
+    add-entry
+    entry-requires-2
     mul-to
     slice-write-to
     add-k

@@ -11,6 +11,7 @@ mod classes;
 mod masks;
 mod numbers;
 mod open_calls;
+mod single_numbers;
 
 use std::process::ExitCode;
 

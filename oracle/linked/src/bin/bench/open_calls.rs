@@ -1,10 +1,11 @@
 //! The open calls, beside the unaltered Rust at the same sizes and on the same numbers.
 
-use linked::calls::{self as port, Motion};
+use crate::single_numbers;
+use linked::calls as port;
 use linked::dovetable_advance_note_envelopes;
 use oracle::calls::is_held;
 use oracle::random::Random;
-use oracle::spectral_dsp::{MIDI_NOTES, MotionConfig};
+use oracle::spectral_dsp::MIDI_NOTES;
 use std::hint::black_box;
 use std::time::Instant;
 
@@ -12,7 +13,7 @@ use std::time::Instant;
 const TURNS: usize = 3;
 const NANOSECONDS: u128 = 100_000_000;
 /// The calls between two looks at the clock, for what takes little time.
-const SHORT: u32 = 1000;
+pub const SHORT: u32 = 1000;
 
 /// Nanoseconds per call of `work`, the least of many groups of calls.
 fn best(group: u32, mut work: impl FnMut()) -> f64 {
@@ -29,7 +30,7 @@ fn best(group: u32, mut work: impl FnMut()) -> f64 {
 }
 
 /// The two sides take turns, so that a slow stretch of the machine does not fall on one alone.
-fn row(name: &str, group: u32, mut port: impl FnMut(), mut original: impl FnMut()) {
+pub fn row(name: &str, group: u32, mut port: impl FnMut(), mut original: impl FnMut()) {
     let (mut ours, mut theirs) = (f64::INFINITY, f64::INFINITY);
     for _ in 0..TURNS {
         ours = ours.min(best(group, &mut port));
@@ -39,61 +40,9 @@ fn row(name: &str, group: u32, mut port: impl FnMut(), mut original: impl FnMut(
     println!("{name:<44}{ours:>11.1}{theirs:>11.1}{ratio:>9.2}");
 }
 
-fn spread(length: usize, low: f32, high: f32) -> Vec<f32> {
+pub fn spread(length: usize, low: f32, high: f32) -> Vec<f32> {
     let mut random = Random::new(1);
     (0..length).map(|_| random.between(low, high)).collect()
-}
-
-fn single_numbers() {
-    let decibels = spread(SHORT as usize, -96.0, 12.0);
-    let (mut at, mut also) = (0, 0);
-    row(
-        "db_to_gain",
-        SHORT,
-        || {
-            at = (at + 1) % decibels.len();
-            black_box(port::db_to_gain(black_box(decibels[at])));
-        },
-        || {
-            also = (also + 1) % decibels.len();
-            black_box(original_oiko::db_to_gain(black_box(decibels[also])));
-        },
-    );
-    for (name, shape, same) in [
-        (
-            "motion_compensation_gain, Ripple",
-            0,
-            original::MotionShape::Ripple,
-        ),
-        (
-            "motion_compensation_gain, Cloud",
-            7,
-            original::MotionShape::Cloud,
-        ),
-    ] {
-        let config = MotionConfig::default();
-        let motion = Motion {
-            shape,
-            depth_db: 24.0,
-            ..Motion::from(config)
-        };
-        let other = original::MotionConfig {
-            shape: same,
-            depth_db: 24.0,
-            phase: motion.phase,
-            size_octaves: motion.size_octaves,
-        };
-        row(
-            name,
-            10,
-            || {
-                black_box(port::motion_compensation_gain(black_box(motion)));
-            },
-            || {
-                black_box(original::motion_compensation_gain(black_box(other)));
-            },
-        );
-    }
 }
 
 /// At an address that is a multiple of 64, as a plug-in would place its banks. With banks that
@@ -233,7 +182,7 @@ pub fn table() {
         "{:<44}{:>11}{:>11}{:>9}",
         "ns per call", "port", "Rust", "ratio"
     );
-    single_numbers();
+    single_numbers::rows();
     banks();
     tables();
     windows(1024);
