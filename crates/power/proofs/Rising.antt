@@ -4,10 +4,10 @@
 use mathlib.Core.Path.{_≡_, refl, sym, ap, _∙_, subst}
 use mathlib.Core.Logic.{inl, inr}
 use mathlib.Core.Bool.{Bool, true, false, not, cond}
-use Prim.Native.Nat.{ℕ, suc, _-_, _*_, _/_, _%_, _^_, _≤_, _<_, zero-le}
+use Prim.Native.Nat.{ℕ, suc, _+_, _-_, _*_, _/_, _%_, _^_, _≤_, _<_, zero-le}
 use native.Mathlib.Nat.{mul-assoc, pow-succ', le-trans, le-of-eq, le-refl, le-of-suc-le-suc, eq-or-lt-of-le, le-of-lt, mul-le-mul, mul-le-mul-right}
 use native.Mathlib.Omega.{arith}
-use lib.Dec.{T, ltb, ltb→lt, nltb→le}
+use lib.Dec.{T, ltb, ltb→lt, nltb→le, lit≤}
 use lib.Pow.{pow-pos, pow-mono, shr-mono}
 use lib.Ieee.{Float, nan, inf, fin, odd, le, isNan}
 use lib.Ieee.Exact.{HasValue, odd-sign}
@@ -15,8 +15,10 @@ use lib.Ieee.Order.{le-of-values}
 use Rattle.float32.specs.Value.{moved}
 use Rattle.float32.proofs.Floor.{moved-mono}
 use Rattle.lists.specs.Interpolation.{interp}
+use Rattle.power.specs.Table.{highBits, P}
 use Rattle.power.specs.Rules.{Roots, P-rule}
 use Rattle.power.specs.Power.{positiveZero, largest, powerAt, powerOf, E2}
+use Rattle.power.specs.Rising.{PowersNeverFall, E2NeverFalls}
 use Rattle.power.proofs.Interpolated.{interp-low, interp-high, interp-mono}
 use Rattle.power.proofs.Normal.{largest-value}
 
@@ -104,22 +106,25 @@ module _ {k w : ℕ} {p : ℕ → ℕ} (R : Roots k w p) where
   unfolding moved
   inf-top = refl
 
-  pub powers-never-fall : (x y : Float) → T (le x y) → T (le (powerOf w p x) (powerOf w p y))
+  rises : (x y : Float) → T (le x y) → T (le (powerOf w p x) (powerOf w p y))
   unfolding le isNan
-  powers-never-fall nan y h = absurd h
-  powers-never-fall (inf true) nan h = absurd h
-  powers-never-fall (inf true) (inf t) h = by-units (inf true) (inf t) tt tt (rw inf-low zero-le)
-  powers-never-fall (inf true) (fin t n d) h = by-units (inf true) (fin t n d) tt tt (rw inf-low zero-le)
-  powers-never-fall (inf false) nan h = absurd h
-  powers-never-fall (inf false) (inf true) h = absurd h
-  powers-never-fall (inf false) (inf false) h = by-units (inf false) (inf false) tt tt (le-refl (unitsAt (moved 128 (inf false))))
-  powers-never-fall (inf false) (fin t n d) h = absurd h
-  powers-never-fall (fin s m e) nan h = absurd h
-  powers-never-fall (fin s m e) (inf true) h = absurd h
-  powers-never-fall (fin s m e) (inf false) h = by-units (fin s m e) (inf false) tt tt (rw inf-top (units-top (moved 128 (fin s m e) / 2 ^ 24) (moved 128 (fin s m e) % 2 ^ 24) (omega arith)))
-  powers-never-fall (fin s m e) (fin t n d) h = by-units (fin s m e) (fin t n d) tt tt (unitsAt-mono (moved 128 (fin s m e)) (moved 128 (fin t n d)) (moved-mono 128 s m e t n d h))
+  rises nan y h = absurd h
+  rises (inf true) nan h = absurd h
+  rises (inf true) (inf t) h = by-units (inf true) (inf t) tt tt (rw inf-low zero-le)
+  rises (inf true) (fin t n d) h = by-units (inf true) (fin t n d) tt tt (rw inf-low zero-le)
+  rises (inf false) nan h = absurd h
+  rises (inf false) (inf true) h = absurd h
+  rises (inf false) (inf false) h = by-units (inf false) (inf false) tt tt (le-refl (unitsAt (moved 128 (inf false))))
+  rises (inf false) (fin t n d) h = absurd h
+  rises (fin s m e) nan h = absurd h
+  rises (fin s m e) (inf true) h = absurd h
+  rises (fin s m e) (inf false) h = by-units (fin s m e) (inf false) tt tt (rw inf-top (units-top (moved 128 (fin s m e) / 2 ^ 24) (moved 128 (fin s m e) % 2 ^ 24) (omega arith)))
+  rises (fin s m e) (fin t n d) h = by-units (fin s m e) (fin t n d) tt tt (unitsAt-mono (moved 128 (fin s m e)) (moved 128 (fin t n d)) (moved-mono 128 s m e t n d h))
 
--- at this table
-pub E2-mono : (x y : Float) → T (le x y) → T (le (E2 x) (E2 y))
+-- ---- for any power of two of steps up to 2 ^ 24, and then for this one
+pub powers-never-fall : PowersNeverFall
+powers-never-fall k h p r = rises {k = k} record { bits = let e : k + (24 - k) ≡ 24 = omega arith in e; root = r }
+
+pub E2-mono : E2NeverFalls
 unfolding E2
-E2-mono = powers-never-fall P-rule
+E2-mono = powers-never-fall highBits (lit≤ tt) P (P-rule .root)

@@ -123,5 +123,11 @@ pub fn log2(powers: &PowerTable, v: f32) -> f32
     }
     let t = digits(v);
     let h = step_of(powers, t);
-    log_in_step(v, t, h, entry(powers, h as usize), entry(powers, h as usize + 1))
+    log_in_step(
+        v,
+        t,
+        h,
+        entry(powers, h as usize),
+        entry(powers, h as usize + 1),
+    )
 }

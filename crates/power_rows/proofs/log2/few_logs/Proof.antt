@@ -61,7 +61,7 @@ take-logs-requires c κs =
       omega (arith, s m .pre .4, f .find-steps .kept .1 .0),
       omega (arith, s m .pre .5, f .find-steps .kept .1 .1 .0),
       found-at (a .start) (a .count) (m .make-ready .last .0) (a .digits .now) (a .steps .now) (a .from .now) (a .to .now) (rooms m) (normal m) (d .take-digits .ensures)
-      (f .find-steps .ensures .0) (f .find-steps .ensures .1) (f .find-steps .ensures .2),
+          (f .find-steps .ensures .0) (f .find-steps .ensures .1) (f .find-steps .ensures .2),
     )
 
 same-length : tie.Need-same-length

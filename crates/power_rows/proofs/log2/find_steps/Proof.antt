@@ -14,7 +14,7 @@ use Rattle.power_rows.proofs.log2.find_steps.Statement.{statement}
 use Rattle.power_rows.proofs.log2.find_steps.Tie as tie
 
 abbrev Inv-loop : tie.InvT-loop
-Inv-loop steps₀ from₀ to₀ digits powers count k₀ steps from to k = 
+Inv-loop steps₀ from₀ to₀ digits powers count k₀ steps from to k =
     (k ≤ count) × Turned (λ k held. stepOf (getD digits k 0)) 0 steps₀ steps k × Turned (λ k held. fromOf (getD digits k 0)) 0 from₀ from k × Turned (λ k held. toOf (getD digits k 0)) 0 to₀ to k
 
 abbrev μ-loop : tie.MeasureT-loop
@@ -86,7 +86,7 @@ loop-less : tie.Need-loop-less Inv-loop μ-loop
 loop-less c = omega arith
 
 loop-again : tie.Need-loop-again Inv-loop μ-loop
-loop-again c = 
+loop-again c =
     let f = c .before .before in
     let i = f .before .before in
     let v = i .before .loop .inv in (
@@ -106,7 +106,7 @@ same-length-3 : tie.Need-same-length-3 Inv-loop μ-loop
 same-length-3 c = c .before .loop .inv .3 .len
 
 returns : tie.Need-returns Inv-loop μ-loop
-returns c = 
+returns c =
     let v = c .before .loop .inv in
     (turned-to _ (v .1) (inl (v .0)) (omega arith), turned-to _ (v .2) (inl (v .0)) (omega arith), turned-to _ (v .3) (inl (v .0)) (omega arith))
 

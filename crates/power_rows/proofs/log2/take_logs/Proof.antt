@@ -60,16 +60,16 @@ shared-slice-read-log-in-step-4 : tie.Need-shared-slice-read-log-in-step-4 Inv-l
 shared-slice-read-log-in-step-4 c = search needs
 
 log-in-step-requires : tie.Need-log-in-step-requires Inv-loop μ-loop
-log-in-step-requires c κs = 
+log-in-step-requires c κs =
     let l = c .before .before .before .before .before .before in
     let s = l .before .before .before .before .before .before in
     let low = l .loop .inv .0 .low in
     let k = l .loop .i - s .args .start in
     let z : s .args .start + k ≡ l .loop .i = omega arith in
     let f =
-        subst (λ (v : Float). Found v (getD (s .args .digits .now) k 0) (getD (s .args .steps .now) k 0) (getD (s .args .from .now) k 0) (getD (s .args .to .now) k 0))
-        (ap (λ (n : ℕ). getD (s .args .row .now) n nan) z ∙ sym (turned-read nan (l .loop .inv .0) (omega (arith, s .pre .0))))
-        (s .pre .5 k (omega arith)) in
+    subst (λ (v : Float). Found v (getD (s .args .digits .now) k 0) (getD (s .args .steps .now) k 0) (getD (s .args .from .now) k 0) (getD (s .args .to .now) k 0))
+    (ap (λ (n : ℕ). getD (s .args .row .now) n nan) z ∙ sym (turned-read nan (l .loop .inv .0) (omega (arith, s .pre .0))))
+    (s .pre .5 k (omega arith)) in
     (f .normal, f .digits, f .ends)
 
 mul-row : tie.Need-mul-row Inv-loop μ-loop
