@@ -1,2 +1,2 @@
-pub mod Sixteen
+pub mod Arms
 pub mod Rows

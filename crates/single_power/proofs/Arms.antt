@@ -1,4 +1,4 @@
--- The last arm of a `match` over sixteen numbers has the number that is left. Assumes nothing.
+-- The last arm of a `match` over 32 numbers has the number that is left. Assumes nothing.
 use mathlib.Core.Path.{_≡_}
 use Prim.Native.Nat.{ℕ, zero, suc, _≤_, _<_, zero-le}
 use native.Mathlib.Omega.{arith}
@@ -15,8 +15,8 @@ past : (k j : ℕ) → NoneOf k j → k ≤ j
 past zero j n = zero-le
 past (suc k) j n = next k j (past k j (n .0)) (n .1)
 
-top : (j : ℕ) → 15 ≤ j → j < 16 → j ≡ 15
+top : (j : ℕ) → 31 ≤ j → j < 32 → j ≡ 31
 top j a b = omega arith
 
-pub last : {j : ℕ} → j < 16 → NoneOf 15 j → j ≡ 15
-last {j} l n = top j (past 15 j n) l
+pub last : {j : ℕ} → j < 32 → NoneOf 31 j → j ≡ 31
+last {j} l n = top j (past 31 j n) l
