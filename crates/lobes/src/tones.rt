@@ -47,29 +47,26 @@ fn timbre_rolloff(rolloff: f32, timbre: f32) -> f32
     clamp(rolloff + bend, 0.0, MAX_ROLLOFF_DB)
 }
 
-fn pitch_hertz(powers: &PowerTable, pitch: Pitch) -> f32
-    requires { ⌜ now powers ≡ powerTable ⌝ }
+fn pitch_hertz(pitch: Pitch) -> f32
     ensures { λ r. ⌜ r ≡ pitchHertz pitch ⌝ }
 {
     match pitch {
-        Pitch::Note(note, tuning) => pitch::note_hertz(powers, note, tuning),
+        Pitch::Note(note, tuning) => pitch::note_hertz(note, tuning),
         Pitch::Hertz(hertz) => hertz,
     }
 }
 
-fn fundamental_of(powers: &PowerTable, voice: MaskVoice) -> f32
-    requires { ⌜ now powers ≡ powerTable ⌝ }
+fn fundamental_of(voice: MaskVoice) -> f32
     ensures { λ r. ⌜ r ≡ fundamentalOf voice ⌝ }
 {
     let pitch = voice.pitch;
-    pitch_hertz(powers, pitch)
+    pitch_hertz(pitch)
 }
 
-pub fn tone_of(powers: &PowerTable, grid: Grid, voice: MaskVoice) -> Tone
-    requires { ⌜ now powers ≡ powerTable ⌝ }
+pub fn tone_of(grid: Grid, voice: MaskVoice) -> Tone
     ensures { λ r. ⌜ r ≡ toneOf grid voice ⌝ }
 {
-    let fundamental = fundamental_of(powers, voice);
+    let fundamental = fundamental_of(voice);
     let level = note_level(voice);
     let rolloff = timbre_rolloff(grid.rolloff, voice.timbre);
     Tone {

@@ -74,7 +74,7 @@ fn raise_voice(
         return;
     }
     let grid = way.grid;
-    let tone = tone_of(powers, grid, voice);
+    let tone = tone_of(grid, voice);
     let gains = gains_of(sines, way.stereo, voice);
     raise_tone(
         first,

@@ -1,14 +1,14 @@
--- `note_frequencies::main` lends the table that it made, and returns. Assumes nothing.
+-- `note_frequencies::main` prints each of the notes, and returns. Assumes nothing.
 use Prim.Native.Nat.{_≤_, _-_}
 use borrow.Author.Needs.{needs}
 use Rattle.note_frequencies.proofs.main.Statement.{statement}
 use Rattle.note_frequencies.proofs.main.Tie as tie
 
 abbrev Inv-loop : tie.InvT-loop
-Inv-loop powers note₀ note = note ≤ 128
+Inv-loop note₀ note = note ≤ 128
 
 abbrev μ-loop : tie.MeasureT-loop
-μ-loop powers note₀ note = 128 - note
+μ-loop note₀ note = 128 - note
 
 slice-aggregate-write-all : tie.Need-slice-aggregate-write-all Inv-loop μ-loop
 slice-aggregate-write-all c = search needs
@@ -16,14 +16,11 @@ slice-aggregate-write-all c = search needs
 write-all-requires : tie.Need-write-all-requires Inv-loop μ-loop
 write-all-requires c κs = search needs
 
-power-table-requires : tie.Need-power-table-requires Inv-loop μ-loop
-power-table-requires c κs = search needs
-
 loop-holds : tie.Need-loop-holds Inv-loop μ-loop
 loop-holds c = search needs
 
 print-note-requires : tie.Need-print-note-requires Inv-loop μ-loop
-print-note-requires c κs = c .before .before .before .power-table .ensures
+print-note-requires c κs = search needs
 
 add-note : tie.Need-add-note Inv-loop μ-loop
 add-note c = search needs
@@ -45,7 +42,6 @@ main-spec =
     μ-loop
     slice-aggregate-write-all
     write-all-requires
-    power-table-requires
     loop-holds
     print-note-requires
     add-note
