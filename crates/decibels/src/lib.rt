@@ -15,3 +15,10 @@ pub fn gain(powers: &PowerTable, db: f32) -> f32
 {
     power::decimal::pow10(powers, db / DECIBELS_PER_DECADE)
 }
+
+// The same for a caller of one gain, which needs no table.
+pub fn single_gain(db: f32) -> f32
+    ensures { λ r. ⌜ r ≡ gainOf db ⌝ }
+{
+    single_power::pow10(db / DECIBELS_PER_DECADE)
+}

@@ -13,8 +13,7 @@ pub fn db_to_gain(db: f32) -> Answer
     if !limits::decibels(db) {
         return Answer::Refused(refusal::SETTING, 0);
     }
-    let powers = power::table::power_table();
-    Answer::Gain(decibels::gain(&powers, db))
+    Answer::Gain(decibels::single_gain(db))
 }
 
 // MIDI note frequency in twelve-tone equal temperament at A4 = 440 Hz.
@@ -34,6 +33,5 @@ pub fn note_frequency_with_tuning(note: u8, tuning_semitones: f32) -> Answer
     if !limits::tuning(tuning_semitones) {
         return Answer::Refused(refusal::SETTING, 0);
     }
-    let powers = power::table::power_table();
-    Answer::Gain(pitch::note_hertz(&powers, note, tuning_semitones))
+    Answer::Gain(pitch::note_hertz(note, tuning_semitones))
 }

@@ -14,15 +14,12 @@ returns : tie.Need-returns
 unfolding dbToGain
 returns c = simp (sym (c .before .decibels .ensures) ∙ not-true _ (c .if1 .taken))
 
-power-table-requires : tie.Need-power-table-requires
-power-table-requires c κs = search needs
-
-gain-requires : tie.Need-gain-requires
-gain-requires c κs = search needs
+single-gain-requires : tie.Need-single-gain-requires
+single-gain-requires c κs = search needs
 
 returns-2 : tie.Need-returns-2
 unfolding dbToGain
-returns-2 c = simp (c .gain .ensures, sym (c .before .before .before .before .decibels .ensures) ∙ not-false _ (c .before .before .before .if1 .left))
+returns-2 c = simp (c .single-gain .ensures, sym (c .before .before .decibels .ensures) ∙ not-false _ (c .before .if1 .left))
 
 pub db-to-gain-spec : {M : Type 1} → statement M
-db-to-gain-spec = tie.close (tie.spec decibels-requires returns power-table-requires gain-requires returns-2)
+db-to-gain-spec = tie.close (tie.spec decibels-requires returns single-gain-requires returns-2)

@@ -21,15 +21,12 @@ returns-2 : tie.Need-returns-2
 unfolding noteFrequencyWithTuning
 returns-2 c = simp (sym (c .before .before .before .note .ensures) ∙ not-false _ (c .before .before .if1 .left), sym (c .before .tuning .ensures) ∙ not-true _ (c .if2 .taken))
 
-power-table-requires : tie.Need-power-table-requires
-power-table-requires c κs = search needs
-
 note-hertz-requires : tie.Need-note-hertz-requires
 note-hertz-requires c κs = search needs
 
 returns-3 : tie.Need-returns-3
 unfolding noteFrequencyWithTuning
-returns-3 c = simp (c .note-hertz .ensures, sym (c .before .before .before .before .before .before .note .ensures) ∙ not-false _ (c .before .before .before .before .before .if1 .left), sym (c .before .before .before .before .tuning .ensures) ∙ not-false _ (c .before .before .before .if2 .left))
+returns-3 c = simp (c .note-hertz .ensures, sym (c .before .before .before .before .note .ensures) ∙ not-false _ (c .before .before .before .if1 .left), sym (c .before .before .tuning .ensures) ∙ not-false _ (c .before .if2 .left))
 
 pub note-frequency-with-tuning-spec : {M : Type 1} → statement M
-note-frequency-with-tuning-spec = tie.close (tie.spec note-requires returns tuning-requires returns-2 power-table-requires note-hertz-requires returns-3)
+note-frequency-with-tuning-spec = tie.close (tie.spec note-requires returns tuning-requires returns-2 note-hertz-requires returns-3)
