@@ -45,8 +45,8 @@ fn shared_of(powers: &PowerTable, sines: &SineTable, config: MaskConfig) -> Shar
         bin_hz: frequencies::bin_hz(config.sample_rate, config.fft_size),
         field: motion::field::settled(motion),
         compensation: motion_compensation::compensation_gain(powers, sines, motion),
-        floor: masks::gates::floor_gain(powers, config.note_depth_db),
-        emphasis: masks::gates::emphasis(powers, config.width_cents),
+        floor: masks::gates::floor_gain(config.note_depth_db),
+        emphasis: masks::gates::emphasis(config.width_cents),
     }
 }
 

@@ -1,13 +1,11 @@
 // The drawn curve's gain at a bin.
 ghost use mathlib.Core.Path.{_≡_};
 ghost use lib.ListN.{length};
-ghost use Rattle.power.specs.Table.{powerTable};
 ghost use Rattle.limits.specs.Lengths.{MANUAL-MASK-POINTS};
 ghost use Rattle.masks.specs.Manual.{curvePoint, curveGain, manualGain};
 use counts::lesser;
 use float32::order::min;
 use limits::lengths::LAST_POINT;
-use power::table::PowerTable;
 
 pub const MANUAL_CURVE_MUTE_DB: f32 = -144.0;
 
@@ -27,19 +25,18 @@ pub fn curve_point(bin: usize, size: usize) -> usize
 
 // The gain of a curve value. At or below MANUAL_CURVE_MUTE_DB it is 0; values above 0 dB count as
 // 0.
-pub fn curve_gain(powers: &PowerTable, db: f32) -> f32
-    requires { ⌜ now powers ≡ powerTable ⌝ }
+pub fn curve_gain(db: f32) -> f32
     ensures { λ r. ⌜ r ≡ curveGain db ⌝ }
 {
     if db <= MANUAL_CURVE_MUTE_DB {
         return 0.0;
     }
-    decibels::gain(powers, min(db, 0.0))
+    decibels::single_gain(min(db, 0.0))
 }
 
-pub fn manual_gain(powers: &PowerTable, curve: &[f32], bin: usize, size: usize) -> f32
-    requires { ⌜ (now powers ≡ powerTable) × (length (now curve) ≡ MANUAL-MASK-POINTS) ⌝ }
+pub fn manual_gain(curve: &[f32], bin: usize, size: usize) -> f32
+    requires { ⌜ length (now curve) ≡ MANUAL-MASK-POINTS ⌝ }
     ensures { λ r. ⌜ r ≡ manualGain (now (curve .entry)) bin size ⌝ }
 {
-    curve_gain(powers, curve[curve_point(bin, size)])
+    curve_gain(curve[curve_point(bin, size)])
 }

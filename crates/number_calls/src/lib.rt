@@ -15,8 +15,7 @@ pub fn note_emphasis_gain(width_cents: f32) -> Answer
     if !limits::width(width_cents) {
         return Answer::Refused(refusal::SETTING, 0);
     }
-    let powers = power::table::power_table();
-    Answer::Gain(masks::gates::emphasis(&powers, width_cents))
+    Answer::Gain(masks::gates::emphasis(width_cents))
 }
 
 // Gain of the complete note layer at one bin. Closed regions follow the note depth while fully open
@@ -33,8 +32,7 @@ pub fn note_gate_gain(note_depth_db: f32, width_cents: f32, openness: f32) -> An
     if !float32::order::is_finite(openness) {
         return Answer::Refused(refusal::SETTING, 0);
     }
-    let powers = power::table::power_table();
-    Answer::Gain(masks::gates::gate(&powers, note_depth_db, width_cents, openness))
+    Answer::Gain(masks::gates::gate(note_depth_db, width_cents, openness))
 }
 
 // Gain that the drawn curve gives a bin.
@@ -50,6 +48,5 @@ pub fn manual_gain_at_bin(mask_db: &[f32], bin: usize, fft_size: usize) -> Answe
     if mask_db.len() != MANUAL_MASK_POINTS {
         return Answer::Refused(refusal::LENGTH, 0);
     }
-    let powers = power::table::power_table();
-    Answer::Gain(masks::manual::manual_gain(&powers, mask_db, bin, fft_size))
+    Answer::Gain(masks::manual::manual_gain(mask_db, bin, fft_size))
 }

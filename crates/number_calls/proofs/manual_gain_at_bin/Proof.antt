@@ -25,15 +25,12 @@ returns-3 : tie.Need-returns-3
 unfolding manualGainAtBin
 returns-3 c = simp (sym (c .before .before .before .before .size .ensures) ∙ not-false _ (c .before .before .before .if1 .left), sym (c .before .before .bin .ensures) ∙ not-false _ (c .before .if2 .left), ne-eqb _ _ (c .if3 .taken))
 
-power-table-requires : tie.Need-power-table-requires
-power-table-requires c κs = search needs
-
 manual-gain-requires : tie.Need-manual-gain-requires
 manual-gain-requires c κs = search needs
 
 returns-4 : tie.Need-returns-4
 unfolding manualGainAtBin
-returns-4 c = rw (c .manual-gain .ensures, sym (c .before .before .before .before .before .before .before .size .ensures) ∙ not-false _ (c .before .before .before .before .before .before .if1 .left), sym (c .before .before .before .before .before .bin .ensures) ∙ not-false _ (c .before .before .before .before .if2 .left), eq-eqb _ _ (c .before .before .before .if3 .left))
+returns-4 c = rw (c .manual-gain .ensures, sym (c .before .before .before .before .before .size .ensures) ∙ not-false _ (c .before .before .before .before .if1 .left), sym (c .before .before .before .bin .ensures) ∙ not-false _ (c .before .before .if2 .left), eq-eqb _ _ (c .before .if3 .left))
 
 pub manual-gain-at-bin-spec : {M : Type 1} → statement M
-manual-gain-at-bin-spec = tie.close (tie.spec size-requires returns bin-requires returns-2 returns-3 power-table-requires manual-gain-requires returns-4)
+manual-gain-at-bin-spec = tie.close (tie.spec size-requires returns bin-requires returns-2 returns-3 manual-gain-requires returns-4)

@@ -14,15 +14,12 @@ returns : tie.Need-returns
 unfolding noteEmphasisGain
 returns c = simp (sym (c .before .width .ensures) ∙ not-true _ (c .if1 .taken))
 
-power-table-requires : tie.Need-power-table-requires
-power-table-requires c κs = search needs
-
 emphasis-requires : tie.Need-emphasis-requires
 emphasis-requires c κs = search needs
 
 returns-2 : tie.Need-returns-2
 unfolding noteEmphasisGain
-returns-2 c = simp (c .emphasis .ensures, sym (c .before .before .before .before .width .ensures) ∙ not-false _ (c .before .before .before .if1 .left))
+returns-2 c = simp (c .emphasis .ensures, sym (c .before .before .width .ensures) ∙ not-false _ (c .before .if1 .left))
 
 pub note-emphasis-gain-spec : {M : Type 1} → statement M
-note-emphasis-gain-spec = tie.close (tie.spec width-requires returns power-table-requires emphasis-requires returns-2)
+note-emphasis-gain-spec = tie.close (tie.spec width-requires returns emphasis-requires returns-2)

@@ -28,15 +28,12 @@ returns-3 : tie.Need-returns-3
 unfolding noteGateGain
 returns-3 c = simp (sym (c .before .before .before .before .before .note-depth .ensures) ∙ not-false _ (c .before .before .before .before .if1 .left), sym (c .before .before .before .width .ensures) ∙ not-false _ (c .before .before .if2 .left), sym (c .before .is-finite .ensures) ∙ not-true _ (c .if3 .taken))
 
-power-table-requires : tie.Need-power-table-requires
-power-table-requires c κs = search needs
-
 gate-requires : tie.Need-gate-requires
 gate-requires c κs = search needs
 
 returns-4 : tie.Need-returns-4
 unfolding noteGateGain
-returns-4 c = simp (c .gate .ensures, sym (c .before .before .before .before .before .before .before .before .note-depth .ensures) ∙ not-false _ (c .before .before .before .before .before .before .before .if1 .left), sym (c .before .before .before .before .before .before .width .ensures) ∙ not-false _ (c .before .before .before .before .before .if2 .left), sym (c .before .before .before .before .is-finite .ensures) ∙ not-false _ (c .before .before .before .if3 .left))
+returns-4 c = simp (c .gate .ensures, sym (c .before .before .before .before .before .before .note-depth .ensures) ∙ not-false _ (c .before .before .before .before .before .if1 .left), sym (c .before .before .before .before .width .ensures) ∙ not-false _ (c .before .before .before .if2 .left), sym (c .before .before .is-finite .ensures) ∙ not-false _ (c .before .if3 .left))
 
 pub note-gate-gain-spec : {M : Type 1} → statement M
-note-gate-gain-spec = tie.close (tie.spec note-depth-requires returns width-requires returns-2 is-finite-requires returns-3 power-table-requires gate-requires returns-4)
+note-gate-gain-spec = tie.close (tie.spec note-depth-requires returns width-requires returns-2 is-finite-requires returns-3 gate-requires returns-4)

@@ -10,12 +10,12 @@ width-position-requires c κs = search needs
 smoothstep-requires : tie.Need-smoothstep-requires
 smoothstep-requires c κs = search needs
 
-gain-requires : tie.Need-gain-requires
-gain-requires c κs = search needs
+single-gain-requires : tie.Need-single-gain-requires
+single-gain-requires c κs = search needs
 
 returns : tie.Need-returns
 unfolding emphasisGain
-returns c = simp (c .gain .ensures, c .before .smoothstep .ensures, c .before .before .width-position .ensures)
+returns c = simp (c .single-gain .ensures, c .before .smoothstep .ensures, c .before .before .width-position .ensures)
 
 pub emphasis-spec : {M : Type 1} → statement M
-emphasis-spec = tie.close (tie.spec width-position-requires smoothstep-requires gain-requires returns)
+emphasis-spec = tie.close (tie.spec width-position-requires smoothstep-requires single-gain-requires returns)

@@ -1,4 +1,4 @@
--- `curve_gain` is `curveGain`, by the test and what `min` and `gain` ensure. Assumes nothing.
+-- `curve_gain` is `curveGain`, by the test and what `min` and `single_gain` ensure. Assumes nothing.
 use borrow.Author.Needs.{needs}
 use Rattle.masks.specs.Manual.{curveGain}
 use Rattle.masks.proofs.manual.curve_gain.Statement.{statement}
@@ -11,12 +11,12 @@ returns c = simp (c .if1 .taken)
 min-requires : tie.Need-min-requires
 min-requires c κs = search needs
 
-gain-requires : tie.Need-gain-requires
-gain-requires c κs = search needs
+single-gain-requires : tie.Need-single-gain-requires
+single-gain-requires c κs = search needs
 
 returns-2 : tie.Need-returns-2
 unfolding curveGain
-returns-2 c = simp (c .before .before .if1 .left, c .gain .ensures, c .before .min .ensures)
+returns-2 c = simp (c .before .before .if1 .left, c .single-gain .ensures, c .before .min .ensures)
 
 pub curve-gain-spec : {M : Type 1} → statement M
-curve-gain-spec = tie.close (tie.spec returns min-requires gain-requires returns-2)
+curve-gain-spec = tie.close (tie.spec returns min-requires single-gain-requires returns-2)

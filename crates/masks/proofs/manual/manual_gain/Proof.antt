@@ -15,7 +15,7 @@ mul-curve-gain c = omega (arith, c .curve-point .ensures, point-le (c .before .b
 shared-slice-read-curve-gain : tie.Need-shared-slice-read-curve-gain
 shared-slice-read-curve-gain c =
     let a = c .before .before .before .args in
-    omega (arith, c .before .curve-point .ensures, c .before .before .before .pre .1, point-le (a .bin) (a .size))
+    omega (arith, c .before .curve-point .ensures, c .before .before .before .pre, point-le (a .bin) (a .size))
 
 curve-gain-requires : tie.Need-curve-gain-requires
 curve-gain-requires c κs = search needs
