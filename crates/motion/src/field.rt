@@ -1,6 +1,5 @@
 // The moving field at a frequency: its openness, and its attenuation in decibels.
 ghost use mathlib.Core.Path.{_≡_};
-ghost use Rattle.power.specs.Table.{powerTable};
 ghost use Rattle.sine.specs.Table.{sineTable};
 ghost use Rattle.motion.specs.Field.{shapeAt, openness, attenuation};
 ghost use Rattle.motion.specs.Settled.{settled};
@@ -11,11 +10,10 @@ use crate::shapes::saw;
 use crate::shapes::window;
 use float32::order::max;
 use float32::remainder::rem_euclid_one;
-use power::log2::log2;
-use power::table::PowerTable;
 use scene::MotionConfig;
 use scene::MotionShape;
 use sine::table::SineTable;
+use single_power::log2;
 
 // The lowest frequency shown. Below it the field is open.
 pub const MIN_DISPLAY_FREQUENCY_HZ: f32 = 20.0;
@@ -44,23 +42,16 @@ pub fn settled(config: MotionConfig) -> MotionConfig
 // The shape's openness x octaves above the lowest frequency shown. Sprinkle and Cloud are
 // event-driven and are applied separately from the looping motion field, so their resting state is
 // neutral.
-pub(crate) fn shape_at(
-    powers: &PowerTable,
-    sines: &SineTable,
-    shape: MotionShape,
-    x: f32,
-    size: f32,
-    phase: f32,
-) -> f32
-    requires { ⌜ (now powers ≡ powerTable) × (now sines ≡ sineTable) ⌝ }
+pub(crate) fn shape_at(sines: &SineTable, shape: MotionShape, x: f32, size: f32, phase: f32) -> f32
+    requires { ⌜ now sines ≡ sineTable ⌝ }
     ensures { λ r. ⌜ r ≡ shapeAt shape x size phase ⌝ }
 {
     match shape {
         MotionShape::Ripple => ripple(sines, x, size, phase),
         MotionShape::Harmonic => harmonic(sines, x, size, phase),
         MotionShape::Drift => drift(sines, x, size, phase),
-        MotionShape::Scan => window(powers, x, size, phase),
-        MotionShape::Notch => 1.0 - window(powers, x, size, phase),
+        MotionShape::Scan => window(x, size, phase),
+        MotionShape::Notch => 1.0 - window(x, size, phase),
         MotionShape::Saw => saw(x, size, phase),
         MotionShape::Sprinkle => 1.0,
         MotionShape::Cloud => 1.0,
@@ -69,8 +60,8 @@ pub(crate) fn shape_at(
 
 // The moving field's openness at a frequency. 1 is the crest, where the drawn ceiling is unchanged,
 // and 0 receives the full motion attenuation.
-pub fn openness(powers: &PowerTable, sines: &SineTable, frequency: f32, config: MotionConfig) -> f32
-    requires { ⌜ (now powers ≡ powerTable) × (now sines ≡ sineTable) ⌝ }
+pub fn openness(sines: &SineTable, frequency: f32, config: MotionConfig) -> f32
+    requires { ⌜ now sines ≡ sineTable ⌝ }
     ensures { λ r. ⌜ r ≡ openness frequency config ⌝ }
 {
     if config.depth_db <= RESTING_DEPTH_DB {
@@ -79,22 +70,17 @@ pub fn openness(powers: &PowerTable, sines: &SineTable, frequency: f32, config: 
     if frequency < MIN_DISPLAY_FREQUENCY_HZ {
         return 1.0;
     }
-    let x = log2(powers, frequency / MIN_DISPLAY_FREQUENCY_HZ);
+    let x = log2(frequency / MIN_DISPLAY_FREQUENCY_HZ);
     let size = max(config.size_octaves, MIN_SIZE_OCTAVES);
     let phase = rem_euclid_one(config.phase);
     let shape = config.shape;
-    shape_at(powers, sines, shape, x, size, phase)
+    shape_at(sines, shape, x, size, phase)
 }
 
-pub fn attenuation_db(
-    powers: &PowerTable,
-    sines: &SineTable,
-    frequency: f32,
-    config: MotionConfig,
-) -> f32
-    requires { ⌜ (now powers ≡ powerTable) × (now sines ≡ sineTable) ⌝ }
+pub fn attenuation_db(sines: &SineTable, frequency: f32, config: MotionConfig) -> f32
+    requires { ⌜ now sines ≡ sineTable ⌝ }
     ensures { λ r. ⌜ r ≡ attenuation frequency config ⌝ }
 {
     let depth = max(config.depth_db, 0.0);
-    depth * (1.0 - openness(powers, sines, frequency, config))
+    depth * (1.0 - openness(sines, frequency, config))
 }

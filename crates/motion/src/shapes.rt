@@ -2,7 +2,6 @@
 // shown, of the size of its cycle in octaves, and of its phase, from 0 to 1. 1 is open, and 0
 // receives the full depth.
 ghost use mathlib.Core.Path.{_≡_};
-ghost use Rattle.power.specs.Table.{powerTable};
 ghost use Rattle.sine.specs.Table.{sineTable};
 ghost use Rattle.motion.specs.Shapes.{ripple, harmonic, broadAngle, middleAngle, detailAngle};
 ghost use Rattle.motion.specs.Shapes.{layered, drift, window, windowExponent, saw};
@@ -14,8 +13,6 @@ use float32::powers::powi2;
 use float32::powers::powi5;
 use float32::powers::smoothstep;
 use float32::remainder::rem_euclid_one;
-use power::decimal::exp;
-use power::table::PowerTable;
 use sine::cos;
 use sine::sin;
 use sine::table::SineTable;
@@ -82,11 +79,10 @@ pub(crate) fn drift(sines: &SineTable, x: f32, size: f32, phase: f32) -> f32
 
 // A Gaussian window centred where the phase points, with the ends of the display joined: Scan is
 // this window, Notch is 1 minus it.
-pub(crate) fn window(powers: &PowerTable, x: f32, size: f32, phase: f32) -> f32
-    requires { ⌜ now powers ≡ powerTable ⌝ }
+pub(crate) fn window(x: f32, size: f32, phase: f32) -> f32
     ensures { λ r. ⌜ r ≡ window x size phase ⌝ }
 {
-    exp(powers, window_exponent(x, size, phase))
+    single_power::exp(window_exponent(x, size, phase))
 }
 
 pub fn window_exponent(x: f32, size: f32, phase: f32) -> f32

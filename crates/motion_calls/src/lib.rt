@@ -19,9 +19,8 @@ pub fn motion_openness(frequency: f32, config: MotionConfig) -> Answer
     if !scene::motion_accepted(config) {
         return Answer::Refused(refusal::SETTING, 0);
     }
-    let powers = power::table::power_table();
     let sines = sine::table::sine_table();
-    Answer::Gain(motion::field::openness(&powers, &sines, frequency, config))
+    Answer::Gain(motion::field::openness(&sines, frequency, config))
 }
 
 // The moving field's attenuation at a frequency, in decibels.
@@ -34,9 +33,8 @@ pub fn motion_attenuation_db(frequency: f32, config: MotionConfig) -> Answer
     if !scene::motion_accepted(config) {
         return Answer::Refused(refusal::SETTING, 0);
     }
-    let powers = power::table::power_table();
     let sines = sine::table::sine_table();
-    Answer::Gain(motion::field::attenuation_db(&powers, &sines, frequency, config))
+    Answer::Gain(motion::field::attenuation_db(&sines, frequency, config))
 }
 
 // The gain that makes up for the moving field, over the whole spectrum.

@@ -20,9 +20,6 @@ returns-2 c =
     let accepted = c .before .motion-accepted in
     simp (← frequency .ensures, not-false (frequency .result) (c .before .before .if1 .left), ← accepted .ensures, not-true (accepted .result) (c .if2 .taken))
 
-power-table-requires : tie.Need-power-table-requires
-power-table-requires c κs = search needs
-
 sine-table-requires : tie.Need-sine-table-requires
 sine-table-requires c κs = search needs
 
@@ -31,10 +28,10 @@ attenuation-db-requires c κs = search needs
 
 returns-3 : tie.Need-returns-3
 returns-3 c =
-    let at-test = c .before .before .before .before .before .before in
+    let at-test = c .before .before .before .before in
     let frequency = at-test .before .before .frequency in
     let accepted = at-test .motion-accepted in
-    simp (← frequency .ensures, not-false (frequency .result) (at-test .before .if1 .left), ← accepted .ensures, not-false (accepted .result) (c .before .before .before .before .before .if2 .left), ← c .attenuation-db .ensures)
+    simp (← frequency .ensures, not-false (frequency .result) (at-test .before .if1 .left), ← accepted .ensures, not-false (accepted .result) (c .before .before .before .if2 .left), ← c .attenuation-db .ensures)
 
 pub motion-attenuation-db-spec : {M : Type 1} → statement M
 motion-attenuation-db-spec =
@@ -44,7 +41,6 @@ motion-attenuation-db-spec =
     returns
     motion-accepted-requires
     returns-2
-    power-table-requires
     sine-table-requires
     attenuation-db-requires
     returns-3)

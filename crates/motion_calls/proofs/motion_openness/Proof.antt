@@ -20,9 +20,6 @@ returns-2 c =
     let accepted = c .before .motion-accepted in
     simp (← frequency .ensures, not-false (frequency .result) (c .before .before .if1 .left), ← accepted .ensures, not-true (accepted .result) (c .if2 .taken))
 
-power-table-requires : tie.Need-power-table-requires
-power-table-requires c κs = search needs
-
 sine-table-requires : tie.Need-sine-table-requires
 sine-table-requires c κs = search needs
 
@@ -31,10 +28,10 @@ openness-requires c κs = search needs
 
 returns-3 : tie.Need-returns-3
 returns-3 c =
-    let at-test = c .before .before .before .before .before .before in
+    let at-test = c .before .before .before .before in
     let frequency = at-test .before .before .frequency in
     let accepted = at-test .motion-accepted in
-    simp (← frequency .ensures, not-false (frequency .result) (at-test .before .if1 .left), ← accepted .ensures, not-false (accepted .result) (c .before .before .before .before .before .if2 .left), ← c .openness .ensures)
+    simp (← frequency .ensures, not-false (frequency .result) (at-test .before .if1 .left), ← accepted .ensures, not-false (accepted .result) (c .before .before .before .if2 .left), ← c .openness .ensures)
 
 pub motion-openness-spec : {M : Type 1} → statement M
 motion-openness-spec =
@@ -44,7 +41,6 @@ motion-openness-spec =
     returns
     motion-accepted-requires
     returns-2
-    power-table-requires
     sine-table-requires
     openness-requires
     returns-3)
