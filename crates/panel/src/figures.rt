@@ -32,8 +32,7 @@ pub fn print_in_column(width: usize, n: u64) {
 }
 
 pub fn decibels(gain: f32) -> f32 {
-    let powers = power::table::power_table();
-    20.0 * power::decimal::log10(&powers, gain)
+    20.0 * single_power::log10(gain)
 }
 
 // n hundredths, with two decimals.

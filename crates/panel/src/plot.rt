@@ -5,15 +5,11 @@ use crate::figures::decibels;
 use crate::figures::print;
 use crate::figures::print_count;
 use counts::floor_to_count;
+use single_power::log2;
 
 const HIGHEST_DB: f32 = 12.0;
 
 const LOWEST_DB: f32 = -84.0;
-
-fn log2(x: f32) -> f32 {
-    let powers = power::table::power_table();
-    power::log2::log2(&powers, x)
-}
 
 fn across(log2_hz: f32) -> usize {
     floor_to_count((log2_hz - log2(20.0)) * 1000.0)
