@@ -19,8 +19,8 @@ ghost use Rattle.motion_rows.specs.Rows.{gainThere};
 ghost use Rattle.motion_compensation.specs.Compensation.{MOTION-COMPENSATION-SAMPLES};
 ghost use Rattle.motion_compensation.specs.Compensation.{meanSquare, compensation};
 use crate::octaves::octave_table;
-use decibels::gain;
 use decibels::rows::gains;
+use decibels::single_gain;
 use float32::order::min;
 use float32::powers::powi2;
 use motion::field::RESTING_DEPTH_DB;
@@ -74,5 +74,5 @@ pub fn compensation_gain(powers: &PowerTable, sines: &SineTable, config: MotionC
         return 1.0;
     }
     let root = sqrt(mean_square(powers, sines, config));
-    min(1.0 / root, gain(powers, MAX_MOTION_COMPENSATION_DB))
+    min(1.0 / root, single_gain(MAX_MOTION_COMPENSATION_DB))
 }

@@ -1,4 +1,5 @@
--- "For each of the 128 notes at tuning 0 the frequency f satisfies
+-- Document 01's sentence with the bound of request 103: "For each of the 128 notes at tuning 0 the
+-- frequency f satisfies
 -- (f * (1 - 2 ^ -20)) ^ 12 ≤ 440 ^ 12 * 2 ^ (note - 69) ≤ (f * (1 + 2 ^ -20)) ^ 12", over whole
 -- numbers: f is above f / below f, and the denominators and 2 ^ 69 are multiplied out. Assumes
 -- nothing.

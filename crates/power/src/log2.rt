@@ -108,9 +108,8 @@ pub fn log_in_step(v: f32, t: u32, h: u32, a: u32, b: u32) -> f32
 // within the step by one division. F / 2^24 and e are exact, and their sum is rounded once. No
 // branch depends on the value of a positive normal v. power_rows does the same for a row of
 // numbers.
-// Error, measured over every mantissa at 14 of the exponents: F / 2^24 is at most 1.4e-6 below and
-// 1.5e-9 above the fraction of log2(v), to which the rounding adds up to half a unit of the last
-// place.
+// Error, measured over every mantissa: F / 2^24 is at most 1.4e-7 below and 2.1e-9 above the
+// fraction of log2(v), to which the rounding adds up to half a unit of the last place.
 pub fn log2(powers: &PowerTable, v: f32) -> f32
     requires { ⌜ now powers ≡ powerTable ⌝ }
     ensures { λ r. ⌜ r ≡ L2 v ⌝ }

@@ -16,17 +16,17 @@ mean-square-requires c κs = search needs
 sqrt-requires : tie.Need-sqrt-requires
 sqrt-requires c κs = search needs
 
-gain-requires : tie.Need-gain-requires
-gain-requires c κs = search needs
+single-gain-requires : tie.Need-single-gain-requires
+single-gain-requires c κs = search needs
 
 min-requires : tie.Need-min-requires
 min-requires c κs = search needs
 
 returns-2 : tie.Need-returns-2
 unfolding compensation
-returns-2 c = simp (c .before .before .before .before .if1 .left) (c .min .ensures ∙ simp (c .before .gain .ensures, c .before .before .sqrt .ensures, c .before .before .before .mean-square .ensures))
+returns-2 c = simp (c .before .before .before .before .if1 .left) (c .min .ensures ∙ simp (c .before .single-gain .ensures, c .before .before .sqrt .ensures, c .before .before .before .mean-square .ensures))
 
 pub compensation-gain-spec : {M : Type 1} → statement M
 compensation-gain-spec =
     tie.close
-    (tie.spec returns mean-square-requires sqrt-requires gain-requires min-requires returns-2)
+    (tie.spec returns mean-square-requires sqrt-requires single-gain-requires min-requires returns-2)
