@@ -19,8 +19,8 @@ use scene::MaskConfig;
 use scene::MotionConfig;
 use sine::table::SineTable;
 
-// How many bins are computed at a time: enough that the calls of the stages take little of the time,
-// few enough that the row stays in the first-level cache.
+// How many bins are computed at a time: enough that the calls of the stages take little time, few
+// enough that the row stays in the first-level cache.
 const ROW: usize = 256;
 
 // What all bins of a mask share, computed once from its settings.

@@ -67,8 +67,8 @@ fn take_digits(digits: &mut [u32], row: &[f32], start: usize, count: usize)
     }
 }
 
-// The step of each number's digits, with the table's entries at its ends. This is the stage with the
-// lookups: the others have none.
+// The step of each number's digits, with the table's entries at its ends. Only this stage has
+// lookups.
 fn find_steps(
     steps: &mut [u32],
     from: &mut [u32],

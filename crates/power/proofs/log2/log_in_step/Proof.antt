@@ -9,7 +9,6 @@ use lib.Bits.{bitAnd, and-mask}
 use lib.Dec.{T}
 use lib.IntN.{ℤ, pos, subℕ, _-ℤ_}
 use lib.Ieee.{Float, binary32, round, add, ofInt, fits, toBits}
-use borrow.Author.Needs.{needs}
 use mir.Syntax.{w32}
 use mir.Val.{toZ, ofZ}
 use Rattle.power.specs.Table.{I}
