@@ -280,32 +280,36 @@ fn partial_at_nyquist() {
     }
 }
 
+/// Scenes of one note whose lobe ends at a bin, or within some steps of its rate from there.
+fn at_an_end(note: u8, fft_size: usize) -> impl Iterator<Item = Scene> {
+    let fundamental = original_oiko::note_frequency(note);
+    let ends = [-4.0_f32, 4.0].map(|end| fundamental * 2.0_f32.powf(end * 100.0 / 1200.0));
+    let places = ends.into_iter().flat_map(move |edge| {
+        (2..fft_size / 4).map(move |bin| edge * fft_size as f32 / bin as f32)
+    });
+    let steps = |rate: f32| (-8..=8).map(move |k| rate.to_bits().wrapping_add_signed(k));
+    let rates = places.flat_map(steps).map(f32::from_bits);
+    let accepted = rates.filter(|rate| (8_000.0..=192_000.0).contains(rate));
+    accepted.map(move |sample_rate| {
+        let config = MaskConfig {
+            sample_rate,
+            fft_size,
+            note_depth_db: 144.0,
+            ..MaskConfig::default()
+        };
+        one_voice(config, note, 1.0)
+    })
+}
+
 /// A step of the powers decides whether a bin is the first or the last of a lobe.
 fn edge_of_a_lobe() {
     println!("\n## A bin that only one of the two ranges of a lobe holds");
-    let fundamental = original_oiko::note_frequency(69);
     for fft_size in [64, 128, 256, 512, 1024] {
-        for end in [-4.0_f32, 4.0] {
-            for bin in 2..fft_size / 4 {
-                let edge = fundamental * 2.0_f32.powf(end * 100.0 / 1200.0);
-                let rate = edge * fft_size as f32 / bin as f32;
-                for step in -8..=8_i32 {
-                    let config = MaskConfig {
-                        sample_rate: f32::from_bits(rate.to_bits().wrapping_add_signed(step)),
-                        fft_size,
-                        note_depth_db: 144.0,
-                        ..MaskConfig::default()
-                    };
-                    if !(8_000.0..=192_000.0).contains(&config.sample_rate) {
-                        continue;
-                    }
-                    let scene = one_voice(config, 69, 1.0);
-                    for (bin, a, b) in differing(&plain(&scene), &agreed(&scene)) {
-                        if decibels(a, b) > 1.0 {
-                            show(&scene, bin, ("std", a), ("agreed", b));
-                            return;
-                        }
-                    }
+        for scene in (57..=81).flat_map(|note| at_an_end(note, fft_size)) {
+            for (bin, a, b) in differing(&plain(&scene), &agreed(&scene)) {
+                if decibels(a, b) > 1.0 {
+                    show(&scene, bin, ("std", a), ("agreed", b));
+                    return;
                 }
             }
         }
