@@ -12,7 +12,7 @@ use std::path::{Path, PathBuf};
 
 /// The longest line of a list.
 const COLUMNS: usize = 100;
-/// The steps of a row of P, where it stands in rows.
+/// The entries of a row of P, where it stands in rows.
 const ROW: usize = 32;
 
 enum Entries {
@@ -125,23 +125,16 @@ fn list_lines(entries: &[String]) -> String {
     lines.join("\n") + "\n"
 }
 
-/// Row after row of steps, with the entries at both ends of each, as the arms of a `match`.
+/// Row after row of entries as the arms of a `match`, and the table's end in the last arm.
 fn row_lines(entries: &[String]) -> String {
-    let rows = entries.len() / ROW;
-    let row = |k: usize| {
-        let key = if k + 1 < rows {
-            k.to_string()
-        } else {
-            String::from("_")
-        };
-        let ends = &entries[k * ROW..=(k + 1) * ROW];
-        let lines: String = ends
-            .iter()
-            .map(|entry| format!("            {entry},\n"))
-            .collect();
-        format!("        {key} => of_row(\n            i,\n{lines}        ),\n")
+    let line = |entry: &String| format!("            {entry},\n");
+    let row = |(k, entries): (usize, &[String])| {
+        let lines: String = entries.iter().map(line).collect();
+        format!("        {k} => of_row(\n            i,\n{lines}        ),\n")
     };
-    (0..rows).map(row).collect::<String>() + "    }\n}\n"
+    let (end, entries) = entries.split_last().expect("a table has an end");
+    let rows: String = entries.chunks(ROW).enumerate().map(row).collect();
+    format!("{rows}        _ => {end},\n    }}\n}}\n")
 }
 
 /// A table as one file of the port has it.
@@ -186,7 +179,7 @@ impl Block {
 
 /// Each table as its two files have it, and P in rows.
 pub fn blocks() -> Vec<Block> {
-    let in_rows = ["src/ends.rt", "    match h / 32 {"];
+    let in_rows = ["src/entries.rt", "    match j / 32 {"];
     let rows = row_lines(&Entries::Whole(POWERS.to_vec()).in_code());
     let mut blocks = vec![Block::new("single_power", in_rows, rows)];
     for table in &TABLES {

@@ -82,7 +82,7 @@ all-roots =
     (every-join isEntry 128 896 (drop 896 powerTable) from-896 from-1024)))))))
 
 -- P has 1,025 entries
-pub powers-length : length powerTable ≡ 1025
+pub powers-length : length powerTable ≡ suc (2 ^ highBits)
 unfolding powerTable
 powers-length = refl
 

@@ -1,19 +1,19 @@
 -- P of document 01, entry by entry, and I(F), the linear interpolation between its entries. That
 -- each entry is the right one is shown in `Rules.antt`.
 -- Assumes nothing.
-use Prim.Native.Nat.{ℕ}
+use Prim.Native.Nat.{ℕ, _-_}
 use mathlib.Core.List.{List, [], _∷_}
 use lib.ListN.{getD}
 use Rattle.lists.specs.Interpolation.{interp}
 
 -- F has 24 bits: the high ones, floor (F / 2 ^ lowBits), choose one of the 2 ^ highBits steps of
 -- the table, and the low ones the position within the step.
--- The number of steps is set only here: the laws hold for any highBits and lowBits that add to 24.
+-- The number of steps is set only here: the laws hold for any highBits up to 24.
 abbrev pub highBits : ℕ
 highBits = 10
 
 abbrev pub lowBits : ℕ
-lowBits = 14
+lowBits = 24 - highBits
 
 unfoldable pub powerTable : List ℕ
 powerTable =
@@ -169,7 +169,7 @@ powerTable =
 abbrev pub P : ℕ → ℕ
 P j = getD powerTable j 0
 
--- I(F) = P[h] + floor ((P[h + 1] - P[h]) * r / 2 ^ 14) with h = floor (F / 2 ^ 14) and
--- r = F mod 2 ^ 14: `interp w p` says it for a table p and w low bits
+-- I(F) = P[h] + floor ((P[h + 1] - P[h]) * r / 2 ^ lowBits) with h = floor (F / 2 ^ lowBits) and
+-- r = F mod 2 ^ lowBits: `interp w p` says it for a table p and w low bits
 abbrev pub I : ℕ → ℕ
 I F = interp lowBits P F

@@ -64,9 +64,10 @@ fn power_between(powers: &PowerTable, x: f32) -> f32
 //
 // Method. x + 128 is rounded down to a multiple of 2^-24 by one addition (fixed_point): its integer
 // part gives the exponent of the result, its 24 fraction bits are F. The table P (table.rt) holds
-// 2^(30 + h/1024) rounded down; the 10 high bits of F choose an entry, and the 14 low bits
-// interpolate linearly to the next. The 24 leading bits of that are added to the exponent field.
-// power_rows does the same for a row of numbers, single_power for one number without the table.
+// the powers from 2^30 to 2^31 in equal steps of the exponent, rounded down; the high bits of F
+// choose an entry, and the low bits interpolate linearly to the next. The 24 leading bits of that
+// are added to the exponent field. power_rows does the same for a row of numbers, single_power for
+// one number without the table.
 // Error, measured over the floats from -126 to 128: from -1.6e-7 to 5.7e-8 of 2^x. The line lies
 // above the curve, and rounding down lowers it.
 pub fn exp2(powers: &PowerTable, x: f32) -> f32

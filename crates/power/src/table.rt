@@ -2,16 +2,18 @@ ghost use mathlib.Core.Path.{_≡_};
 ghost use Prim.Native.Nat.{_+_, _/_, _^_, _<_, _≤_};
 ghost use Rattle.power.specs.Table.{highBits, lowBits, powerTable, P, I};
 
-// The table P of document 01, 2^(30 + j/1024) rounded down: one step for each value of F's 10 high
-// bits, and the end of the last. exp2 and log2 read it, here and in power_rows; its rule is proved
-// for all entries together in specs/Rules.antt.
-pub type PowerTable = [u32; 1025];
-
 // F has 24 bits: the high ones choose a step of the table, the low ones the position within the
-// step.
-pub const LOW_BITS: u64 = 14;
+// step. The number of steps is set only here.
+const HIGH_BITS: u64 = 10;
 
-pub(crate) const LOW_MASK: u64 = 0x3fff;
+pub const LOW_BITS: u64 = 24 - HIGH_BITS;
+
+pub(crate) const LOW_MASK: u64 = (1 << LOW_BITS) - 1;
+
+// The table P of document 01: 2^30 to 2^31 in steps of equal ratio, rounded down, and the end of the
+// last step. exp2 and log2 read it, here and in power_rows; its rule is proved for all entries
+// together in specs/Rules.antt.
+pub type PowerTable = [u32; (1 << HIGH_BITS) + 1];
 
 // P, made once and lent to every function that reads it.
 pub fn power_table() -> PowerTable

@@ -18,7 +18,7 @@ use Rattle.power.specs.Power.{positiveZero}
 use Rattle.power.specs.Log.{positiveNormal, rounded, L2}
 use Rattle.power.specs.Table.{P}
 use Rattle.power.specs.Stages.{digitsOf}
-use Rattle.power_rows.specs.Log2.{readyOf, stepOf, fromOf, toOf, Scaled, Found}
+use Rattle.power_rows.specs.Log2.{readyOf, stepOf, fromOf, toOf, Room, Scaled, Found}
 use Rattle.power.proofs.LogParts.{digits-in}
 use Rattle.power.proofs.Logs.{L2-elsewhere}
 use Rattle.power.proofs.LogRange.{L2-of-power}
@@ -60,11 +60,11 @@ ready-at start stop xs ys room e i l u =
     (ready-normal (getD xs i nan))
 
 module _ (start count : ℕ) (row : List Float) (digits₀ steps₀ from₀ to₀ : List ℕ)
-    (room : (count ≤ length digits₀) × (count ≤ length steps₀) × (count ≤ length from₀) × (count ≤ length to₀))
+    (room : Room digits₀ steps₀ from₀ to₀ count)
     (normal : (k : ℕ) → k < count → T (positiveNormal (getD row (start + k) nan))) where
   module _ {digits : List ℕ} (a : digits ≡ mapRange (λ k held. digitsOf (getD row (start + k) nan)) 0 count digits₀) where
     digits-at : (k : ℕ) → k < count → getD digits k 0 ≡ digitsOf (getD row (start + k) nan)
-    digits-at = row-at 0 (λ k. digitsOf (getD row (start + k) nan)) count digits₀ (room .0) a
+    digits-at = row-at 0 (λ k. digitsOf (getD row (start + k) nan)) count digits₀ (room .in-digits) a
 
     pub scaled-at : (k : ℕ) → k < count → Scaled (getD digits k 0)
     scaled-at k h = let b = digits-in (getD row (start + k) nan) in record { low = rw (digits-at k h) (b .0); high = rw (digits-at k h) (b .1) }
@@ -74,15 +74,15 @@ module _ (start count : ℕ) (row : List Float) (digits₀ steps₀ from₀ to�
         → to ≡ mapRange (λ k held. toOf (getD digits k 0)) 0 count to₀
         → (k : ℕ) → k < count → Found (getD row (start + k) nan) (getD digits k 0) (getD steps k 0) (getD from k 0) (getD to k 0)
     found-at s f t k h =
-        let e = row-at 0 (λ k. stepOf (getD digits k 0)) count steps₀ (room .1) s k h in
+        let e = row-at 0 (λ k. stepOf (getD digits k 0)) count steps₀ (room .in-steps) s k h in
         record {
           normal = normal k h;
           digits = digits-at k h;
           ends =
               record {
                 step = e;
-                from = row-at 0 (λ k. fromOf (getD digits k 0)) count from₀ (room .2) f k h ∙ ap P (sym e);
-                to = row-at 0 (λ k. toOf (getD digits k 0)) count to₀ (room .3) t k h ∙ ap (λ (j : ℕ). P (j + 1)) (sym e);
+                from = row-at 0 (λ k. fromOf (getD digits k 0)) count from₀ (room .in-from) f k h ∙ ap P (sym e);
+                to = row-at 0 (λ k. toOf (getD digits k 0)) count to₀ (room .in-to) t k h ∙ ap (λ (j : ℕ). P (j + 1)) (sym e);
               };
         }
 

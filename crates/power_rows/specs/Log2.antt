@@ -1,8 +1,10 @@
 -- A logarithm by the stages in which a row of numbers is computed. Assumes nothing.
 use mathlib.Core.Path.{_≡_}
 use mathlib.Core.Bool.{cond}
+use mathlib.Core.List.{List}
 use Prim.Native.Nat.{ℕ, _+_, _^_, _≤_, _<_}
 use lib.Dec.{T}
+use lib.ListN.{length}
 use lib.Ieee.{Float}
 use Rattle.float32.specs.Remainder.{one}
 use Rattle.power.specs.Table.{highBits, P}
@@ -22,6 +24,13 @@ fromOf t = P (stepOf t)
 
 abbrev pub toOf : ℕ → ℕ
 toOf t = P (stepOf t + 1)
+
+-- room for what the stages find of some numbers
+pub record Room (digits steps from to : List ℕ) (count : ℕ) : Type 0 where
+  pub in-digits : count ≤ length digits
+  pub in-steps : count ≤ length steps
+  pub in-from : count ≤ length from
+  pub in-to : count ≤ length to
 
 -- t are the digits of some number, scaled as the table's entries are
 pub record Scaled (t : ℕ) : Type 0 where

@@ -15,7 +15,7 @@ ghost use Rattle.power.specs.Table.{powerTable};
 ghost use Rattle.power.specs.Log.{positiveNormal, L2};
 ghost use Rattle.power.specs.Decimal.{log10};
 ghost use Rattle.power.specs.Stages.{digitsOf};
-ghost use Rattle.power_rows.specs.Log2.{readyOf, stepOf, fromOf, toOf, Scaled, Found};
+ghost use Rattle.power_rows.specs.Log2.{readyOf, stepOf, fromOf, toOf, Room, Scaled, Found};
 use crate::exp2::scale;
 use counts::lesser;
 use float32::constants::LOG10_2;
@@ -78,10 +78,7 @@ fn find_steps(
     count: usize,
 )
     requires { ⌜ (now powers ≡ powerTable)
-        × (count ≤ length (now steps))
-        × (count ≤ length (now from))
-        × (count ≤ length (now to))
-        × (count ≤ length (now digits))
+        × Room (now digits) (now steps) (now from) (now to) count
         × ((k : ℕ) → k < count → Scaled (getD (now digits) k 0)) ⌝ }
     ensures { λ _. ⌜ (now (steps .exit) ≡ mapRange
         (λ k held. stepOf (getD (now (digits .entry)) k 0)) 0 count (now (steps .entry)))
@@ -110,10 +107,7 @@ fn take_logs(
     count: usize,
 )
     requires { ⌜ (start + count ≤ length (now row))
-        × (count ≤ length (now digits))
-        × (count ≤ length (now steps))
-        × (count ≤ length (now from))
-        × (count ≤ length (now to))
+        × Room (now digits) (now steps) (now from) (now to) count
         × ((k : ℕ) → k < count → Found (getD (now row) (start + k) nan) (getD (now digits) k 0)
         (getD (now steps) k 0) (getD (now from) k 0) (getD (now to) k 0)) ⌝ }
     ensures { λ _. ⌜ now (row .exit)
@@ -141,10 +135,7 @@ fn few_logs(
 )
     requires { ⌜ (now powers ≡ powerTable)
         × (start + count ≤ length (now row))
-        × (count ≤ length (now digits))
-        × (count ≤ length (now steps))
-        × (count ≤ length (now from))
-        × (count ≤ length (now to)) ⌝ }
+        × Room (now digits) (now steps) (now from) (now to) count ⌝ }
     ensures { λ _. ⌜ now (row .exit)
         ≡ mapRange (λ i v. L2 v) start (start + count) (now (row .entry)) ⌝ }
 {

@@ -1,5 +1,5 @@
 // Powers and logarithms of one number, without a copy of the table of `power`: a call that wants
-// one of them reads the two or three entries that it needs (ends.rt).
+// one of them reads the two or three entries that it needs (entries.rt).
 ghost use mathlib.Core.Path.{_≡_};
 ghost use Prim.Native.Nat.{_^_, _<_};
 ghost use lib.Dec.{T};
@@ -8,6 +8,7 @@ ghost use Rattle.power.specs.Table.{I};
 ghost use Rattle.power.specs.Power.{lowest, limit, E2};
 ghost use Rattle.power.specs.Log.{L2};
 ghost use Rattle.power.specs.Decimal.{pow10, exp, log10};
+use crate::entries::entry;
 use float32::constants::LOG2_10;
 use float32::constants::LOG2_E;
 use float32::constants::LOG10_2;
@@ -26,15 +27,15 @@ use power::log2::step_from;
 use power::table::LOW_BITS;
 use power::table::between;
 
-pub mod ends;
+pub mod entries;
 
 // I(F), from the two entries around it.
 fn interpolate(f: u64) -> u64
     requires { ⌜ f < 2 ^ 24 ⌝ }
     ensures { λ r. ⌜ r ≡ I f ⌝ }
 {
-    let step = ends::of_step((f >> LOW_BITS) as usize);
-    between(step.from as u64, step.to as u64, f)
+    let h = (f >> LOW_BITS) as usize;
+    between(entry(h) as u64, entry(h + 1) as u64, f)
 }
 
 // 2^x for an x between the ends.
@@ -88,9 +89,8 @@ pub fn log2(v: f32) -> f32
     }
     let t = digits(v);
     let guessed = guess(t);
-    let h = step_from(guessed as u32, ends::of_step(guessed as usize).to, t);
-    let step = ends::of_step(h as usize);
-    log_in_step(v, t, h, step.from, step.to)
+    let h = step_from(guessed as u32, entry(guessed as usize + 1), t);
+    log_in_step(v, t, h, entry(h as usize), entry(h as usize + 1))
 }
 
 // log10(v) of document 01.

@@ -1,6 +1,7 @@
 -- `log2` meets its contract: a v that passes both tests is positive and normal, and of any other
 -- the logarithm is 0. Assumes nothing.
 use Prim.Native.Nat.{ℕ, _^_, _≤_, _<_}
+use native.Mathlib.Omega.{arith}
 use lib.Dec.{T}
 use borrow.Author.Needs.{needs}
 use Rattle.power.specs.Log.{positiveNormal}
@@ -48,26 +49,38 @@ guess-requires c κs = search needs
 cast-step-from : tie.Need-cast-step-from
 cast-step-from c = search needs
 
-cast-of-step : tie.Need-cast-of-step
-cast-of-step c = search needs
+cast-entry : tie.Need-cast-entry
+cast-entry c = search needs
 
-of-step-requires : tie.Need-of-step-requires
-of-step-requires c κs = guessed c .within
+add-entry : tie.Need-add-entry
+add-entry c = search needs
+
+entry-requires : tie.Need-entry-requires
+entry-requires c κs = let l = guessed c .within in omega arith
 
 step-from-requires : tie.Need-step-from-requires
-step-from-requires c κs = let d = c .before .before in (from d, below d, c .before .guess .ensures, c .of-step .ensures .1)
+step-from-requires c κs = let d = c .before .before in (from d, below d, c .before .guess .ensures, c .entry .ensures)
 
-cast-of-step-2 : tie.Need-cast-of-step-2
-cast-of-step-2 c = search needs
+cast-entry-2 : tie.Need-cast-entry-2
+cast-entry-2 c = search needs
 
-of-step-requires-2 : tie.Need-of-step-requires-2
-of-step-requires-2 c κs = stepped c .within
+entry-requires-2 : tie.Need-entry-requires-2
+entry-requires-2 c κs = let l = stepped c .within in omega arith
+
+cast-entry-3 : tie.Need-cast-entry-3
+cast-entry-3 c = search needs
+
+add-entry-2 : tie.Need-add-entry-2
+add-entry-2 c = search needs
+
+entry-requires-3 : tie.Need-entry-requires-3
+entry-requires-3 c κs = let l = stepped (c .before) .within in omega arith
 
 log-in-step-requires : tie.Need-log-in-step-requires
 log-in-step-requires c κs =
-    let s = c .before in
+    let s = c .before .before in
     let d = s .before .before .before in
-    (normal (d .before), d .digits .ensures, record { step = s .step-from .ensures; from = c .of-step2 .ensures .0; to = c .of-step2 .ensures .1 })
+    (normal (d .before), d .digits .ensures, record { step = s .step-from .ensures; from = c .before .entry2 .ensures; to = c .entry3 .ensures })
 
 returns-3 : tie.Need-returns-3
 returns-3 c = c .log-in-step .ensures
@@ -81,10 +94,14 @@ log2-spec =
     digits-requires
     guess-requires
     cast-step-from
-    cast-of-step
-    of-step-requires
+    cast-entry
+    add-entry
+    entry-requires
     step-from-requires
-    cast-of-step-2
-    of-step-requires-2
+    cast-entry-2
+    entry-requires-2
+    cast-entry-3
+    add-entry-2
+    entry-requires-3
     log-in-step-requires
     returns-3)

@@ -2,10 +2,10 @@
 -- others find the steps of those (proofs/Ready.antt). Assumes nothing.
 use mathlib.Core.Path.{ap, _∙_}
 use mathlib.Core.List.{List}
-use Prim.Native.Nat.{ℕ, _+_, _≤_, _<_}
+use Prim.Native.Nat.{ℕ, _+_, _<_}
 use native.Mathlib.Omega.{arith}
 use lib.Dec.{T}
-use lib.ListN.{length, getD}
+use lib.ListN.{getD}
 use lib.Ieee.{Float, nan}
 use borrow.Author.Needs.{needs}
 use Rattle.lists.specs.Maps.{mapRange}
@@ -17,10 +17,6 @@ use Rattle.power_rows.proofs.log2.few_logs.Tie as tie
 module _ (m : tie.After-make-ready) where
   abbrev s : tie.Start
   s = m .before .before .before .before .before .before .before
-
-  -- the lent buffers have room
-  rooms : (s .args .count ≤ length (s .args .digits .now)) × (s .args .count ≤ length (s .args .steps .now)) × (s .args .count ≤ length (s .args .from .now)) × (s .args .count ≤ length (s .args .to .now))
-  rooms = (s .pre .2, s .pre .3, s .pre .4, s .pre .5)
 
   normal : (k : ℕ) → k < s .args .count → T (positiveNormal (getD (m .make-ready .last .0) (s .args .start + k) nan))
   normal k l = ready-at (s .args .start) (s .args .start + s .args .count) (s .args .row .now) _ (s .pre .1) (m .make-ready .ensures) _ (omega arith) (omega arith)
@@ -34,19 +30,22 @@ make-ready-requires c κs = search needs
 take-digits-requires : tie.Need-take-digits-requires
 take-digits-requires c κs =
     let m = c .before .before .before .before in
-    (s m .pre .2, omega (arith, s m .pre .1, m .make-ready .kept .0), normal m)
+    (s m .pre .2 .in-digits, omega (arith, s m .pre .1, m .make-ready .kept .0), normal m)
 
 find-steps-requires : tie.Need-find-steps-requires
 find-steps-requires c κs =
     let d = c .before .before .before .before .before .before in
     let m = d .before .before .before .before .before in
-    let a = s m .args in (
+    let a = s m .args in
+    let room = s m .pre .2 in (
       s m .pre .0,
-      s m .pre .3,
-      s m .pre .4,
-      s m .pre .5,
-      omega (arith, s m .pre .2, d .take-digits .kept .0),
-      scaled-at (a .start) (a .count) (m .make-ready .last .0) (a .digits .now) (a .steps .now) (a .from .now) (a .to .now) (rooms m) (normal m) (d .take-digits .ensures),
+      record {
+        in-digits = omega (arith, room .in-digits, d .take-digits .kept .0);
+        in-steps = room .in-steps;
+        in-from = room .in-from;
+        in-to = room .in-to;
+      },
+      scaled-at (a .start) (a .count) (m .make-ready .last .0) (a .digits .now) (a .steps .now) (a .from .now) (a .to .now) room (normal m) (d .take-digits .ensures),
     )
 
 take-logs-requires : tie.Need-take-logs-requires
@@ -54,13 +53,16 @@ take-logs-requires c κs =
     let f = c .before .before .before .before .before .before .before .before .before .before .before in
     let d = f .before .before .before .before .before .before .before in
     let m = d .before .before .before .before .before in
-    let a = s m .args in (
+    let a = s m .args in
+    let room = s m .pre .2 in (
       omega (arith, s m .pre .1, m .make-ready .kept .0),
-      omega (arith, s m .pre .2, d .take-digits .kept .0),
-      omega (arith, s m .pre .3, f .find-steps .kept .0),
-      omega (arith, s m .pre .4, f .find-steps .kept .1 .0),
-      omega (arith, s m .pre .5, f .find-steps .kept .1 .1 .0),
-      found-at (a .start) (a .count) (m .make-ready .last .0) (a .digits .now) (a .steps .now) (a .from .now) (a .to .now) (rooms m) (normal m) (d .take-digits .ensures)
+      record {
+        in-digits = omega (arith, room .in-digits, d .take-digits .kept .0);
+        in-steps = omega (arith, room .in-steps, f .find-steps .kept .0);
+        in-from = omega (arith, room .in-from, f .find-steps .kept .1 .0);
+        in-to = omega (arith, room .in-to, f .find-steps .kept .1 .1 .0);
+      },
+      found-at (a .start) (a .count) (m .make-ready .last .0) (a .digits .now) (a .steps .now) (a .from .now) (a .to .now) room (normal m) (d .take-digits .ensures)
           (f .find-steps .ensures .0) (f .find-steps .ensures .1) (f .find-steps .ensures .2),
     )
 

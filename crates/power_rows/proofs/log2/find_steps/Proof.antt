@@ -32,7 +32,7 @@ module _ (c : tie.In-loop Inv-loop μ-loop) where
   t = getD (s .args .digits .now) (c .before .loop .k) 0
 
   scaled : Scaled t
-  scaled = s .pre .5 (c .before .loop .k) (c .loop-test .taken)
+  scaled = s .pre .2 (c .before .loop .k) (c .loop-test .taken)
 
 found : (c : tie.After-step-of Inv-loop μ-loop) → Step (t (c .before .before)) (c .step-of .result)
 found c = let i = c .before .before in step-is (t i) (c .step-of .result) (scaled i .low) (scaled i .high) (c .step-of .ensures)
@@ -91,9 +91,9 @@ loop-again c =
     let i = f .before .before in
     let v = i .before .loop .inv in (
       omega arith,
-      turned-more 0 (v .1) (omega (arith, s i .pre .1)) (f .step-of .ensures),
-      turned-more 0 (v .2) (omega (arith, s i .pre .2)) (c .before .entry .ensures ∙ ap P (f .step-of .ensures)),
-      turned-more 0 (v .3) (omega (arith, s i .pre .3)) (c .entry2 .ensures ∙ ap (λ (h : ℕ). P (h + 1)) (f .step-of .ensures)),
+      turned-more 0 (v .1) (omega (arith, s i .pre .1 .in-steps)) (f .step-of .ensures),
+      turned-more 0 (v .2) (omega (arith, s i .pre .1 .in-from)) (c .before .entry .ensures ∙ ap P (f .step-of .ensures)),
+      turned-more 0 (v .3) (omega (arith, s i .pre .1 .in-to)) (c .entry2 .ensures ∙ ap (λ (h : ℕ). P (h + 1)) (f .step-of .ensures)),
     )
 
 same-length : tie.Need-same-length Inv-loop μ-loop

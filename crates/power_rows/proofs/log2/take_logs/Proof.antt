@@ -69,7 +69,7 @@ log-in-step-requires c κs =
     let f =
     subst (λ (v : Float). Found v (getD (s .args .digits .now) k 0) (getD (s .args .steps .now) k 0) (getD (s .args .from .now) k 0) (getD (s .args .to .now) k 0))
     (ap (λ (n : ℕ). getD (s .args .row .now) n nan) z ∙ sym (turned-read nan (l .loop .inv .0) (omega (arith, s .pre .0))))
-    (s .pre .5 k (omega arith)) in
+    (s .pre .2 k (omega arith)) in
     (f .normal, f .digits, f .ends)
 
 mul-row : tie.Need-mul-row Inv-loop μ-loop

@@ -1,21 +1,17 @@
-// The table P of `power` for a call that reads two entries of it.
+// The table P of `power`, entry by entry, for a call that reads two or three of them.
 //
 // A constant array is written out on the stack wherever it is named, 4 KB for P, which takes most
 // of the time of such a call. A `match` over constants is compiled to a read of memory instead. One
-// of 1,024 arms takes too long to prove, so there are two: over the 32 rows of the table, and over
-// the 32 steps of a row. A caller of many powers makes P once and lends it.
+// of 1,024 arms takes too long to prove, so there are two: over the rows of 32 entries, and over
+// the entries of a row. The answer is one entry: two of them would be handed back through memory,
+// which takes longer than a second read. A caller of many powers makes P once and lends it.
 ghost use mathlib.Core.Path.{_≡_};
-ghost use Prim.Native.Nat.{_+_, _^_, _<_};
+ghost use Prim.Native.Nat.{_^_, _<_, _≤_};
+ghost use lib.ListN.{getD};
 ghost use Rattle.power.specs.Table.{highBits, P};
-ghost use Rattle.single_power.specs.Rows.{rowOf, EndsOf};
+ghost use Rattle.single_power.specs.Rows.{rowOf};
 
-// P at the two ends of a step: P[h] and P[h + 1].
-pub struct Step {
-    pub from: u32,
-    pub to: u32,
-}
-
-// The ends of step i of a row of 32, whose entries are e0 to e32.
+// Entry i of a row.
 fn of_row(
     i: usize,
     e0: u32,
@@ -50,56 +46,55 @@ fn of_row(
     e29: u32,
     e30: u32,
     e31: u32,
-    e32: u32,
-) -> Step
+) -> u32
     requires { ⌜ i < 32 ⌝ }
-    ensures { λ r. ⌜ EndsOf
+    ensures { λ r. ⌜ r ≡ getD
         (rowOf e0 e1 e2 e3 e4 e5 e6 e7 e8 e9 e10 e11 e12 e13 e14 e15 e16 e17 e18 e19 e20 e21 e22 e23
-        e24 e25 e26 e27 e28 e29 e30 e31 e32) i (r .from) (r .to) ⌝ }
+        e24 e25 e26 e27 e28 e29 e30 e31) i 0 ⌝ }
 {
     match i {
-        0 => Step { from: e0, to: e1 },
-        1 => Step { from: e1, to: e2 },
-        2 => Step { from: e2, to: e3 },
-        3 => Step { from: e3, to: e4 },
-        4 => Step { from: e4, to: e5 },
-        5 => Step { from: e5, to: e6 },
-        6 => Step { from: e6, to: e7 },
-        7 => Step { from: e7, to: e8 },
-        8 => Step { from: e8, to: e9 },
-        9 => Step { from: e9, to: e10 },
-        10 => Step { from: e10, to: e11 },
-        11 => Step { from: e11, to: e12 },
-        12 => Step { from: e12, to: e13 },
-        13 => Step { from: e13, to: e14 },
-        14 => Step { from: e14, to: e15 },
-        15 => Step { from: e15, to: e16 },
-        16 => Step { from: e16, to: e17 },
-        17 => Step { from: e17, to: e18 },
-        18 => Step { from: e18, to: e19 },
-        19 => Step { from: e19, to: e20 },
-        20 => Step { from: e20, to: e21 },
-        21 => Step { from: e21, to: e22 },
-        22 => Step { from: e22, to: e23 },
-        23 => Step { from: e23, to: e24 },
-        24 => Step { from: e24, to: e25 },
-        25 => Step { from: e25, to: e26 },
-        26 => Step { from: e26, to: e27 },
-        27 => Step { from: e27, to: e28 },
-        28 => Step { from: e28, to: e29 },
-        29 => Step { from: e29, to: e30 },
-        30 => Step { from: e30, to: e31 },
-        _ => Step { from: e31, to: e32 },
+        0 => e0,
+        1 => e1,
+        2 => e2,
+        3 => e3,
+        4 => e4,
+        5 => e5,
+        6 => e6,
+        7 => e7,
+        8 => e8,
+        9 => e9,
+        10 => e10,
+        11 => e11,
+        12 => e12,
+        13 => e13,
+        14 => e14,
+        15 => e15,
+        16 => e16,
+        17 => e17,
+        18 => e18,
+        19 => e19,
+        20 => e20,
+        21 => e21,
+        22 => e22,
+        23 => e23,
+        24 => e24,
+        25 => e25,
+        26 => e26,
+        27 => e27,
+        28 => e28,
+        29 => e29,
+        30 => e30,
+        _ => e31,
     }
 }
 
-// The ends of step h of the table, which is step h % 32 of row h / 32.
-pub fn of_step(h: usize) -> Step
-    requires { ⌜ h < 2 ^ highBits ⌝ }
-    ensures { λ r. ⌜ (r .from ≡ P h) × (r .to ≡ P (h + 1)) ⌝ }
+// P[j], which is entry j % 32 of row j / 32, or the end of the last row.
+pub fn entry(j: usize) -> u32
+    requires { ⌜ j ≤ 2 ^ highBits ⌝ }
+    ensures { λ r. ⌜ r ≡ P j ⌝ }
 {
-    let i = h % 32;
-    match h / 32 {
+    let i = j % 32;
+    match j / 32 {
         0 => of_row(
             i,
             1073741824,
@@ -134,7 +129,6 @@ pub fn of_step(h: usize) -> Step
             1095027771,
             1095769247,
             1096511226,
-            1097253708,
         ),
         1 => of_row(
             i,
@@ -170,7 +164,6 @@ pub fn of_step(h: usize) -> Step
             1119005756,
             1119763470,
             1120521696,
-            1121280435,
         ),
         2 => of_row(
             i,
@@ -206,7 +199,6 @@ pub fn of_step(h: usize) -> Step
             1143508792,
             1144283097,
             1145057926,
-            1145833280,
         ),
         3 => of_row(
             i,
@@ -242,7 +234,6 @@ pub fn of_step(h: usize) -> Step
             1168548374,
             1169339634,
             1170131430,
-            1170923761,
         ),
         4 => of_row(
             i,
@@ -278,7 +269,6 @@ pub fn of_step(h: usize) -> Step
             1194136251,
             1194944838,
             1195753971,
-            1196563653,
         ),
         5 => of_row(
             i,
@@ -314,7 +304,6 @@ pub fn of_step(h: usize) -> Step
             1220284430,
             1221110722,
             1221937574,
-            1222764985,
         ),
         6 => of_row(
             i,
@@ -350,7 +339,6 @@ pub fn of_step(h: usize) -> Step
             1247005180,
             1247849565,
             1248694523,
-            1249540052,
         ),
         7 => of_row(
             i,
@@ -386,7 +374,6 @@ pub fn of_step(h: usize) -> Step
             1274311038,
             1275173913,
             1276037372,
-            1276901416,
         ),
         8 => of_row(
             i,
@@ -422,7 +409,6 @@ pub fn of_step(h: usize) -> Step
             1302214816,
             1303096586,
             1303978952,
-            1304861916,
         ),
         9 => of_row(
             i,
@@ -458,7 +444,6 @@ pub fn of_step(h: usize) -> Step
             1330729607,
             1331630685,
             1332532373,
-            1333434672,
         ),
         10 => of_row(
             i,
@@ -494,7 +479,6 @@ pub fn of_step(h: usize) -> Step
             1359868791,
             1360789600,
             1361711033,
-            1362633089,
         ),
         11 => of_row(
             i,
@@ -530,7 +514,6 @@ pub fn of_step(h: usize) -> Step
             1389646040,
             1390587012,
             1391528622,
-            1392470868,
         ),
         12 => of_row(
             i,
@@ -566,7 +549,6 @@ pub fn of_step(h: usize) -> Step
             1420075326,
             1421036903,
             1421999131,
-            1422962010,
         ),
         13 => of_row(
             i,
@@ -602,7 +584,6 @@ pub fn of_step(h: usize) -> Step
             1451170927,
             1452153559,
             1453136857,
-            1454120821,
         ),
         14 => of_row(
             i,
@@ -638,7 +619,6 @@ pub fn of_step(h: usize) -> Step
             1482947432,
             1483951582,
             1484956411,
-            1485961920,
         ),
         15 => of_row(
             i,
@@ -674,7 +654,6 @@ pub fn of_step(h: usize) -> Step
             1515419753,
             1516445890,
             1517472722,
-            1518500249,
         ),
         16 => of_row(
             i,
@@ -710,7 +689,6 @@ pub fn of_step(h: usize) -> Step
             1548603124,
             1549651731,
             1550701048,
-            1551751075,
         ),
         17 => of_row(
             i,
@@ -746,7 +724,6 @@ pub fn of_step(h: usize) -> Step
             1582513117,
             1583584685,
             1584656979,
-            1585729999,
         ),
         18 => of_row(
             i,
@@ -782,7 +759,6 @@ pub fn of_step(h: usize) -> Step
             1617165642,
             1618260675,
             1619356449,
-            1620452965,
         ),
         19 => of_row(
             i,
@@ -818,7 +794,6 @@ pub fn of_step(h: usize) -> Step
             1652576959,
             1653695969,
             1654815738,
-            1655936264,
         ),
         20 => of_row(
             i,
@@ -854,7 +829,6 @@ pub fn of_step(h: usize) -> Step
             1688763682,
             1689907196,
             1691051484,
-            1692196547,
         ),
         21 => of_row(
             i,
@@ -890,7 +864,6 @@ pub fn of_step(h: usize) -> Step
             1725742791,
             1726911345,
             1728080690,
-            1729250826,
         ),
         22 => of_row(
             i,
@@ -926,7 +899,6 @@ pub fn of_step(h: usize) -> Step
             1763531638,
             1764725779,
             1765920729,
-            1767116488,
         ),
         23 => of_row(
             i,
@@ -962,7 +934,6 @@ pub fn of_step(h: usize) -> Step
             1802147952,
             1803368242,
             1804589358,
-            1805811301,
         ),
         24 => of_row(
             i,
@@ -998,7 +969,6 @@ pub fn of_step(h: usize) -> Step
             1841609854,
             1842856865,
             1844104720,
-            1845353419,
         ),
         25 => of_row(
             i,
@@ -1034,7 +1004,6 @@ pub fn of_step(h: usize) -> Step
             1881935859,
             1883210175,
             1884485355,
-            1885761398,
         ),
         26 => of_row(
             i,
@@ -1070,7 +1039,6 @@ pub fn of_step(h: usize) -> Step
             1923144888,
             1924447108,
             1925750211,
-            1927054195,
         ),
         27 => of_row(
             i,
@@ -1106,7 +1074,6 @@ pub fn of_step(h: usize) -> Step
             1965256278,
             1966587013,
             1967918649,
-            1969251187,
         ),
         28 => of_row(
             i,
@@ -1142,7 +1109,6 @@ pub fn of_step(h: usize) -> Step
             2008289786,
             2009649661,
             2011010457,
-            2012372173,
         ),
         29 => of_row(
             i,
@@ -1178,7 +1144,6 @@ pub fn of_step(h: usize) -> Step
             2052265606,
             2053655258,
             2055045851,
-            2056437386,
         ),
         30 => of_row(
             i,
@@ -1214,9 +1179,8 @@ pub fn of_step(h: usize) -> Step
             2097204371,
             2098624453,
             2100045496,
-            2101467501,
         ),
-        _ => of_row(
+        31 => of_row(
             i,
             2101467501,
             2102890469,
@@ -1250,7 +1214,7 @@ pub fn of_step(h: usize) -> Step
             2143127167,
             2144578345,
             2146030504,
-            2147483648,
         ),
+        _ => 2147483648,
     }
 }
