@@ -1,30 +1,37 @@
 //! The open calls that answer one number, each on a thousand arguments in turn.
 
 use crate::open_calls::{SHORT, row, spread};
-use linked::calls::{self as port, Given, Motion};
+use linked::calls::Motion;
+use linked::*;
 use oracle::spectral_dsp::MotionConfig;
 use std::hint::black_box;
+use std::iter::Cycle;
+use std::slice::Iter;
 
-/// Both sides of a row go through the arguments, each on its own.
+fn next<T: Copy>(arguments: &mut Cycle<Iter<T>>) -> T {
+    black_box(*arguments.next().expect("there are arguments"))
+}
+
+/// Both sides of a row go through the arguments, each on its own. The library's function is called
+/// itself, as a program in C calls it: what `linked::calls` lends and looks at around a call takes
+/// longer than the call.
 fn each<T: Copy>(
     name: &str,
     arguments: &[T],
-    ours: impl Fn(T) -> Given,
+    ours: impl Fn(T, &mut f32, &mut usize) -> u32,
     theirs: impl Fn(T) -> f32,
 ) {
-    let next = |at: &mut usize| {
-        *at = (*at + 1) % arguments.len();
-        black_box(arguments[*at])
-    };
-    let (mut at, mut also) = (0, 0);
+    let (mut given, mut same) = (arguments.iter().cycle(), arguments.iter().cycle());
     row(
         name,
         SHORT,
         || {
-            black_box(ours(next(&mut at)));
+            let (mut value, mut place) = (0.0, 0);
+            black_box(ours(next(&mut given), &mut value, &mut place));
+            black_box(value);
         },
         || {
-            black_box(theirs(next(&mut also)));
+            black_box(theirs(next(&mut same)));
         },
     );
 }
@@ -34,20 +41,22 @@ fn gains() {
     each(
         "db_to_gain",
         &decibels,
-        port::db_to_gain,
+        |db, gain, place| dovetable_db_to_gain(db, gain, place),
         original_oiko::db_to_gain,
     );
     let widths = spread(SHORT as usize, 10.0, 1200.0);
     each(
         "note_emphasis_gain",
         &widths,
-        port::note_emphasis_gain,
+        |width, gain, place| dovetable_note_emphasis_gain(width, gain, place),
         original::note_emphasis_gain,
     );
     each(
         "note_gate_gain",
         &widths,
-        |width| port::note_gate_gain(width / 20.0, width, width / 1200.0),
+        |width, gain, place| {
+            dovetable_note_gate_gain(width / 20.0, width, width / 1200.0, gain, place)
+        },
         |width| original::note_gate_gain(width / 20.0, width, width / 1200.0),
     );
     let curve: [f32; 8193] = spread(8193, -96.0, 0.0).try_into().expect("a whole curve");
@@ -55,7 +64,10 @@ fn gains() {
     each(
         "manual_gain_at_bin",
         &bins,
-        |bin| port::manual_gain_at_bin(&curve, bin, 8192),
+        // The pointer and the length are those of one array.
+        |bin, gain, place| unsafe {
+            dovetable_manual_gain_at_bin(curve.as_ptr(), curve.len(), bin, 8192, gain, place)
+        },
         |bin| original::manual_gain_at_bin(&curve, bin, 8192),
     );
 }
@@ -65,14 +77,14 @@ fn pitches() {
     each(
         "note_frequency_with_tuning",
         &tunings,
-        |tuning| port::note_frequency_with_tuning(60, tuning),
+        |tuning, hertz, place| dovetable_note_frequency_with_tuning(60, tuning, hertz, place),
         |tuning| original_oiko::note_frequency_with_tuning(60, tuning),
     );
     let notes: Vec<u8> = (0..128).collect();
     each(
         "note_frequency",
         &notes,
-        port::note_frequency,
+        |note, hertz, place| dovetable_note_frequency(note, hertz, place),
         original_oiko::note_frequency,
     );
 }
@@ -101,7 +113,10 @@ fn moving_field() {
         each(
             &format!("motion_openness, {name}"),
             &hertz,
-            |hertz| port::motion_openness(hertz, motion),
+            |hertz, openness, place| {
+                let (depth, phase, size) = (motion.depth_db, motion.phase, motion.size_octaves);
+                dovetable_motion_openness(hertz, shape, depth, phase, size, openness, place)
+            },
             |hertz| original::motion_openness(hertz, other),
         );
     }
@@ -111,7 +126,7 @@ fn moving_field() {
             &format!("motion_compensation_gain, {name}"),
             10,
             || {
-                black_box(port::motion_compensation_gain(black_box(motion)));
+                black_box(calls::motion_compensation_gain(black_box(motion)));
             },
             || {
                 black_box(original::motion_compensation_gain(black_box(other)));
