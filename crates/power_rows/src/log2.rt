@@ -68,7 +68,7 @@ fn take_digits(digits: &mut [u32], row: &[f32], start: usize, count: usize)
 }
 
 // The step of each number's digits, with the table's entries at its ends. Only this stage has
-// lookups.
+// lookups. They come before the stores, so that none of them waits for a store to another place.
 fn find_steps(
     steps: &mut [u32],
     from: &mut [u32],
@@ -90,9 +90,11 @@ fn find_steps(
     let mut k: usize = 0;
     while k < count {
         let h = step_of(powers, digits[k]);
+        let a = entry(powers, h as usize);
+        let b = entry(powers, h as usize + 1);
         steps[k] = h;
-        from[k] = entry(powers, h as usize);
-        to[k] = entry(powers, h as usize + 1);
+        from[k] = a;
+        to[k] = b;
         k += 1;
     }
 }

@@ -46,23 +46,11 @@ shared-slice-read-step-of c = search needs
 step-of-requires : tie.Need-step-of-requires Inv-loop μ-loop
 step-of-requires c κs = let i = c .before in (s i .pre .0, scaled i .low, scaled i .high)
 
-mul-steps : tie.Need-mul-steps Inv-loop μ-loop
-mul-steps c = search needs
-
-slice-write-steps : tie.Need-slice-write-steps Inv-loop μ-loop
-slice-write-steps c = search needs
-
 cast-entry : tie.Need-cast-entry Inv-loop μ-loop
 cast-entry c = search needs
 
 entry-requires : tie.Need-entry-requires Inv-loop μ-loop
 entry-requires c κs = let l = found c .within in (s (c .before .before) .pre .0, omega arith)
-
-mul-from : tie.Need-mul-from Inv-loop μ-loop
-mul-from c = search needs
-
-slice-write-from : tie.Need-slice-write-from Inv-loop μ-loop
-slice-write-from c = search needs
 
 cast-entry-2 : tie.Need-cast-entry-2 Inv-loop μ-loop
 cast-entry-2 c = search needs
@@ -72,6 +60,18 @@ add-entry c = search needs
 
 entry-requires-2 : tie.Need-entry-requires-2 Inv-loop μ-loop
 entry-requires-2 c κs = let l = found (c .before) .within in (s (c .before .before .before) .pre .0, omega arith)
+
+mul-steps : tie.Need-mul-steps Inv-loop μ-loop
+mul-steps c = search needs
+
+slice-write-steps : tie.Need-slice-write-steps Inv-loop μ-loop
+slice-write-steps c = search needs
+
+mul-from : tie.Need-mul-from Inv-loop μ-loop
+mul-from c = search needs
+
+slice-write-from : tie.Need-slice-write-from Inv-loop μ-loop
+slice-write-from c = search needs
 
 mul-to : tie.Need-mul-to Inv-loop μ-loop
 mul-to c = search needs
@@ -120,15 +120,15 @@ find-steps-spec =
     mul-step-of
     shared-slice-read-step-of
     step-of-requires
-    mul-steps
-    slice-write-steps
     cast-entry
     entry-requires
-    mul-from
-    slice-write-from
     cast-entry-2
     add-entry
     entry-requires-2
+    mul-steps
+    slice-write-steps
+    mul-from
+    slice-write-from
     mul-to
     slice-write-to
     add-k
