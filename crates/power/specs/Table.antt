@@ -1,5 +1,5 @@
--- P of document 01, entry by entry, and I(F), the linear interpolation between its entries. That
--- each entry is the right one is shown in `Rules.antt`.
+-- P of document 01 with the steps of request 103, entry by entry, and I(F), the linear interpolation
+-- between its entries. That each entry is the right one is shown in `Rules.antt`.
 -- Assumes nothing.
 use Prim.Native.Nat.{ℕ, _-_}
 use mathlib.Core.List.{List, [], _∷_}
@@ -7,8 +7,9 @@ use lib.ListN.{getD}
 use Rattle.lists.specs.Interpolation.{interp}
 
 -- F has 24 bits: the high ones, floor (F / 2 ^ lowBits), choose one of the 2 ^ highBits steps of
--- the table, and the low ones the position within the step.
--- The number of steps is set only here: the laws hold for any highBits up to 24.
+-- the table, and the low ones the position within the step. Request 103: 'with ten high bits and
+-- fourteen low bits in F'. The number of steps is set only here: the laws hold for any highBits up
+-- to 24.
 abbrev pub highBits : ℕ
 highBits = 10
 
