@@ -1,6 +1,7 @@
 -- Where log2's search begins: for the eleven leading digits m of t's fraction `guessed` gives the
--- step that t lies in, or the one before. It never falls, by a test at every m, so that a test at each
--- entry of the table, where t passes from one step to the next, settles the rest. Assumes nothing.
+-- step that t lies in, or the one before. It never falls, by a test at every m, so that a test at
+-- each entry of the table, where t passes from one step to the next, settles the rest. Assumes
+-- nothing.
 use mathlib.Core.Path.{_≡_, subst}
 use mathlib.Core.Logic.{inl, inr}
 use mathlib.Core.Bool.{Bool, true, false, not, _&&_}

@@ -1,5 +1,5 @@
--- Request 103: 'The argument that powers never fall as their exponent rises is made for any power of
--- two of steps up to 2^24 and then used for this one.' Assumes nothing.
+-- Request 103: 'The argument that powers never fall as their exponent rises is made for any power
+-- of two of steps up to 2^24 and then used for this one.' Assumes nothing.
 use Prim.Native.Nat.{ℕ, _-_, _^_, _≤_}
 use lib.Dec.{T}
 use lib.Ieee.{Float, le}

@@ -1,5 +1,5 @@
--- P of document 01 with the steps of request 103, entry by entry, and I(F), the linear interpolation
--- between its entries. That each entry is the right one is shown in `Rules.antt`.
+-- P of document 01 with the steps of request 103, entry by entry, and I(F), the linear
+-- interpolation between its entries. That each entry is the right one is shown in `Rules.antt`.
 -- Assumes nothing.
 use Prim.Native.Nat.{ℕ, _-_}
 use mathlib.Core.List.{List, [], _∷_}

@@ -103,11 +103,11 @@ pub fn log_in_step(v: f32, t: u32, h: u32, a: u32, b: u32) -> f32
 // log2(v) of a positive normal v: L2 of document 01; of any other v 0.
 //
 // Method. v = M * 2^(e - 23), read from the bit pattern. F is the greatest 24-bit number whose
-// power, by exp2's table P (table.rt), is at most M / 2^23, so that log2 undoes exp2. The table step
-// is found by a polynomial guess and one comparison, the position within the step by one division.
-// F / 2^24 and e are exact, and their sum is rounded once. No branch depends on the value of a
-// positive normal v. power_rows does the same for a row of numbers, single_power for one number
-// without the table.
+// power, by exp2's table P (table.rt), is at most M / 2^23, so that log2 undoes exp2. The table
+// step is found by a polynomial guess and one comparison, the position within the step by one
+// division. F / 2^24 and e are exact, and their sum is rounded once. No branch depends on the value
+// of a positive normal v. power_rows does the same for a row of numbers, single_power for one
+// number without the table.
 // Error, measured over every mantissa: F / 2^24 is at most 1.4e-7 below and 2.1e-9 above the
 // fraction of log2(v), to which the rounding adds up to half a unit of the last place.
 pub fn log2(powers: &PowerTable, v: f32) -> f32

@@ -10,8 +10,8 @@ pub const LOW_BITS: u64 = 24 - HIGH_BITS;
 
 pub(crate) const LOW_MASK: u64 = (1 << LOW_BITS) - 1;
 
-// The table P of document 01: 2^30 to 2^31 in steps of equal ratio, rounded down, and the end of the
-// last step. exp2 and log2 read it, here and in power_rows; its rule is proved for all entries
+// The table P of document 01: 2^30 to 2^31 in steps of equal ratio, rounded down, and the end of
+// the last step. exp2 and log2 read it, here and in power_rows; its rule is proved for all entries
 // together in specs/Rules.antt.
 pub type PowerTable = [u32; (1 << HIGH_BITS) + 1];
 

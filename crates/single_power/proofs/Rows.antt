@@ -1,5 +1,5 @@
--- Row k of the table has the entries from 32 * k on, so its entry i is entry 32 * k + i of the table.
--- Assumes nothing.
+-- Row k of the table has the entries from 32 * k on, so its entry i is entry 32 * k + i of the
+-- table. Assumes nothing.
 use mathlib.Core.Path.{_≡_, sym, ap, _∙_}
 use Prim.Native.Nat.{ℕ, _+_, _*_, _/_, _%_, _^_, _≤_}
 use native.Mathlib.Omega.{arith}

@@ -1,4 +1,5 @@
--- `curve_gain` is `curveGain`, by the test and what `min` and `single_gain` ensure. Assumes nothing.
+-- `curve_gain` is `curveGain`, by the test and what `min` and `single_gain` ensure. Assumes
+-- nothing.
 use borrow.Author.Needs.{needs}
 use Rattle.masks.specs.Manual.{curveGain}
 use Rattle.masks.proofs.manual.curve_gain.Statement.{statement}

@@ -1,5 +1,5 @@
--- `find_steps` fills the first `count` entries: each entry below k is the step of its own digits, or
--- an entry of the table at an end of that. Assumes nothing.
+-- `find_steps` fills the first `count` entries: each entry below k is the step of its own digits,
+-- or an entry of the table at an end of that. Assumes nothing.
 use mathlib.Core.Path.{ap, _∙_}
 use mathlib.Core.Logic.{inl}
 use Prim.Native.Nat.{ℕ, _+_, _-_, _≤_}
