@@ -13,8 +13,8 @@ fn next<T: Copy>(arguments: &mut Cycle<Iter<T>>) -> T {
 }
 
 /// Both sides of a row go through the arguments, each on its own. The library's function is called
-/// itself, as a program in C calls it: what `linked::calls` lends and looks at around a call takes
-/// longer than the call.
+/// itself, as a program in C calls it: what `linked::calls` lends and looks at around a call can
+/// take longer than the call.
 fn each<T: Copy>(
     name: &str,
     arguments: &[T],
