@@ -68,7 +68,7 @@ fn take_digits(digits: &mut [u32], row: &[f32], start: usize, count: usize)
 }
 
 // The step of each number's digits, with the table's entries at its ends. Only this stage has
-// lookups. They come before the stores, so that none of them waits for a store to another place.
+// lookups. They come before the stores: the other order is slower.
 fn find_steps(
     steps: &mut [u32],
     from: &mut [u32],
