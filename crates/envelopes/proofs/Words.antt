@@ -11,13 +11,14 @@ use native.Mathlib.Omega.{arith}
 use lib.Dec.{eqb, lit≤}
 use lib.Pow.{pow-add, shr-shr, field, mod-mod-pow}
 use lib.ListN.{getD}
+use Rattle.lists.specs.Bytes.{numberAt}
 use Rattle.envelopes.specs.Envelope.{isHeld}
-use Rattle.envelopes.specs.Words.{joined, wordOf, isSet, Bytes, HeldByWords}
+use Rattle.envelopes.specs.Words.{wordOf, isSet, Bytes, HeldByWords}
 
 -- ---- one more byte
-pub joined-more : (held : List ℕ) (first n : ℕ) → joined held first (n + 1) ≡ joined held first n * 256 + getD held (first + n) 0
-unfolding joined
-joined-more held first n = rw (add-one n) refl
+pub number-more : (held : List ℕ) (first n : ℕ) → numberAt held first (n + 1) ≡ numberAt held first n * 256 + getD held (first + n) 0
+unfolding numberAt
+number-more held first n = rw (add-one n) refl
 
 pub bytes-more : (held : List ℕ) (first n : ℕ) → Bytes held first n → getD held (first + n) 0 < 256 → Bytes held first (n + 1)
 bytes-more held first n small last k h = go (decLt k n)
@@ -55,16 +56,16 @@ low-bit x (suc (suc (suc (suc (suc (suc (suc zero))))))) h = omega arith
 low-bit x (suc (suc (suc (suc (suc (suc (suc (suc s)))))))) h = absurd (omega arith)
 
 -- the last m of some bytes shifted out
-shifted : (held : List ℕ) (first n m : ℕ) → Bytes held first (n + m) → joined held first (n + m) / 2 ^ (8 * m) ≡ joined held first n
-shifted held first n zero small = rw (add-zero n) (div-one (joined held first n))
+shifted : (held : List ℕ) (first n m : ℕ) → Bytes held first (n + m) → numberAt held first (n + m) / 2 ^ (8 * m) ≡ numberAt held first n
+shifted held first n zero small = rw (add-zero n) (div-one (numberAt held first n))
 shifted held first n (suc m) small =
-    let j = joined held first (n + m) in
+    let j = numberAt held first (n + m) in
     let b = getD held (first + (n + m)) 0 in
     let l : b < 256 = small (n + m) (omega arith) in
     let e : 8 * suc m ≡ 8 + 8 * m = omega arith in
     let one : (j * 256 + b) / 2 ^ 8 ≡ j = omega arith in
     let next : n + suc m ≡ n + m + 1 = omega arith in
-    ap (λ (z : ℕ). z / 2 ^ (8 * suc m)) (ap (joined held first) next ∙ joined-more held first (n + m))
+    ap (λ (z : ℕ). z / 2 ^ (8 * suc m)) (ap (numberAt held first) next ∙ number-more held first (n + m))
     ∙ ap (λ (z : ℕ). (j * 256 + b) / 2 ^ z) e ∙ sym (shr-shr (j * 256 + b) 8 (8 * m)) ∙ ap (λ (z : ℕ). z / 2 ^ (8 * m)) one
     ∙ shifted held first n m (λ k h. small k (omega arith))
 
@@ -73,15 +74,15 @@ module _ (held : List ℕ) (first : ℕ) (small : Bytes held first 8) where
   byte k = getD held (first + k) 0
 
   abbrev word : ℕ
-  word = joined held first 8
+  word = numberAt held first 8
 
   byte-of : (k : ℕ) → k < 8 → word / 2 ^ (8 * (7 - k)) % 256 ≡ byte k
   byte-of k h =
       let all : k + 1 + (7 - k) ≡ 8 = omega arith in
       let l : byte k < 256 = small k h in
-      let e : word / 2 ^ (8 * (7 - k)) ≡ joined held first k * 256 + byte k =
-      ap (λ (n : ℕ). joined held first n / 2 ^ (8 * (7 - k))) (sym all)
-      ∙ shifted held first (k + 1) (7 - k) (subst (Bytes held first) (sym all) small) ∙ joined-more held first k in
+      let e : word / 2 ^ (8 * (7 - k)) ≡ numberAt held first k * 256 + byte k =
+      ap (λ (n : ℕ). numberAt held first n / 2 ^ (8 * (7 - k))) (sym all)
+      ∙ shifted held first (k + 1) (7 - k) (subst (Bytes held first) (sym all) small) ∙ number-more held first k in
       omega (arith, e)
 
   -- the bits of byte k

@@ -3,19 +3,15 @@
 use mathlib.Core.Bool.{Bool}
 use mathlib.Core.List.{List}
 use mathlib.Core.Path.{_≡_}
-use Prim.Native.Nat.{ℕ, zero, suc, _+_, _-_, _*_, _/_, _%_, _^_, _<_}
+use Prim.Native.Nat.{ℕ, _+_, _-_, _*_, _/_, _%_, _^_, _<_}
 use lib.Dec.{eqb}
 use lib.ListN.{length, getD}
+use Rattle.lists.specs.Bytes.{numberAt}
 use Rattle.limits.specs.Lengths.{MIDI-NOTES, HELD-BYTES}
 use Rattle.envelopes.specs.Envelope.{isHeld}
 
--- the n bytes from `first` on as one number, most significant first
-unfoldable pub joined : List ℕ → ℕ → ℕ → ℕ
-joined held first zero = 0
-joined held first (suc n) = joined held first n * 256 + getD held (first + n) 0
-
 abbrev pub wordOf : List ℕ → ℕ → ℕ
-wordOf held index = joined held (8 * index) 8
+wordOf held index = numberAt held (8 * index) 8
 
 -- bit k of a number, the lowest being 0
 abbrev pub isSet : ℕ → ℕ → Bool

@@ -9,3 +9,5 @@ pub mod Tested
 pub mod Pairs
 pub mod Interpolation
 pub mod Stages
+pub mod Bytes
+pub mod Stores

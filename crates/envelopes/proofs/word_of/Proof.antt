@@ -1,5 +1,5 @@
--- `envelopes::word_of` meets its contract: after n iterations the word is the first n bytes joined.
--- Assumes nothing.
+-- `envelopes::word_of` meets its contract: after n iterations the word is the number of the first
+-- n bytes. Assumes nothing.
 use mathlib.Core.Path.{_≡_, refl, sym, ap, subst, _∙_}
 use mathlib.Core.List.{List}
 use Prim.Native.Nat.{ℕ, _+_, _-_, _*_, _^_, _≤_, _<_}
@@ -7,13 +7,14 @@ use native.Mathlib.Omega.{arith}
 use lib.Dec.{lit<}
 use lib.ListN.{length}
 use borrow.Author.Needs.{needs}
-use Rattle.envelopes.specs.Words.{joined, Bytes}
-use Rattle.envelopes.proofs.Words.{joined-more, bytes-more, below-more, seven-at-most}
+use Rattle.lists.specs.Bytes.{numberAt}
+use Rattle.envelopes.specs.Words.{Bytes}
+use Rattle.envelopes.proofs.Words.{number-more, bytes-more, below-more, seven-at-most}
 use Rattle.envelopes.proofs.word_of.Statement.{statement}
 use Rattle.envelopes.proofs.word_of.Tie as tie
 
 pub record Joining (held : List ℕ) (index word k : ℕ) : Type 0 where
-  pub is : word ≡ joined held (8 * index) k
+  pub is : word ≡ numberAt held (8 * index) k
   pub below : word < 256 ^ k
   pub bytes : Bytes held (8 * index) k
   pub within : (k ≤ 8) × (index < 2)
@@ -26,7 +27,7 @@ abbrev μ-loop : tie.MeasureT-loop
 μ-loop held index word₀ k₀ word k = 8 - k
 
 loop-holds : tie.Need-loop-holds Inv-loop μ-loop
-unfolding joined
+unfolding numberAt
 loop-holds c =
     let p = c .before .pre in
     record { is = refl; below = lit< tt; bytes = λ k h. absurd (omega arith); within = (omega arith, p .1); sixteen = p .0 }
@@ -63,7 +64,7 @@ loop-again c =
     let e = c .wide .ensures .0 ∙ c .before .byte-of .ensures in
     let small = c .wide .ensures .1 in
     let byte = subst (λ (b : ℕ). b < 256) e small in record {
-      is = ap (λ (w : ℕ). w * 256 + c .wide .result) (v .is) ∙ ap (λ (b : ℕ). joined (a .held .now) (8 * a .index) (l .k) * 256 + b) e ∙ sym (joined-more (a .held .now) (8 * a .index) (l .k));
+      is = ap (λ (w : ℕ). w * 256 + c .wide .result) (v .is) ∙ ap (λ (b : ℕ). numberAt (a .held .now) (8 * a .index) (l .k) * 256 + b) e ∙ sym (number-more (a .held .now) (8 * a .index) (l .k));
       below = below-more (l .word) (c .wide .result) (l .k) (v .below) small;
       bytes = bytes-more (a .held .now) (8 * a .index) (l .k) (v .bytes) byte;
       within = (omega (arith, c .before .before .loop-test .taken), v .within .1);
@@ -76,7 +77,7 @@ returns c =
     let a = c .before .before .before .args in
     let w = l .inv .within in
     let end : l .k ≡ 8 = omega (arith, c .loop-test .left) in
-    (l .inv .is ∙ ap (joined (a .held .now) (8 * a .index)) end, subst (Bytes (a .held .now) (8 * a .index)) end (l .inv .bytes))
+    (l .inv .is ∙ ap (numberAt (a .held .now) (8 * a .index)) end, subst (Bytes (a .held .now) (8 * a .index)) end (l .inv .bytes))
 
 pub word-of-spec : {M : Type 1} → statement M
 word-of-spec =

@@ -1,0 +1,2 @@
+pub mod FloatLists
+pub mod Numbers
