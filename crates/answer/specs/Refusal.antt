@@ -1,4 +1,4 @@
--- Document 01's refusal numbers by name, in the order of its table. Assumes nothing.
+-- The refusal numbers by name: document 01's, in the order of its table, and those of requests. Assumes nothing.
 use Prim.Native.Nat.{ℕ}
 
 -- "size not a power of two in 64..16,384, or rate outside 8,000..192,000 Hz"
@@ -32,3 +32,8 @@ LIST-VALUE = 7
 -- "overlap not in 1..16 or not dividing the length"
 abbrev pub OVERLAP : ℕ
 OVERLAP = 8
+
+-- request 104: "A record read whose length isn't 31 plus 29 for each voice counted, or with a
+-- forbidden bit set"
+abbrev pub RECORD : ℕ
+RECORD = 9

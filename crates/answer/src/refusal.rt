@@ -1,4 +1,4 @@
-// Document 01's refusal numbers by name, in the order of its table.
+// The refusal numbers by name: document 01's, in the order of its table, and those of requests.
 
 // The size is not a power of two in 64..16,384, or the rate is outside its limits.
 pub const SIZE_OR_RATE: u8 = 1;
@@ -23,3 +23,6 @@ pub const LIST_VALUE: u8 = 7;
 
 // The overlap is outside its limits or does not divide the length.
 pub const OVERLAP: u8 = 8;
+
+// A scene record has the wrong length, or a forbidden bit set.
+pub const RECORD: u8 = 9;

@@ -64,3 +64,14 @@ HELD-BYTES = 16
 -- "Block length: 4·size + size/2 + 1"
 abbrev pub blockLength : ℕ → ℕ
 blockLength size = 4 * size + size / 2 + 1
+
+-- request 104: "A head is 31 bytes, a voice 29"
+abbrev pub RECORD-HEAD : ℕ
+RECORD-HEAD = 31
+
+abbrev pub RECORD-VOICE : ℕ
+RECORD-VOICE = 29
+
+-- "31 plus 29 for each voice counted"
+abbrev pub recordLength : ℕ → ℕ
+recordLength count = RECORD-HEAD + RECORD-VOICE * count

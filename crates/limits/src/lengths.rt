@@ -3,7 +3,7 @@
 ghost use mathlib.Core.Path.{_≡_};
 ghost use Prim.Native.Nat.{_≤_};
 ghost use Rattle.limits.specs.Lengths.{MOST-SIZE, bins, windowLength, gainsLength};
-ghost use Rattle.limits.specs.Lengths.{blockLength};
+ghost use Rattle.limits.specs.Lengths.{recordLength, blockLength};
 
 // A call takes at most this many voices.
 pub const MOST_VOICES: usize = 128;
@@ -34,6 +34,11 @@ pub const MOST_GAINS: usize = 8193;
 
 pub const MOST_WINDOW: usize = 16384;
 
+// A scene record is a head and a part for each voice, of this many bytes.
+pub const RECORD_HEAD: usize = 31;
+
+pub const RECORD_VOICE: usize = 29;
+
 // How many bins a mask has, and a table entries.
 pub fn bins(size: usize) -> usize
     ensures { λ r. ⌜ r ≡ bins size ⌝ }
@@ -53,6 +58,14 @@ pub fn gains_length(n: usize) -> bool
     ensures { λ r. ⌜ r ≡ gainsLength n ⌝ }
 {
     n <= MOST_GAINS
+}
+
+// The bytes of a record of so many voices; its head holds a count of at most 255.
+pub fn record_length(count: usize) -> usize
+    requires { ⌜ count ≤ 255 ⌝ }
+    ensures { λ r. ⌜ r ≡ recordLength count ⌝ }
+{
+    RECORD_HEAD + RECORD_VOICE * count
 }
 
 // The block of a prepared spectrum: four windows and a table.

@@ -1,9 +1,13 @@
--- A shape by its number, and the silent voice. Assumes nothing.
-use mathlib.Core.Bool.{cond}
+-- A shape by its number, the silent voice, and the scene of a call that gives none. Assumes nothing.
+use mathlib.Core.Bool.{false, cond}
 use Prim.Native.Nat.{ℕ}
 use lib.Dec.{eqb}
+use lib.ListN.{replicate}
 use Rattle.float32.specs.Remainder.{zero}
+use Rattle.limits.specs.Lengths.{MOST-VOICES}
 use Rattle.scene.specs.declared.MaskVoice.{MaskVoice}
+use Rattle.scene.specs.declared.MaskConfig.{MaskConfig}
+use Rattle.scene.specs.declared.Scene.{Scene}
 use Rattle.scene.specs.declared.Pitch.the-variants.{Note}
 use Rattle.scene.specs.declared.MotionShape.{MotionShape}
 use Rattle.scene.specs.declared.MotionShape.the-variants.{Ripple, Harmonic, Drift, Scan}
@@ -33,3 +37,22 @@ silentVoice =
       «expression_gain» = zero;
       pan = zero;
     }
+
+-- settings that no call accepts: each is 0 or off
+abbrev pub blankSettings : MaskConfig
+blankSettings =
+    record {
+      «sample_rate» = zero;
+      «fft_size» = 0;
+      «note_depth_db» = zero;
+      «note_layer_enabled» = false;
+      «width_cents» = zero;
+      partials = 0;
+      «harmonic_rolloff_db_per_octave» = zero;
+      motion =
+          record { shape = Ripple; «depth_db» = zero; phase = zero; «size_octaves» = zero };
+    }
+
+abbrev pub blankScene : Scene
+blankScene =
+    record { config = blankSettings; voices = replicate MOST-VOICES silentVoice; count = 0 }

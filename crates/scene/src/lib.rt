@@ -9,7 +9,7 @@ ghost use lib.ListN.{replicate};
 ghost use Rattle.limits.specs.Lengths.{MOST-VOICES};
 ghost use Rattle.scene.specs.Accepted.{motionAccepted, sizeAccepted, settingsAccepted};
 ghost use Rattle.scene.specs.Accepted.{voiceAccepted, firstVoiceOutside};
-ghost use Rattle.scene.specs.Made.{shapeOf, silentVoice};
+ghost use Rattle.scene.specs.Made.{shapeOf, silentVoice, blankScene};
 ghost use Rattle.scene.specs.Gathered.{held};
 use limits::lengths::MOST_VOICES;
 
@@ -72,6 +72,14 @@ pub struct MaskConfig {
     pub motion: MotionConfig,
 }
 
+// A whole scene: its settings, and the voices that count, which stand at the array's start. The
+// drawn curve is not part of it.
+pub struct Scene {
+    pub config: MaskConfig,
+    pub voices: [MaskVoice; MOST_VOICES],
+    pub count: usize,
+}
+
 // The shape with this number, in that order; 7 and above give the last.
 pub fn shape_of(number: u32) -> MotionShape
     ensures { λ r. ⌜ r ≡ shapeOf number ⌝ }
@@ -103,6 +111,34 @@ pub fn silent_voices() -> [MaskVoice; MOST_VOICES]
         pan: 0.0f32,
     };
     [voice; MOST_VOICES]
+}
+
+// What stands in a scene's place where there is none. Every setting is 0, so that no call accepts it.
+pub fn blank_scene() -> Scene
+    ensures { λ r. ⌜ r ≡ blankScene ⌝ }
+{
+    let motion = MotionConfig {
+        shape: MotionShape::Ripple,
+        depth_db: 0.0,
+        phase: 0.0,
+        size_octaves: 0.0,
+    };
+    let config = MaskConfig {
+        sample_rate: 0.0,
+        fft_size: 0,
+        note_depth_db: 0.0,
+        note_layer_enabled: false,
+        width_cents: 0.0,
+        partials: 0,
+        harmonic_rolloff_db_per_octave: 0.0,
+        motion: motion,
+    };
+    let voices = silent_voices();
+    Scene {
+        config: config,
+        voices: voices,
+        count: 0,
+    }
 }
 
 // How many of `count` voices such an array holds.

@@ -1,7 +1,7 @@
 // A pitch: its limits, and the same in plain numbers: a form, a note and one more number.
 ghost use mathlib.Core.Path.{_≡_};
 ghost use Rattle.scene.specs.Accepted.{pitchAccepted};
-ghost use Rattle.scene.specs.PitchNumbers.{pitchOf};
+ghost use Rattle.scene.specs.PitchNumbers.{formOf, noteOf, numberOf, pitchOf};
 use crate::Pitch;
 use crate::both;
 
@@ -30,4 +30,33 @@ pub fn pitch_of(form: u8, note: u8, number: f32) -> Pitch
         return Pitch::Hertz(number);
     }
     Pitch::Hertz(0.0)
+}
+
+pub fn form_of(pitch: Pitch) -> u8
+    ensures { λ r. ⌜ r ≡ formOf pitch ⌝ }
+{
+    match pitch {
+        Pitch::Note(_, _) => NOTE_FORM,
+        Pitch::Hertz(_) => HERTZ_FORM,
+    }
+}
+
+// A pitch in hertz has no note: 0 stands in its place.
+pub fn note_of(pitch: Pitch) -> u8
+    ensures { λ r. ⌜ r ≡ noteOf pitch ⌝ }
+{
+    match pitch {
+        Pitch::Note(note, _) => note,
+        Pitch::Hertz(_) => 0,
+    }
+}
+
+// The semitones or the hertz.
+pub fn number_of(pitch: Pitch) -> f32
+    ensures { λ r. ⌜ r ≡ numberOf pitch ⌝ }
+{
+    match pitch {
+        Pitch::Note(_, semitones) => semitones,
+        Pitch::Hertz(hertz) => hertz,
+    }
 }
