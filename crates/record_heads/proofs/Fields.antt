@@ -17,7 +17,8 @@ use Rattle.scene.specs.declared.MotionShape.{MotionShape}
 use Rattle.scene.specs.declared.MotionShape.the-variants.{Ripple, Harmonic, Drift, Scan}
 use Rattle.scene.specs.declared.MotionShape.the-variants.{Notch, Saw, Sprinkle, Cloud}
 use Rattle.scene.specs.Made.{shapeOf}
-use Rattle.record_heads.specs.Heads.{logOf, layerNumber, shapeNumber, packed, fieldAt}
+use Rattle.record_words.specs.Fields.{fieldAt}
+use Rattle.record_heads.specs.Heads.{logOf, layerNumber, shapeNumber, packed}
 
 -- ---- the fields of a packed number
 module _ (log layer shape partials count : ℕ)

@@ -21,8 +21,9 @@ use Rattle.scene.specs.declared.MotionShape.{MotionShape}
 use Rattle.scene.specs.Made.{shapeOf}
 use Rattle.record_words.specs.Floats.{floatsBytes, floatsOf}
 use Rattle.record_words.proofs.FloatLists.{Fits, Number, floats-length, floats-back, bytes-of-floats}
+use Rattle.record_words.specs.Fields.{fieldAt}
 use Rattle.record_heads.specs.Heads.{logOf, layerNumber, shapeNumber, FieldsFit, headNumber, settingsFloats, headBytes}
-use Rattle.record_heads.specs.Heads.{headIn, fieldAt, countOf, zeroBits, settingsOf, settingsIn}
+use Rattle.record_heads.specs.Heads.{headIn, countOf, zeroBits, settingsOf, settingsIn}
 use Rattle.record_heads.proofs.Fields as fields
 
 pub head-length : (config : MaskConfig) (count : ℕ) → length (headBytes config count) ≡ 31

@@ -1,7 +1,7 @@
 -- The head of a scene record, 31 bytes, in the words of request 104. Assumes nothing.
 use mathlib.Core.Bool.{Bool, cond}
 use mathlib.Core.List.{List, [], _∷_, _++_}
-use Prim.Native.Nat.{ℕ, _+_, _*_, _/_, _%_, _^_, _<_}
+use Prim.Native.Nat.{ℕ, _^_, _<_}
 use lib.Count.{trailingZeros}
 use lib.Dec.{eqb}
 use lib.Ieee.{Float, nan}
@@ -12,6 +12,7 @@ use Rattle.scene.specs.declared.MotionShape.{MotionShape}
 use Rattle.scene.specs.declared.MotionShape.the-variants.{Ripple, Harmonic, Drift, Scan}
 use Rattle.scene.specs.declared.MotionShape.the-variants.{Notch, Saw, Sprinkle, Cloud}
 use Rattle.scene.specs.Made.{shapeOf}
+use Rattle.record_words.specs.Fields.{then, fieldAt}
 use Rattle.record_words.specs.Floats.{floatsBytes, floatsOf}
 
 -- ---- the small fields
@@ -34,10 +35,6 @@ shapeNumber Notch = 4
 shapeNumber Saw = 5
 shapeNumber Sprinkle = 6
 shapeNumber Cloud = 7
-
--- "fields most significant first": a field of so many bits behind those before it
-abbrev pub then : ℕ → ℕ → ℕ → ℕ
-then before bits value = before * 2 ^ bits + value
 
 -- "4 bits for the logarithm of the size, 1 for the note layer, 3 for the shape, 5 for the partials,
 -- 8 for the voice count, 3 zero bits"
@@ -79,10 +76,6 @@ headBytes config count =
 -- the small fields of a record
 abbrev pub headIn : List ℕ → ℕ
 headIn bytes = numberAt bytes 0 3
-
--- a field of so many bits, so many places from the end
-abbrev pub fieldAt : ℕ → ℕ → ℕ → ℕ
-fieldAt number places bits = number / 2 ^ places % 2 ^ bits
 
 abbrev pub countOf : ℕ → ℕ
 countOf number = fieldAt number 3 8

@@ -3,7 +3,8 @@ use native.Mathlib.Omega.{arith}
 use mathlib.Core.Path.{_∙_}
 use borrow.Author.Needs.{needs}
 use Rattle.record_heads.proofs.Fields.{masked, one-shifted}
-use Rattle.record_heads.specs.Heads.{settingsOf, fieldAt}
+use Rattle.record_words.specs.Fields.{fieldAt}
+use Rattle.record_heads.specs.Heads.{settingsOf}
 use Rattle.record_heads.proofs.settings_of.Statement.{statement}
 use Rattle.record_heads.proofs.settings_of.Tie as tie
 

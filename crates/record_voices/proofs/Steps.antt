@@ -1,0 +1,141 @@
+-- What the loops over a record's voices keep, and what their steps store, read and test. Assumes
+-- nothing.
+use mathlib.Core.Path.{_≡_, refl, sym, ap, _∙_, subst}
+use mathlib.Core.Bool.{Bool, true, false, not, _&&_}
+use mathlib.Core.List.{List, [], _∷_, _++_}
+use Prim.Native.Nat.{ℕ, suc, _+_, _*_, _-_, _/_, _%_, _≤_, _<_}
+use native.Mathlib.Nat.{add-zero}
+use native.Mathlib.Numerals.{add-one}
+use native.Mathlib.Omega.{arith}
+use lib.Bits.{bitAnd, and-mask}
+use lib.Dec.{eqb}
+use lib.Ieee.{Float, nan}
+use lib.ListN.{length, getD, set, take, drop}
+use lib.Seq.{take-suc, drop-drop, getD-drop, getD-take, length-take-le}
+use borrow.Author.Tests.{eq-eqb, ne-eqb}
+use Rattle.lists.specs.Totals.{All, all-at}
+use Rattle.lists.specs.Stores.{stored, stored-append, stored-one}
+use Rattle.scene.specs.declared.MaskVoice.{MaskVoice}
+use Rattle.scene.specs.declared.Pitch.{Pitch}
+use Rattle.scene.specs.Accepted.{noVoice}
+use Rattle.scene.specs.Gathered.{gatheredTo}
+use Rattle.scene.proofs.Gathered.{gathered-more}
+use Rattle.record_words.specs.Floats.{floatsBytes, floatsOf}
+use Rattle.record_voices.specs.Voices.{pitchByte, NoteFits, voiceFloats, voiceBytes, voicesBytes}
+use Rattle.record_voices.specs.Voices.{pitchIn, voiceWith, voiceOf, voicesOf, pitchAllowed, pitchesAllowed}
+use Rattle.record_voices.proofs.Voices.{voices-length, voices-append, voices-one, voices-counted, voice-at-place}
+
+-- ---- writing
+-- a voice's byte, and its floats behind it
+pub voice-stored :
+    (old : List ℕ) (at byte : ℕ) (voice : MaskVoice) (floats : List Float)
+    → byte ≡ pitchByte (voice .pitch) → floats ≡ voiceFloats voice
+    → stored (set old at byte) (at + 1) (floatsBytes floats) ≡ stored old at (voiceBytes voice)
+unfolding voiceBytes
+voice-stored old at byte voice floats e f =
+    let b = pitchByte (voice .pitch) in
+    rw (e, f)
+    (ap (λ (l : List ℕ). stored l (at + 1) (floatsBytes (voiceFloats voice))) (stored-one old at b)
+    ∙ stored-append old at (at + 1) (b ∷ []) (floatsBytes (voiceFloats voice)) refl)
+
+-- one voice more
+pub voices-more :
+    (old now : List ℕ) (at i : ℕ) (voices : List MaskVoice) → i < length voices
+    → now ≡ stored old at (voicesBytes (take i voices))
+    → stored now (at + 29 * i) (voiceBytes (getD voices i noVoice))
+    ≡ stored old at (voicesBytes (take (i + 1) voices))
+voices-more old now at i voices h e =
+    let before = take i voices in
+    let voice = getD voices i noVoice in
+    let t : length before ≡ i = length-take-le i voices (omega arith) in
+    ap (λ (l : List ℕ). stored l (at + 29 * i) (voiceBytes voice)) e
+    ∙ stored-append old at (at + 29 * i) (voicesBytes before) (voiceBytes voice)
+    (omega (arith, voices-length before))
+    ∙ ap (stored old at)
+    (ap (λ (l : List ℕ). voicesBytes before ++ l) (sym (voices-one voice))
+    ∙ sym (voices-append before (voice ∷ []))
+    ∙ ap voicesBytes
+    (sym (ap (λ (k : ℕ). take k voices) (add-one i) ∙ take-suc voices i noVoice h)))
+
+pub note-fits :
+    (voices : List MaskVoice) (n i : ℕ) → i < n → n ≤ length voices → All NoteFits (take n voices)
+    → NoteFits (getD voices i noVoice)
+note-fits voices n i h l a =
+    subst NoteFits (getD-take n voices i noVoice h)
+    (all-at NoteFits (take n voices) i noVoice a (rw (length-take-le n voices l) h))
+
+-- ---- reading
+pub voice-read :
+    (bs : List ℕ) (at : ℕ) (floats : List Float) (pitch : Pitch)
+    → floats ≡ floatsOf (drop (at + 1) bs) 7 → pitch ≡ pitchIn (getD bs at 0) (getD floats 1 nan)
+    → record {
+      pitch = pitch;
+      level = getD floats 0 nan;
+      pressure = getD floats 2 nan;
+      timbre = getD floats 3 nan;
+      «volume_gain» = getD floats 4 nan;
+      «expression_gain» = getD floats 5 nan;
+      pan = getD floats 6 nan;
+    } ≡ voiceOf (drop at bs)
+unfolding voiceOf
+voice-read bs at floats pitch e f = rw (f, e, drop-drop 1 at bs, getD-drop at bs 0 0, add-zero at)
+
+-- one voice more in the array
+pub gathered-voice :
+    (bs : List ℕ) (at n i : ℕ) (array : List MaskVoice) (voice : MaskVoice) → i < n → n ≤ 128
+    → array ≡ gatheredTo i (voicesOf (drop at bs) n) → voice ≡ voiceOf (drop (at + 29 * i) bs)
+    → set array i voice ≡ gatheredTo (i + 1) (voicesOf (drop at bs) n)
+gathered-voice bs at n i array voice h m e f =
+    let voices = voicesOf (drop at bs) n in
+    let there : i < length voices = rw (voices-counted (drop at bs) n) h in
+    let same : voice ≡ getD voices i noVoice =
+    f ∙ ap voiceOf (sym (drop-drop (29 * i) at bs)) ∙ sym (voice-at-place (drop at bs) n i h) in
+    rw (e, same) (gathered-more voices i there (omega arith))
+
+-- ---- the test of the forbidden bits
+pub allowed-by-hertz : (b : ℕ) → bitAnd b 1 ≡ 1 → eqb (b / 2) 0 ≡ pitchAllowed b
+allowed-by-hertz b e = rw (eq-eqb (b % 2) 1 (sym (and-mask b 1) ∙ e)) (go (eqb (b / 2) 0))
+  where
+    go : (z : Bool) → z ≡ not (true && not z)
+    go true = refl
+    go false = refl
+
+pub allowed-by-note : (b : ℕ) → (bitAnd b 1 ≡ 1 → ⊥) → true ≡ pitchAllowed b
+allowed-by-note b n = rw (ne-eqb (b % 2) 1 (λ e. n (and-mask b 1 ∙ e)))
+
+module _ (bs : List ℕ) (at i n : ℕ) (h : i < n) where
+  here : getD (drop (at + 29 * i) bs) 0 0 ≡ getD bs (at + 29 * i) 0
+  here =
+      getD-drop (at + 29 * i) bs 0 0 ∙ ap (λ (k : ℕ). getD bs k 0) (add-zero (at + 29 * i))
+
+  pub allowed-next :
+      pitchAllowed (getD bs (at + 29 * i) 0) ≡ true
+      → pitchesAllowed (drop (at + 29 * (i + 1)) bs) (n - (i + 1))
+      ≡ pitchesAllowed (drop (at + 29 * i) bs) (n - i)
+  unfolding pitchesAllowed
+  allowed-next e =
+      let s : n - i ≡ suc (n - (i + 1)) = omega arith in
+      let d : at + 29 * i + 29 ≡ at + 29 * (i + 1) = omega arith in
+      rw (s, here, e, drop-drop 29 (at + 29 * i) bs, d)
+
+  pub allowed-not :
+      pitchAllowed (getD bs (at + 29 * i) 0) ≡ false
+      → false ≡ pitchesAllowed (drop (at + 29 * i) bs) (n - i)
+  unfolding pitchesAllowed
+  allowed-not e =
+      let s : n - i ≡ suc (n - (i + 1)) = omega arith in
+      rw (s, here, e)
+
+pub allowed-end : (bs : List ℕ) (i n : ℕ) → n ≤ i → true ≡ pitchesAllowed bs (n - i)
+unfolding pitchesAllowed
+allowed-end bs i n h =
+    let s : n - i ≡ 0 = omega arith in
+    rw s
+
+pub allowed-start :
+    (bs : List ℕ) (at n : ℕ)
+    → pitchesAllowed (drop (at + 29 * 0) bs) (n - 0) ≡ pitchesAllowed (drop at bs) n
+allowed-start bs at n =
+    let s : n - 0 ≡ n = omega arith in
+    let d : at + 29 * 0 ≡ at = omega arith in
+    rw (s, d)
