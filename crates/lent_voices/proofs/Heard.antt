@@ -20,44 +20,19 @@ use Rattle.scene.specs.Accepted.{voiceAccepted}
 use Rattle.limits.specs.Lengths.{MOST-VOICES}
 use Rattle.refusals.specs.Masks.{first, settingsReply, voicesReply, tableReply}
 use Rattle.refusals.specs.Masks.{voicesMaskReply, tabledMaskReply, stereoReply}
+use Rattle.refusals.proofs.Heard.{all-heard, voices-same}
 use Rattle.refusals.proofs.MaskAccepted.{Done, both-done, voices-done}
 use Rattle.scene.specs.Gathered.{gathered}
 use Rattle.scene.proofs.Gathered.{take-gathered}
 
--- a test that comes after refusal 3
-after-three :
-    (over : Bool) (rest : ℕ → Reply) {a b : ℕ} → (T (not over) → a ≡ b)
-    → cond over (refused VOICE-COUNT 0) (rest a) ≡ cond over (refused VOICE-COUNT 0) (rest b)
-after-three true rest e = refl
-after-three false rest e = ap rest (e tt)
-
 module _ (voices : List MaskVoice) (count : ℕ) (counted : count ≡ length voices) where
-  all-heard : count ≤ 128 → take count (gathered voices) ≡ voices
-  all-heard few =
-      ap (λ (n : ℕ). take n (gathered voices)) counted
-      ∙ take-gathered voices (subst (λ (n : ℕ). n ≤ 128) counted few)
-
-  heard-same : count ≤ 128 → take count (gathered voices) ≡ take count voices
-  heard-same few =
-      all-heard few ∙ sym (take-length voices) ∙ ap (λ (n : ℕ). take n voices) (sym counted)
-
   -- ---- the replies
-  voices-same :
-      (lengths : Bool)
-      → voicesReply (gathered voices) count lengths ≡ voicesReply voices count lengths
-  unfolding voicesReply
-  voices-same lengths =
-      after-three (ltb MOST-VOICES count)
-      (λ v. cond (not lengths) (refused LENGTH 0) (cond (ltb v count) (refused VOICE v) (done [])))
-      (λ t. ap (λ (heard : List MaskVoice). firstBad (λ index voice. voiceAccepted voice) heard)
-      (heard-same (nltb→le MOST-VOICES count t)))
-
   pub mono-same :
       (n : ℕ) (curve : List Float) (config : MaskConfig)
       → voicesMaskReply n curve (gathered voices) count config
       ≡ voicesMaskReply n curve voices count config
   unfolding voicesMaskReply
-  mono-same n curve config = ap (λ (r : Reply). first (settingsReply config) r) (voices-same _)
+  mono-same n curve config = ap (λ (r : Reply). first (settingsReply config) r) (voices-same voices count counted _)
 
   pub tabled-same :
       (n : ℕ) (curve : List Float) (config : MaskConfig) (table : List Float)
@@ -65,7 +40,7 @@ module _ (voices : List MaskVoice) (count : ℕ) (counted : count ≡ length voi
       ≡ tabledMaskReply n curve voices count config table
   unfolding tabledMaskReply
   tabled-same n curve config table =
-      ap (λ (r : Reply). first (settingsReply config) (first r (tableReply table))) (voices-same _)
+      ap (λ (r : Reply). first (settingsReply config) (first r (tableReply table))) (voices-same voices count counted _)
 
   pub stereo-same :
       (m n : ℕ) (curve : List Float) (config : MaskConfig) (table : List Float)
@@ -73,7 +48,7 @@ module _ (voices : List MaskVoice) (count : ℕ) (counted : count ≡ length voi
       ≡ stereoReply m n curve voices count config table
   unfolding stereoReply
   stereo-same m n curve config table =
-      ap (λ (r : Reply). first (settingsReply config) (first r (tableReply table))) (voices-same _)
+      ap (λ (r : Reply). first (settingsReply config) (first r (tableReply table))) (voices-same voices count counted _)
 
   -- ---- a call that is done was given at most 128 voices
   few :
@@ -111,5 +86,5 @@ module _ (voices : List MaskVoice) (count : ℕ) (counted : count ≡ length voi
   pub written-same :
       (mask : List MaskVoice → List Float) (old : List Float) (a : Reply) → (Done a → count ≤ 128)
       → written a (mask (take count (gathered voices))) old ≡ written a (mask voices) old
-  written-same mask old (done values) few = ap mask (all-heard (few tt))
+  written-same mask old (done values) few = ap mask (all-heard voices count counted (few tt))
   written-same mask old (refused number place) few = refl

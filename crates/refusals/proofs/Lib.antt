@@ -2,3 +2,4 @@ pub mod MaskAccepted
 pub mod MaskAnswers
 pub mod Parameters
 pub mod RealScene
+pub mod Heard
