@@ -1,7 +1,9 @@
 //! The open calls: each tests its own input in the order of the refusals' numbers, and then does
-//! what the Rust does. A refused call changes nothing.
+//! what the Rust does, or what its change request says where the Rust has no such call. A refused
+//! call changes nothing.
 
 use crate::refusals::{self as refuse, Outcome, Refusal, within};
+use crate::scene_records::{self, StoredScene};
 use crate::spectral_dsp::{
     self as dsp, MANUAL_MASK_POINTS, MIDI_NOTES, MaskConfig, MaskVoice, MaskWorkspace,
     MotionConfig, processing,
@@ -269,4 +271,30 @@ pub fn prepared_spectrum_new(
         prepared.window_coherent_gain,
         prepared.smooth_window_coherent_gain,
     ])
+}
+
+/// Writes a scene as a record, of which every byte is written.
+pub fn write_scene(record: &mut [u8], scene: &StoredScene) -> Outcome {
+    refuse::config(scene.config)?;
+    refuse::count(&scene.voices)?;
+    refuse::length(record.len() == scene_records::length_of(scene.voices.len()))?;
+    refuse::voices(&scene.voices)?;
+    record.copy_from_slice(&scene_records::written(scene));
+    Ok(())
+}
+
+/// The scene of a record, or the blank one where it is refused. That it is a record, 9, is tested
+/// before its fields are.
+pub fn read_scene(record: &[u8]) -> (Outcome, StoredScene) {
+    let tests = || {
+        let scene = refuse::record(scene_records::fields_of(record))?;
+        refuse::config(scene.config)?;
+        refuse::count(&scene.voices)?;
+        refuse::voices(&scene.voices)?;
+        Ok(scene)
+    };
+    match tests() {
+        Ok(scene) => (Ok(()), scene),
+        Err(refusal) => (Err(refusal), StoredScene::blank()),
+    }
 }

@@ -1,5 +1,6 @@
 //! What the port is compared with: the Rust that is ported, with document 01's functions in place
-//! of its library calls, always the plain way, and the refusals of document 01's table.
+//! of its library calls, always the plain way, and the refusals of document 01's table. The calls
+//! that the Rust lacks are written from the text of their change request.
 
 #![forbid(unsafe_code)]
 
@@ -12,9 +13,12 @@ pub mod lists;
 pub mod mask_calls;
 pub mod numbers;
 pub mod plain_pitch;
+pub mod plain_words;
 pub mod port_tables;
 pub mod random;
+pub mod record_calls;
 pub mod refusals;
+pub mod scene_records;
 pub mod scenes;
 pub mod tables;
 

@@ -1,4 +1,5 @@
-//! Document 01's table of refusals and its limits, ends included. NaN lies outside every limit.
+//! Document 01's table of refusals, with the numbers that change requests add to it, and its
+//! limits, ends included. NaN lies outside every limit.
 
 use crate::spectral_dsp::{MaskConfig, MaskVoice, MotionConfig, Pitch};
 
@@ -148,4 +149,12 @@ pub fn overlap(overlap: usize, length: usize) -> Outcome {
         OVERLAPS.contains(&overlap) && length.is_multiple_of(overlap),
         8,
     )
+}
+
+/// 9: what was read of a record, or nothing where it is none.
+pub fn record<T>(read: Option<T>) -> Result<T, Refusal> {
+    read.ok_or(Refusal {
+        number: 9,
+        place: 0,
+    })
 }
