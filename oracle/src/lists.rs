@@ -7,13 +7,16 @@ mod numbers;
 mod oiko_dsp;
 mod panel;
 mod processing;
+mod scene_records;
 pub mod slices;
 mod spectral_dsp;
 
 use crate::calls::Answer;
 use crate::edges::{around_finite, around_limits};
 use crate::numbers::bits_of;
+use crate::plain_words::voice_words;
 use crate::refusals::{Outcome, Refusal};
+use crate::spectral_dsp::MaskVoice;
 use slices::Slice;
 
 /// A list: its calls, the text that the program prints, and the drawing that it makes. Calls and
@@ -47,6 +50,12 @@ impl List {
 
     fn slices(&mut self, slices: &[Slice]) {
         slices.iter().for_each(|slice| slice.words(self));
+    }
+
+    /// A count of voices, of which the first ones are stored; those past them are default voices.
+    fn voices(&mut self, count: usize, stored: &[MaskVoice]) {
+        self.words(&[count as u32, stored.len() as u32]);
+        stored.iter().for_each(|one| self.words(&voice_words(one)));
     }
 
     fn line(&mut self, line: &str) {
@@ -119,6 +128,7 @@ pub const PROGRAMS: [Program; 3] = [
             Named::new("processing", processing::list),
             Named::new("masks", masks::list),
             Named::new("mask_refusals", masks::refusals),
+            Named::new("scene_records", scene_records::list),
         ],
     },
     Program {

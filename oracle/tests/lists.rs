@@ -93,6 +93,15 @@ fn every_mask_builder_and_refusal_shows_twenty_times() {
     shows("mask_refusals", &refused);
 }
 
+#[test]
+fn both_calls_on_scene_records_and_their_refusals_show_twenty_times() {
+    let rows: [(&str, &[u32]); 2] = [
+        ("write_scene", &[0, 1, 2, 3, 4, 5]),
+        ("read_scene", &[0, 1, 2, 3, 5, 9]),
+    ];
+    shows("scene_records", &rows);
+}
+
 /// The forms of the stored voices of each record, in the format that README.md states.
 fn forms(calls: &[u8]) -> Vec<Vec<u32>> {
     let words = calls

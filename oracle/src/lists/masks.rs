@@ -4,49 +4,19 @@ use super::slices::hash_text;
 use super::{List, float_text, outcome_text};
 use crate::builders::Builder;
 use crate::mask_calls::{Call, any_scene, chord, fault, other_table};
-use crate::plain_pitch::plain;
+use crate::plain_words::settings_words;
 use crate::random::Random;
 use crate::scenes;
-use crate::spectral_dsp::{MaskConfig, MaskVoice};
+use crate::spectral_dsp::MaskConfig;
 
 const SEED: u64 = 34;
 
 /// How often each refusal of each builder is shown.
 const TIMES: usize = 20;
 
-fn config_words(list: &mut List, config: &MaskConfig) {
-    list.float(config.sample_rate);
-    list.word(config.fft_size as u32);
-    list.float(config.note_depth_db);
-    list.word(u32::from(config.note_layer_enabled));
-    list.float(config.width_cents);
-    list.word(config.partials as u32);
-    list.float(config.harmonic_rolloff_db_per_octave);
-    list.word(config.motion.shape as u32);
-    let motion = config.motion;
-    list.floats(&[motion.depth_db, motion.phase, motion.size_octaves]);
-}
-
-fn voice_words(list: &mut List, count: usize, stored: &[MaskVoice]) {
-    list.words(&[count as u32, stored.len() as u32]);
-    for voice in stored {
-        let (form, note, semitones_or_hertz) = plain(voice.pitch);
-        list.word(u32::from(form) * 256 + u32::from(note));
-        list.floats(&[
-            semitones_or_hertz,
-            voice.level,
-            voice.pressure,
-            voice.timbre,
-            voice.volume_gain,
-            voice.expression_gain,
-            voice.pan,
-        ]);
-    }
-}
-
 fn call_words(list: &mut List, call: &Call, builder: Builder) {
     list.word(builder as u32);
-    config_words(list, &call.config);
+    list.words(&settings_words(&call.config));
     list.word(call.left.length as u32);
     if builder.is_stereo() {
         list.word(call.right.length as u32);
@@ -57,7 +27,7 @@ fn call_words(list: &mut List, call: &Call, builder: Builder) {
         list.slices(&[call.table]);
     }
     if builder.takes_voices() {
-        voice_words(list, call.count, &call.voices);
+        list.voices(call.count, &call.voices);
     } else {
         list.slices(&[call.levels]);
     }

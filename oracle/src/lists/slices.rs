@@ -86,12 +86,16 @@ impl Slice {
     }
 }
 
-/// 64-bit FNV-1a over the big-endian bit patterns, every NaN as one.
-pub fn hash(values: &[f32]) -> u64 {
-    let bytes = values.iter().flat_map(|&x| bits_of(x).to_be_bytes());
+/// 64-bit FNV-1a.
+pub fn byte_hash(bytes: impl Iterator<Item = u8>) -> u64 {
     bytes.fold(0xcbf2_9ce4_8422_2325, |hash, byte| {
         (hash ^ u64::from(byte)).wrapping_mul(0x0000_0100_0000_01b3)
     })
+}
+
+/// The hash of the big-endian bit patterns, every NaN as one.
+pub fn hash(values: &[f32]) -> u64 {
+    byte_hash(values.iter().flat_map(|&x| bits_of(x).to_be_bytes()))
 }
 
 pub fn hash_text(values: &[f32]) -> String {
