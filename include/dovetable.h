@@ -4,10 +4,11 @@
  *
  * An open call returns 0 when it is done, else the number of a refusal (DovetableRefusal). When
  * done it writes its results and leaves *place alone; when refused it writes *place and nothing
- * else: an index where the refusal has one, else 0. The comment of a call lists its tests under the
- * number of the refusal that a failed test gives. They run in the order of the numbers, and of
- * several bad entries the lowest is named. NaN is outside every limit; the ends of a limit are
- * inside.
+ * else: an index where the refusal has one, else 0. dovetable_read_scene writes nothing and returns
+ * the number, the place and its result in one struct. The comment of a call lists its tests under
+ * the number of the refusal that a failed test gives. They run in the order of the numbers, but 9
+ * runs first, and of several bad entries the lowest is named. NaN is outside every limit; the ends
+ * of a limit are inside.
  *
  * A slice is passed as a pointer and the number of its entries, all of which must exist. A null
  * pointer with 0 entries is an empty slice. Memory that a call writes must not overlap anything
@@ -42,14 +43,18 @@ enum DovetableRefusal {
     /* a level, gain or window value outside its limits; place: entry */
     DOVETABLE_REFUSED_VALUE = 7,
     /* overlap not in 1..16 or not dividing the length */
-    DOVETABLE_REFUSED_OVERLAP = 8
+    DOVETABLE_REFUSED_OVERLAP = 8,
+    /* a record of the wrong length, or with a forbidden bit set */
+    DOVETABLE_REFUSED_RECORD = 9
 };
 
 enum {
     DOVETABLE_CURVE_POINTS = 8193, /* of a drawn curve */
     DOVETABLE_NOTES = 128,         /* of a bank of note levels */
     DOVETABLE_HELD_BYTES = 16,     /* of the held notes */
-    DOVETABLE_MOST_VOICES = 128
+    DOVETABLE_MOST_VOICES = 128,
+    DOVETABLE_RECORD_HEAD_BYTES = 31, /* of a scene record, before its voices */
+    DOVETABLE_RECORD_VOICE_BYTES = 29 /* of each of its voices */
 };
 
 /* The moving field's shapes. Any other number is refusal 2. */
@@ -98,6 +103,22 @@ struct DovetableSettings {
     float motion_depth_db;                /* 0..96: attenuation where the field is closed */
     float motion_phase;                   /* any finite: position in a cycle of length 1 */
     float motion_size_octaves;            /* 0..100 */
+};
+
+/* A scene: what a record holds. */
+struct DovetableScene {
+    struct DovetableSettings settings;
+    size_t count; /* of the voices in use, from the first; the others are ignored */
+    struct DovetableVoice voices[DOVETABLE_MOST_VOICES];
+};
+
+/* What dovetable_read_scene returns. When done: 0, place 0 and the scene, in which the note of a
+ * voice by hertz is 0, and the voices past the count are notes 0 with 0 in every other field. When
+ * refused: the number, the place and a blank scene, which has 0 in every field. */
+struct DovetableSceneRead {
+    uint32_t number; /* 0, or a DovetableRefusal */
+    size_t place;
+    struct DovetableScene scene;
 };
 
 /* ---- Single numbers: when done, each writes its value. ---- */
@@ -219,6 +240,28 @@ uint32_t dovetable_prepared_spectrum_new(float sample_rate, const float *window,
                                          size_t smooth_length, size_t overlap, float *block,
                                          size_t block_length, float *window_coherent_gain,
                                          float *smooth_window_coherent_gain, size_t *place);
+
+/* ---- Scene records: settings and voices as bytes, to store them ----
+ *
+ * The fields of a record follow one another, the most significant bit of each first. Its head is
+ * 31 bytes: 4 bits for the logarithm to base 2 of the size, 1 for the note layer (1 is on), 3 for
+ * the shape, 5 for the partials, 8 for the count of voices, 3 that are zero; then the floats rate,
+ * note depth, width, rolloff, motion depth, motion phase, motion size. Each voice is 29 bytes: 7
+ * bits for the note, 1 for the form of the pitch; then the floats level, semitones or hertz,
+ * pressure, timbre, volume, expression, pan. For hertz the note bits are zero. The drawn curve is
+ * not in it. Every accepted scene comes back to the bit, and every accepted record is the one that
+ * its scene is written as.
+ */
+
+/* Writes a scene as a record. Tests: 1, size, rate; 2, every other setting; 3, at most 128 voices;
+ * 4, a record of 31 + 29*count bytes; 5, the voices. Writes: every byte of record. */
+uint32_t dovetable_write_scene(uint8_t *record, size_t bytes, struct DovetableScene scene,
+                               size_t *place);
+
+/* Reads a record. Tests: 9, before all others, 31 + 29*count bytes by the count in the record, the
+ * 3 bits zero, and the note bits zero in every voice by hertz; then, on the fields, 1, size, rate;
+ * 2, every other setting; 3, at most 128 voices; 5, the voices. */
+struct DovetableSceneRead dovetable_read_scene(const uint8_t *record, size_t bytes);
 
 /* ---- The functions below the calls: defined for every argument, never refused ---- */
 

@@ -1,6 +1,6 @@
 /*
- * A chord as stereo masks, its fifth by hertz, and a refusal. From the repository's root, once the
- * library is there:
+ * A chord, its fifth by hertz, stored as a record, read again and built as stereo masks; and a
+ * refusal. From the repository's root, once the library is there:
  *
  *     cc -std=c11 -I include bindings/c/example.c \
  *         target/staticlib/libspectral_dsp_c.a -o target/example
@@ -11,11 +11,13 @@
 #include "dovetable.h"
 
 #include <stdio.h>
+#include <string.h>
 
 enum { SIZE = 8192, BINS = SIZE / 2 + 1, VOICES = 3 };
 
 static float curve[DOVETABLE_CURVE_POINTS];
 static float table[BINS], left[BINS], right[BINS];
+static uint8_t record[DOVETABLE_RECORD_HEAD_BYTES + VOICES * DOVETABLE_RECORD_VOICE_BYTES];
 
 static struct DovetableVoice by_note(uint8_t note, float pan) {
     struct DovetableVoice made = {.pitch_form = DOVETABLE_PITCH_NOTE, .note = note, .level = 1.0f,
@@ -29,6 +31,15 @@ static struct DovetableVoice by_hertz(float hertz, float pan) {
     made.pitch_form = DOVETABLE_PITCH_HERTZ;
     made.semitones_or_hertz = hertz;
     return made;
+}
+
+/* Writes a chord as a record and reads it; the answer is that of the call that refuses, if any. */
+static struct DovetableSceneRead stored(const struct DovetableVoice *chord,
+                                        struct DovetableSettings settings) {
+    struct DovetableSceneRead answer = {.scene = {.settings = settings, .count = VOICES}};
+    memcpy(answer.scene.voices, chord, VOICES * sizeof chord[0]);
+    answer.number = dovetable_write_scene(record, sizeof record, answer.scene, &answer.place);
+    return answer.number ? answer : dovetable_read_scene(record, sizeof record);
 }
 
 /* Fills left and right with the masks of a chord; returns 0 or the number of a refusal. */
@@ -60,7 +71,9 @@ int main(void) {
     for (size_t point = 0; point < DOVETABLE_CURVE_POINTS; point++) {
         curve[point] = -(float)point * (24.0f / 8192.0f);
     }
-    if (masks_of(chord, settings, &place) != DOVETABLE_DONE) {
+    struct DovetableSceneRead read = stored(chord, settings);
+    if (read.number != DOVETABLE_DONE || read.scene.count != VOICES ||
+        masks_of(read.scene.voices, read.scene.settings, &place) != DOVETABLE_DONE) {
         return 1;
     }
     for (size_t i = 0; i < sizeof shown / sizeof shown[0]; i++) {

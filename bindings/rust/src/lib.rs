@@ -33,11 +33,13 @@
 mod calls;
 mod masks;
 pub mod processing;
+mod records;
 mod refused;
 mod scene;
 pub mod sys;
 
 pub use calls::*;
 pub use masks::*;
+pub use records::*;
 pub use refused::Refused;
 pub use scene::*;

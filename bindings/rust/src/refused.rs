@@ -5,7 +5,7 @@ use std::fmt;
 /// A refusal: document 01's number and a place. A refused call has changed nothing.
 #[derive(Clone, Copy, Debug, Eq, PartialEq)]
 pub struct Refused {
-    /// 1 to 8.
+    /// 1 to 9.
     pub number: u32,
     /// The index of the voice (5) or entry (6, 7) that is outside its limits, else 0.
     pub place: usize,
@@ -22,6 +22,7 @@ impl Refused {
             6 => "table entry from 1 on not in -2..17",
             7 => "a level, gain or window value outside its limits",
             8 => "overlap not in 1..16 or not dividing the length",
+            9 => "a record of the wrong length, or with a forbidden bit set",
             _ => "no refusal of document 01",
         }
     }

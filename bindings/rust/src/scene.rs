@@ -8,6 +8,8 @@ pub const MANUAL_MASK_POINTS: usize = 8193;
 pub const MIDI_NOTES: usize = 128;
 /// The most partials that a note may have.
 pub const MAX_PARTIALS: usize = 24;
+/// The most voices that a call takes.
+pub const MOST_VOICES: usize = 128;
 
 /// A voice's pitch. The two forms are never equal, even where they sound the same frequency.
 #[repr(u8)]
@@ -53,6 +55,27 @@ impl Default for MaskVoice {
             volume_gain: 1.0,
             expression_gain: 1.0,
             pan: 0.0,
+        }
+    }
+}
+
+/// By hertz the note is 0.
+impl From<&MaskVoice> for sys::VoiceRecord {
+    fn from(voice: &MaskVoice) -> Self {
+        let (pitch_form, note, semitones_or_hertz) = match voice.pitch {
+            Pitch::Note { note, semitones } => (0, note, semitones),
+            Pitch::Hertz { hertz } => (1, 0, hertz),
+        };
+        Self {
+            pitch_form,
+            note,
+            semitones_or_hertz,
+            level: voice.level,
+            pressure: voice.pressure,
+            timbre: voice.timbre,
+            volume_gain: voice.volume_gain,
+            expression_gain: voice.expression_gain,
+            pan: voice.pan,
         }
     }
 }

@@ -1,6 +1,8 @@
 //! The declarations of all exported functions and records of the static library.
 //! include/dovetable.h says what each call does and what it requires of the caller.
 
+use crate::scene::MOST_VOICES;
+
 /// Works on `n` numbers in place.
 pub type All = unsafe extern "C" fn(xs: *mut f32, n: usize);
 
@@ -35,6 +37,24 @@ pub struct Settings {
     pub motion_depth_db: f32,
     pub motion_phase: f32,
     pub motion_size_octaves: f32,
+}
+
+/// A scene as it is passed. The count may be any number; voices past it do not count.
+#[repr(C)]
+#[derive(Clone, Copy, Debug)]
+pub struct Scene {
+    pub settings: Settings,
+    pub count: usize,
+    pub voices: [VoiceRecord; MOST_VOICES],
+}
+
+/// What reading a record answers: 0 and the scene, or a refusal with its place and a blank scene.
+#[repr(C)]
+#[derive(Clone, Copy, Debug)]
+pub struct SceneRead {
+    pub number: u32,
+    pub place: usize,
+    pub scene: Scene,
 }
 
 unsafe extern "C" {
@@ -228,4 +248,12 @@ unsafe extern "C" {
         smooth_window_coherent_gain: &mut f32,
         place: &mut usize,
     ) -> u32;
+
+    pub fn dovetable_write_scene(
+        record: *mut u8,
+        bytes: usize,
+        scene: Scene,
+        place: &mut usize,
+    ) -> u32;
+    pub fn dovetable_read_scene(record: *const u8, bytes: usize) -> SceneRead;
 }

@@ -263,6 +263,7 @@ fn each_refusal_has_its_number_and_place() {
             8,
             0,
         ),
+        (read_scene(&[]).unwrap_err(), 9, 0),
     ];
     for (answer, number, place) in answers {
         assert_eq!(answer, refused(number, place));
@@ -276,6 +277,10 @@ fn a_refusal_says_its_condition() {
     assert_eq!(
         shown(5, 2),
         "refusal 5: a voice outside its limits (voice 2)"
+    );
+    assert_eq!(
+        shown(9, 0),
+        "refusal 9: a record of the wrong length, or with a forbidden bit set"
     );
     let error: Box<dyn std::error::Error> = Box::new(refused(6, 4));
     assert!(error.to_string().ends_with("-2..17 (entry 4)"));

@@ -1,5 +1,5 @@
 //! The header and `sys` declare what the Rattle source exports: every function with its parameters,
-//! and both records with their fields, by name, type and order.
+//! and every record with its fields, by name, type and order.
 
 use std::collections::BTreeMap;
 use std::fs;
@@ -11,25 +11,38 @@ type Named = Vec<(String, String)>;
 type Functions = BTreeMap<String, (Named, String)>;
 
 /// A Rattle type, as it is written in C and in Rust.
-const TYPES: [(&str, &str, &str); 12] = [
+const TYPES: [(&str, &str, &str); 14] = [
     ("", "void", ""),
     ("bool", "bool", "bool"),
     ("f32", "float", "f32"),
     ("u8", "uint8_t", "u8"),
     ("u32", "uint32_t", "u32"),
     ("usize", "size_t", "usize"),
-    ("Settings", "struct DovetableSettings", "Settings"),
     ("&mut f32", "float *", "&mut f32"),
     ("&mut usize", "size_t *", "&mut usize"),
     ("&mut [f32]", "float *", "*mut f32"),
     ("&[f32]", "const float *", "*const f32"),
+    ("&mut [u8]", "uint8_t *", "*mut u8"),
     ("&[u8]", "const uint8_t *", "*const u8"),
+    (
+        "&[VoiceRecord]",
+        "const struct DovetableVoice *",
+        "*const VoiceRecord",
+    ),
+    (
+        "[VoiceRecord; MOST_VOICES]",
+        "struct DovetableVoice[DOVETABLE_MOST_VOICES]",
+        "[VoiceRecord; MOST_VOICES]",
+    ),
 ];
-const VOICES: (&str, &str, &str) = (
-    "&[VoiceRecord]",
-    "const struct DovetableVoice *",
-    "*const VoiceRecord",
-);
+
+/// A Rattle record, as it is named in C and in Rust.
+const RECORDS: [(&str, &str, &str); 4] = [
+    ("VoiceRecord", "struct DovetableVoice", "VoiceRecord"),
+    ("Settings", "struct DovetableSettings", "Settings"),
+    ("Scene", "struct DovetableScene", "Scene"),
+    ("SceneRead", "struct DovetableSceneRead", "SceneRead"),
+];
 
 #[derive(Clone, Copy, PartialEq)]
 enum Language {
@@ -75,11 +88,13 @@ fn colon_names(text: &str) -> Named {
     parts.map(pair).collect()
 }
 
-/// `type name` for each part.
+/// `type name` or `type name[length]` for each part.
 fn c_names<'a>(parts: impl Iterator<Item = &'a str>) -> Named {
     let pair = |part: String| {
+        let (part, length) = part.split_at(part.find('[').unwrap_or(part.len()));
         let start = part.rfind([' ', '*']).unwrap() + 1;
-        (part[start..].into(), part[..start].trim_end().into())
+        let kind = part[..start].trim_end();
+        (part[start..].into(), format!("{kind}{length}"))
     };
     let parts = parts.map(one_space).filter(|part| !part.is_empty());
     parts.map(pair).collect()
@@ -95,7 +110,7 @@ fn crossing(named: &Named, language: Language) -> Named {
     let mut all = Named::new();
     for (name, kind) in named {
         all.push((name.clone(), written(kind, language)));
-        if kind.ends_with(']') {
+        if kind.starts_with('&') && kind.ends_with(']') {
             all.push((String::new(), written("usize", language)));
         }
     }
@@ -103,21 +118,26 @@ fn crossing(named: &Named, language: Language) -> Named {
 }
 
 fn written(kind: &str, language: Language) -> String {
-    let found = TYPES.iter().chain([&VOICES]).find(|row| row.0 == kind);
+    let found = TYPES.iter().chain(&RECORDS).find(|row| row.0 == kind);
     let &(_, c, rust) = found.unwrap_or_else(|| panic!("{kind} has no row"));
     String::from(if language == Language::C { c } else { rust })
 }
 
-/// What the Rattle source exports, as it is written in a language.
-fn exported(language: Language) -> Functions {
-    let folder = root().join("crates/spectral_dsp_c/src");
+/// The text of the files of a crate, without comments.
+fn rattle(name: &str) -> String {
+    let folder = root().join("crates").join(name).join("src");
     let files = fs::read_dir(folder)
         .unwrap()
         .map(|file| file.unwrap().path());
     let text: Vec<_> = files
         .map(|file| fs::read_to_string(file).unwrap())
         .collect();
-    let text = code(&text.concat());
+    code(&text.concat())
+}
+
+/// What the Rattle source exports, as it is written in a language.
+fn exported(language: Language) -> Functions {
+    let text = rattle("spectral_dsp_c");
     let function = |part: &str| {
         let (name, rest) = part.split_once('(').unwrap();
         let (parameters, rest) = rest.split_once(')').unwrap();
@@ -185,34 +205,31 @@ fn every_function() {
     }
 }
 
+/// The crates that have the records.
+fn crossing_crates() -> String {
+    let crates = fs::read_dir(root().join("crates")).unwrap();
+    let names = crates.map(|one| one.unwrap().file_name().into_string().unwrap());
+    let named = names.filter(|name| name.starts_with("crossing"));
+    named.map(|name| rattle(&name)).collect()
+}
+
 #[test]
-fn both_records() {
-    let records = [
-        (
-            "crates/crossing_voices/src/lib.rt",
-            "VoiceRecord",
-            "DovetableVoice",
-        ),
-        (
-            "crates/crossing/src/settings.rt",
-            "Settings",
-            "DovetableSettings",
-        ),
-    ];
+fn every_record() {
     let (header, sys) = (
         c_code(&read("include/dovetable.h")),
-        read("bindings/rust/src/sys.rs"),
+        code(&read("bindings/rust/src/sys.rs")),
     );
-    for (file, name, c_name) in records {
-        let rust_begin = format!("pub struct {name} {{");
-        let fields = |text: &str| colon_names(between(&code(text), &rust_begin, "}"));
-        let exported = fields(&read(file));
+    let rattle = crossing_crates();
+    let fields =
+        |text: &str, name| colon_names(between(text, &format!("pub struct {name} {{"), "}"));
+    for (name, c_name, rust_name) in RECORDS {
+        let exported = fields(&rattle, name);
         assert!(!exported.is_empty());
-        let c_fields = between(&header, &format!("struct {c_name} {{"), "}");
+        let c_fields = between(&header, &format!("{c_name} {{"), "}");
         assert_eq!(
             c_names(c_fields.split(';')),
             crossing(&exported, Language::C)
         );
-        assert_eq!(fields(&sys), crossing(&exported, Language::Rust));
+        assert_eq!(fields(&sys, rust_name), crossing(&exported, Language::Rust));
     }
 }

@@ -1,7 +1,7 @@
 //! A voice lies in memory as the record that is passed, and as the header's: a slice of voices is
-//! passed without copying.
+//! passed without copying. The other records lie in memory as the header's.
 
-use dovetable::sys::VoiceRecord;
+use dovetable::sys::{Scene, SceneRead, Settings, VoiceRecord};
 use dovetable::{MaskVoice, Pitch};
 use std::mem::{align_of, offset_of, size_of};
 use std::path::Path;
@@ -72,18 +72,19 @@ fn hertz_lie_where_a_record_has_them() {
     assert_eq!(offset_in(&voice, hertz), number);
 }
 
-/// The C compiler, where there is one, puts the header's fields where the record has them.
-#[test]
-fn the_headers_voice_has_the_records_offsets() {
-    let fields = offsets!(VoiceRecord: pitch_form, note, semitones_or_hertz, level, pressure,
-        timbre, volume_gain, expression_gain, pan);
-    let voice = "struct DovetableVoice";
-    let size = format!("_Static_assert(sizeof({voice}) == 32, \"size\");\n");
-    let offset =
-        |(name, at)| format!("_Static_assert(offsetof({voice}, {name}) == {at}, \"{name}\");\n");
-    let asserts: String = fields.into_iter().map(offset).collect();
-    let file = Path::new(env!("CARGO_TARGET_TMPDIR")).join("layout.c");
-    std::fs::write(&file, format!("#include \"dovetable.h\"\n{size}{asserts}")).unwrap();
+/// Asserts in C that a struct of the header has this size, and its fields at these offsets.
+fn asserts(name: &str, size: usize, fields: &[(&str, usize)]) -> String {
+    let offset = |(field, at): &(&str, usize)| {
+        format!("_Static_assert(offsetof(struct {name}, {field}) == {at}, \"{name} {field}\");\n")
+    };
+    let offsets: String = fields.iter().map(offset).collect();
+    format!("_Static_assert(sizeof(struct {name}) == {size}, \"{name}\");\n{offsets}")
+}
+
+/// What the C compiler, where there is one, says of asserts on the header.
+fn hold(name: &str, asserts: &str) {
+    let file = Path::new(env!("CARGO_TARGET_TMPDIR")).join(name);
+    std::fs::write(&file, format!("#include \"dovetable.h\"\n{asserts}")).unwrap();
     let include = Path::new(env!("CARGO_MANIFEST_DIR")).join("../../include");
     let mut cc = Command::new("cc");
     cc.args(["-std=c11", "-fsyntax-only", "-I"])
@@ -93,4 +94,30 @@ fn the_headers_voice_has_the_records_offsets() {
         Ok(status) => assert!(status.success()),
         Err(_) => eprintln!("cc is not on this machine"),
     }
+}
+
+#[test]
+fn the_headers_voice_has_the_records_offsets() {
+    let fields = offsets!(VoiceRecord: pitch_form, note, semitones_or_hertz, level, pressure,
+        timbre, volume_gain, expression_gain, pan);
+    let asserts = asserts("DovetableVoice", size_of::<VoiceRecord>(), &fields);
+    hold("voice.c", &asserts);
+}
+
+#[test]
+fn the_headers_settings_have_the_records_offsets() {
+    let fields = offsets!(Settings: sample_rate, fft_size, note_depth_db, note_layer_enabled,
+        width_cents, partials, harmonic_rolloff_db_per_octave, motion_shape, motion_depth_db,
+        motion_phase, motion_size_octaves);
+    let asserts = asserts("DovetableSettings", size_of::<Settings>(), &fields);
+    hold("settings.c", &asserts);
+}
+
+#[test]
+fn the_headers_scene_and_its_answer_have_the_records_offsets() {
+    let fields = offsets!(Scene: settings, count, voices);
+    let scene = asserts("DovetableScene", size_of::<Scene>(), &fields);
+    let fields = offsets!(SceneRead: number, place, scene);
+    let read = asserts("DovetableSceneRead", size_of::<SceneRead>(), &fields);
+    hold("scene.c", &(scene + &read));
 }
