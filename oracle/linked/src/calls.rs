@@ -5,6 +5,8 @@ use crate::*;
 use oracle::builders::{Builder, Lent, Masks};
 use oracle::config_in;
 use oracle::plain_pitch::{pitch_of, plain};
+use oracle::plain_words::{SETTINGS_WORDS, VOICE_WORDS};
+use oracle::scene_records::{SILENT, StoredScene};
 use oracle::spectral_dsp::{MaskVoice, MotionConfig};
 
 /// What a call gives: its number, and what it leaves in the place and the values that are lent.
@@ -134,7 +136,7 @@ fn record_of(voice: &MaskVoice) -> VoiceRecord {
 }
 
 /// The voice of a record, as the oracle reads it.
-fn voice_of(record: &VoiceRecord) -> MaskVoice {
+pub fn voice_of(record: &VoiceRecord) -> MaskVoice {
     let (form, number) = (record.pitch_form, record.semitones_or_hertz);
     MaskVoice {
         pitch: pitch_of(form, record.note, number),
@@ -266,4 +268,65 @@ pub fn prepared_spectrum_new(
         )
     };
     given
+}
+
+/// A scene as it is passed: the first 128 voices, and silent ones past its own.
+pub fn passed(scene: &StoredScene) -> Scene {
+    let voice = |index| record_of(scene.voices.get(index).unwrap_or(&SILENT));
+    Scene {
+        settings: config_in!(scene.config, dovetable).into(),
+        count: scene.voices.len(),
+        voices: std::array::from_fn(voice),
+    }
+}
+
+/// A count as a word; one that does not fit is the greatest word, which no count of a scene is.
+fn count_word(count: usize) -> u32 {
+    u32::try_from(count).unwrap_or(u32::MAX)
+}
+
+fn settings_words(settings: &Settings) -> [u32; SETTINGS_WORDS] {
+    [
+        settings.sample_rate.to_bits(),
+        count_word(settings.fft_size),
+        settings.note_depth_db.to_bits(),
+        u32::from(settings.note_layer_enabled),
+        settings.width_cents.to_bits(),
+        count_word(settings.partials),
+        settings.harmonic_rolloff_db_per_octave.to_bits(),
+        settings.motion_shape,
+        settings.motion_depth_db.to_bits(),
+        settings.motion_phase.to_bits(),
+        settings.motion_size_octaves.to_bits(),
+    ]
+}
+
+fn voice_words(voice: &VoiceRecord) -> [u32; VOICE_WORDS] {
+    [
+        u32::from(voice.pitch_form) * 256 + u32::from(voice.note),
+        voice.semitones_or_hertz.to_bits(),
+        voice.level.to_bits(),
+        voice.pressure.to_bits(),
+        voice.timbre.to_bits(),
+        voice.volume_gain.to_bits(),
+        voice.expression_gain.to_bits(),
+        voice.pan.to_bits(),
+    ]
+}
+
+/// A scene that was answered in plain words, as the oracle's `StoredScene` has them.
+pub fn scene_words(scene: &Scene) -> Vec<u32> {
+    let mut words = settings_words(&scene.settings).to_vec();
+    words.push(count_word(scene.count));
+    words.extend(scene.voices.iter().flat_map(voice_words));
+    words
+}
+
+pub fn write_scene(record: &mut [u8], scene: Scene) -> Given {
+    let (written, n) = (record.as_mut_ptr(), record.len());
+    outcome(|place| unsafe { dovetable_write_scene(written, n, scene, place) })
+}
+
+pub fn read_scene(record: &[u8]) -> SceneRead {
+    unsafe { dovetable_read_scene(record.as_ptr(), record.len()) }
 }

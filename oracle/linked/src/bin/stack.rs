@@ -1,14 +1,17 @@
-//! How many bytes of stack each mask builder uses, the most over random scenes.
+//! How many bytes of stack each mask builder and each call on scene records uses, the most over
+//! random scenes.
 //!
 //!     stack SEED SCENES
 //!
 //! A call runs on a stack of its own that is filled with one byte before; what still holds it was
-//! not used. The frame of the Rust function that makes the call is counted with it.
+//! not used. The frames of the Rust functions that make the call are counted with it, and in them a
+//! scene that is passed or answered by value.
 
-use linked::calls::{self as port, Crossing, Given};
-use oracle::builders::{Builder, Lent, Masks};
-use oracle::mask_calls::any_scene;
+use linked::calls::{self as port, Crossing};
+use oracle::builders::Builder;
+use oracle::mask_calls::{Call, any_scene};
 use oracle::random::Random;
+use oracle::scene_records::{StoredScene, length_of};
 use std::arch::asm;
 use std::process::ExitCode;
 
@@ -20,27 +23,24 @@ const BYTES: usize = 1 << 20;
 #[derive(Clone, Copy)]
 struct Sixteen([u8; 16]);
 
-/// What a call is made of, and what it gives.
-struct Call<'a> {
-    builder: Builder,
-    lent: &'a Lent,
-    crossing: &'a Crossing,
-    masks: &'a mut Masks,
-    given: Option<Given>,
+/// A call, which answers its number.
+type Work<'a> = &'a mut dyn FnMut() -> u32;
+
+/// The call that is made, and the number that it gives.
+struct Made<'a> {
+    work: Work<'a>,
+    number: Option<u32>,
 }
 
-extern "C" fn make(call: &mut Call) {
-    call.given = Some(port::build(
-        call.builder,
-        call.lent,
-        call.crossing,
-        call.masks,
-    ));
+extern "C" fn make(made: &mut Made) {
+    made.number = Some((made.work)());
 }
 
 /// Makes the call on a stack that grows down from the end of the one lent, and counts what it used.
-fn used(stack: &mut [Sixteen], call: &mut Call) -> usize {
+/// The call must be accepted.
+fn used(stack: &mut [Sixteen], work: Work) -> usize {
     stack.fill(Sixteen([PAINT; 16]));
+    let mut made = Made { work, number: None };
     // The register that holds the old stack is one that a called function keeps.
     unsafe {
         asm!(
@@ -48,13 +48,43 @@ fn used(stack: &mut [Sixteen], call: &mut Call) -> usize {
             "call {make}",
             "mov rsp, r12",
             make = sym make,
-            in("rdi") call,
+            in("rdi") &mut made,
             inout("r12") stack.as_mut_ptr_range().end => _,
             clobber_abi("C"),
         );
     }
+    assert_eq!(made.number, Some(0));
     let untouched = |piece: &&Sixteen| piece.0 == [PAINT; 16];
     BYTES - 16 * stack.iter().take_while(untouched).count()
+}
+
+/// The mask builders, then writing and reading a scene.
+fn names() -> Vec<&'static str> {
+    let builders = Builder::ALL.iter().map(|one| one.name());
+    builders.chain(["write_scene", "read_scene"]).collect()
+}
+
+/// What each call uses on a scene, in the order of the names.
+fn used_on(stack: &mut [Sixteen], drawn: &Call) -> Vec<usize> {
+    let lent = drawn.lent();
+    let (crossing, mut masks) = (Crossing::from(&lent), drawn.masks());
+    let build = |builder| {
+        used(stack, &mut || {
+            port::build(builder, &lent, &crossing, &mut masks).number
+        })
+    };
+    let mut all: Vec<usize> = Builder::ALL.into_iter().map(build).collect();
+    let scene = StoredScene {
+        config: lent.config,
+        voices: lent.voices.clone(),
+    };
+    let passed = port::passed(&scene);
+    let mut record = vec![0; length_of(scene.voices.len())];
+    all.push(used(stack, &mut || {
+        port::write_scene(&mut record, passed).number
+    }));
+    all.push(used(stack, &mut || port::read_scene(&record).number));
+    all
 }
 
 fn main() -> ExitCode {
@@ -65,24 +95,15 @@ fn main() -> ExitCode {
     };
     let mut random = Random::new(seed);
     let mut stack = vec![Sixteen([PAINT; 16]); BYTES / 16];
-    let mut most = Builder::ALL.map(|_| 0);
+    let mut most = vec![0; names().len()];
     for _ in 0..scenes {
-        let drawn = any_scene(&mut random);
-        let lent = drawn.lent();
-        for (builder, most) in Builder::ALL.into_iter().zip(&mut most) {
-            let mut call = Call {
-                builder,
-                lent: &lent,
-                crossing: &Crossing::from(&lent),
-                masks: &mut drawn.masks(),
-                given: None,
-            };
-            *most = used(&mut stack, &mut call).max(*most);
-            assert_eq!(call.given.map(|given| given.number), Some(0), "{drawn:?}");
+        let all = used_on(&mut stack, &any_scene(&mut random));
+        for (most, used) in most.iter_mut().zip(all) {
+            *most = used.max(*most);
         }
     }
-    for (builder, most) in Builder::ALL.into_iter().zip(most) {
-        println!("{:<44}{most:>8}", builder.name());
+    for (name, most) in names().into_iter().zip(most) {
+        println!("{name:<44}{most:>8}");
     }
     ExitCode::SUCCESS
 }

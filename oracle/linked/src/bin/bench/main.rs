@@ -1,5 +1,5 @@
-//! Nanoseconds per call of the port beside Rust's std and beside the unaltered Rust, in one run,
-//! the best of many.
+//! Nanoseconds per call of the port beside Rust's std and beside the unaltered Rust, and for what
+//! the Rust does not have beside the oracle, in one run, the best of many.
 //!
 //!     bench [SEED [masks | calls]]
 //!
@@ -11,6 +11,7 @@ mod classes;
 mod masks;
 mod numbers;
 mod open_calls;
+mod scene_records;
 mod single_numbers;
 
 use std::process::ExitCode;
@@ -43,6 +44,13 @@ fn mask_tables(seed: u64) -> ExitCode {
     ExitCode::from(u8::from(wrong > 0))
 }
 
+/// Prints the tables of the other open calls.
+fn call_tables() {
+    open_calls::table();
+    println!();
+    scene_records::table();
+}
+
 fn main() -> ExitCode {
     let words: Vec<String> = std::env::args().skip(1).collect();
     let words: Vec<&str> = words.iter().map(String::as_str).collect();
@@ -54,13 +62,13 @@ fn main() -> ExitCode {
         Part::All => {
             numbers::table();
             println!();
-            open_calls::table();
+            call_tables();
             println!();
             mask_tables(seed)
         }
         Part::Masks => mask_tables(seed),
         Part::Calls => {
-            open_calls::table();
+            call_tables();
             ExitCode::SUCCESS
         }
     }

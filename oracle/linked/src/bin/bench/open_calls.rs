@@ -30,11 +30,11 @@ fn best(group: u32, mut work: impl FnMut()) -> f64 {
 }
 
 /// The two sides take turns, so that a slow stretch of the machine does not fall on one alone.
-pub fn row(name: &str, group: u32, mut port: impl FnMut(), mut original: impl FnMut()) {
+pub fn row(name: &str, group: u32, mut port: impl FnMut(), mut other: impl FnMut()) {
     let (mut ours, mut theirs) = (f64::INFINITY, f64::INFINITY);
     for _ in 0..TURNS {
         ours = ours.min(best(group, &mut port));
-        theirs = theirs.min(best(group, &mut original));
+        theirs = theirs.min(best(group, &mut other));
     }
     let ratio = ours / theirs;
     println!("{name:<44}{ours:>11.1}{theirs:>11.1}{ratio:>9.2}");
@@ -177,11 +177,16 @@ fn spectra(size: usize) {
     );
 }
 
-pub fn table() {
+/// The heading of the rows, with the name of the other side.
+pub fn heading(other: &str) {
     println!(
-        "{:<44}{:>11}{:>11}{:>9}",
-        "ns per call", "port", "Rust", "ratio"
+        "{:<44}{:>11}{other:>11}{:>9}",
+        "ns per call", "port", "ratio"
     );
+}
+
+pub fn table() {
+    heading("Rust");
     single_numbers::rows();
     banks();
     tables();

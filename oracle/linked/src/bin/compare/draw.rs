@@ -34,13 +34,16 @@ pub fn note(random: &mut Random) -> u8 {
     }
 }
 
+/// Shapes that are none of the eight.
+pub const NO_SHAPES: [u32; 5] = [8, 9, 255, 256, u32::MAX];
+
 pub fn motion(random: &mut Random) -> Motion {
     let mut motion = Motion::from(scenes::motion(random));
     match random.below(16) {
         0 => motion.depth_db = setting(random, MOTION_DEPTH),
         1 => motion.phase = finite(random),
         2 => motion.size_octaves = setting(random, MOTION_SIZE),
-        3 => motion.shape = random.pick(&[8, 9, 255, 256, u32::MAX]),
+        3 => motion.shape = random.pick(&NO_SHAPES),
         _ => (),
     }
     motion
@@ -82,6 +85,11 @@ pub fn overlap(random: &mut Random) -> usize {
         0 => random.pick(&[0, 17, 18, 64, usize::MAX]),
         _ => 1 + random.below(16),
     }
+}
+
+/// A copy that begins this many entries into its memory, so that it may stand at any address.
+pub fn copy_at<T: Copy + Default>(first: usize, slice: &[T]) -> Vec<T> {
+    [&vec![T::default(); first][..], slice].concat()
 }
 
 /// Spread between limits, evenly or over the exponents; now and then with a few entries from

@@ -1,6 +1,6 @@
 //! The note envelopes: the oracle's call on slices, and what the calls have reached.
 
-use crate::draw::{self, OUTSIDE};
+use crate::draw::{self, OUTSIDE, copy_at};
 use crate::open_calls::note_slice;
 use crate::run::Run;
 use linked::calls as port;
@@ -154,11 +154,6 @@ impl Reached {
         println!("note envelopes  each note alone held, at least: {held}");
         println!("note envelopes  each alone outside, with each of {levels}, at least: {outside}");
     }
-}
-
-/// A copy that begins this many entries into its memory, so that it may stand at any address.
-fn copy_at<T: Copy + Default>(first: usize, slice: &[T]) -> Vec<T> {
-    [&vec![T::default(); first][..], slice].concat()
 }
 
 pub fn compare(run: &mut Run) {

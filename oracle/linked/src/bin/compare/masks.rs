@@ -1,5 +1,6 @@
 //! The mask builders on whole scenes: answers, places, and every bin of every mask.
 
+use crate::draw::NO_SHAPES;
 use crate::open_calls::note_slice;
 use crate::run::Run;
 use crate::tally::Tally;
@@ -91,7 +92,7 @@ fn block(random: &mut Random, fft_size: usize, table: &[f32]) -> Vec<f32> {
 
 /// Puts any note into the records by hertz, where it does not count, and now and then a form that
 /// is neither into a record whose numbers would do for both.
-fn odd_forms(random: &mut Random, records: &mut [VoiceRecord]) {
+pub fn odd_forms(random: &mut Random, records: &mut [VoiceRecord]) {
     for record in records.iter_mut().filter(|one| one.pitch_form == HERTZ) {
         record.note = random.word() as u8;
     }
@@ -153,7 +154,7 @@ impl Drawn {
         odd_forms(random, &mut crossing.voices);
         lent.voices = crossing.read_voices();
         if random.once_in(64) {
-            crossing.settings.motion_shape = random.pick(&[8, 9, 255, 256, u32::MAX]);
+            crossing.settings.motion_shape = random.pick(&NO_SHAPES);
         }
         let masks = call.masks();
         let before = masks.map(|mask| mask.iter().map(|_| random.float()).collect());

@@ -14,7 +14,7 @@ use std::fmt::Debug;
 
 /// What a call has to give where the oracle answers so: the values where it is done, and the place
 /// where it is refused.
-fn expected<const N: usize>(answer: Result<[f32; N], Refusal>) -> Given {
+pub fn expected<const N: usize>(answer: Result<[f32; N], Refusal>) -> Given {
     let mut given = BEFORE;
     match answer {
         Ok(values) => {
@@ -29,7 +29,7 @@ fn expected<const N: usize>(answer: Result<[f32; N], Refusal>) -> Given {
     given
 }
 
-fn same_given(a: Given, b: Given) -> bool {
+pub fn same_given(a: Given, b: Given) -> bool {
     (a.number, a.place, a.values.map(bits_of)) == (b.number, b.place, b.values.map(bits_of))
 }
 
