@@ -55,7 +55,7 @@ fn any_voice<'a>(random: &mut Random, scene: &'a mut StoredScene) -> Option<&'a 
 }
 
 /// NaN of either sign, with any payload, quiet or not.
-fn any_nan(random: &mut Random) -> f32 {
+pub fn any_nan(random: &mut Random) -> f32 {
     let payload = 1 + random.below(0x7f_ffff) as u32;
     let sign = random.pick(&[0, 1 << 31]);
     f32::from_bits(sign | 0x7f80_0000 | payload)

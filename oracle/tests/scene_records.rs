@@ -43,7 +43,7 @@ fn is_refused_or_comes_back(record: &[u8]) -> bool {
     outcome.is_err() || (write_scene(&mut again, &scene) == Ok(()) && again == record)
 }
 
-/// Two voices, the second by hertz, and no two numbers the same.
+/// Two voices, the second by hertz. No two floats of the head are the same, nor of a voice.
 fn hand_made() -> StoredScene {
     let motion = MotionConfig {
         shape: MotionShape::Scan,
@@ -138,6 +138,11 @@ fn every_value_of_a_small_field_has_its_bits() {
         let fill = |scene: &mut StoredScene| scene.voices.resize(count, SILENT);
         shown(&fill, 3, 8, count as u32);
     }
+}
+
+/// Seven bits of note and one of form, of which the lowest is the form.
+#[test]
+fn every_note_has_its_bits() {
     for note in 0..=127 {
         let mut scene = hand_made();
         scene.voices[1].pitch = Pitch::Note(note, 0.0);

@@ -54,10 +54,10 @@ impl Scene {
     /// Of more than 128 voices the first 128 are kept, but all are counted, so that [`write_scene`]
     /// refuses the scene under 3.
     pub fn new(config: MaskConfig, voices: &[MaskVoice]) -> Self {
-        let silent = |index| voices.get(index).copied().unwrap_or(SILENT);
+        let voice = |index| voices.get(index).copied().unwrap_or(SILENT);
         Self {
             config,
-            voices: std::array::from_fn(silent),
+            voices: std::array::from_fn(voice),
             count: voices.len(),
         }
     }

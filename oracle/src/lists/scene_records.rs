@@ -5,10 +5,12 @@ use super::{List, outcome_text};
 use crate::calls;
 use crate::plain_words::settings_words;
 use crate::random::Random;
-use crate::record_calls::{damage, fault, flip, oversize, scene, set_note_bits, set_zeros};
+use crate::record_calls::{
+    any_nan, damage, fault, flip, oversize, scene, set_note_bits, set_zeros,
+};
 use crate::refusals::MAX_VOICES;
 use crate::scene_records::{HEAD_BYTES, SILENT, StoredScene, length_of, written};
-use crate::scenes::SHAPES;
+use crate::scenes::{SHAPES, hertz};
 use crate::spectral_dsp::{MaskVoice, Pitch};
 
 const SEED: u64 = 104;
@@ -107,7 +109,7 @@ fn add_counts(list: &mut List, random: &mut Random) {
     }
 }
 
-/// Each logarithm, number of partials and shape, the layer on and off, and each of the zero bits.
+/// Each logarithm, number of partials and shape, and the layer on and off.
 fn add_fields(list: &mut List, random: &mut Random) {
     for logarithm in 0..16 {
         let mut scene = scene(random, logarithm % 2);
@@ -119,18 +121,42 @@ fn add_fields(list: &mut List, random: &mut Random) {
         scene.config.partials = partials;
         list.add(read(&written(&scene)));
     }
-    for shape in SHAPES {
-        for layer in [true, false] {
-            let mut scene = scene(random, 0);
-            scene.config.motion.shape = shape;
-            scene.config.note_layer_enabled = layer;
-            list.add_all([write_whole(&scene), read(&written(&scene))]);
-        }
+    for (index, shape) in SHAPES.into_iter().enumerate() {
+        let mut scene = scene(random, 0);
+        scene.config.motion.shape = shape;
+        scene.config.note_layer_enabled = index % 3 == 0;
+        list.add_all([write_whole(&scene), read(&written(&scene))]);
     }
+}
+
+/// Each of the zero bits and several of them, and each note bit of a voice by hertz.
+fn add_forbidden(list: &mut List, random: &mut Random) {
     for zeros in 1..8 {
         let mut record = written(&scene(random, zeros % 2));
         set_zeros(&mut record, zeros as u8);
         list.add(read(&record));
+    }
+    for bit in 0..7 {
+        let mut scene = scene(random, 1);
+        scene.voices[0].pitch = Pitch::Hertz(hertz(random));
+        let mut record = written(&scene);
+        set_note_bits(&mut record, 0, 1 << bit);
+        list.add(read(&record));
+    }
+}
+
+/// Infinities, NaN, -0 and the least subnormal number in each float of a head and of a voice.
+fn add_floats(list: &mut List, random: &mut Random) {
+    let record = written(&scene(random, 1));
+    for float in 0..14 {
+        // Three bytes are before the floats of the head, one before those of the voice.
+        let at = 3 + 4 * float + float / 7;
+        let nan = any_nan(random).to_bits();
+        for bits in [0x7f80_0000, 0xff80_0000, nan, 0x8000_0000, 0x0000_0001] {
+            let mut other = record.clone();
+            other[at..at + 4].copy_from_slice(&bits.to_be_bytes());
+            list.add(read(&other));
+        }
     }
 }
 
@@ -144,19 +170,14 @@ fn add_lengths(list: &mut List, random: &mut Random) {
     }
 }
 
-/// A whole array of voices, there and back; and a note bit beside hertz in the last voice that a
-/// scene can have, in the first past it, and in the last that a record can count.
+/// A whole array of voices, there and back; and a note bit beside hertz in the first voice past
+/// those that a scene can have, and in the last that a record can count.
 fn add_long(list: &mut List, random: &mut Random) {
     let full = scene(random, MAX_VOICES);
     list.add_all([write_whole(&full), read(&written(&full))]);
-    for (voice, count) in [(127, 128), (128, 129), (254, 255)] {
-        let mut scene = silent_after(random, count);
-        scene.voices[voice].pitch = Pitch::Hertz(440.0);
-        let mut record = written(&scene);
-        if count <= MAX_VOICES {
-            list.add(read(&record));
-        }
-        set_note_bits(&mut record, voice, 1);
+    for count in [129, 255] {
+        let mut record = written(&silent_after(random, count));
+        set_note_bits(&mut record, count - 1, 1);
         list.add(read(&record));
     }
 }
@@ -253,6 +274,8 @@ pub fn list() -> List {
     let random = &mut Random::new(SEED);
     add_counts(&mut list, random);
     add_fields(&mut list, random);
+    add_forbidden(&mut list, random);
+    add_floats(&mut list, random);
     add_lengths(&mut list, random);
     add_long(&mut list, random);
     add_refusals(&mut list, random);

@@ -197,8 +197,8 @@ fn change(random: &mut Random, record: &mut [u8]) {
     }
 }
 
-/// A record to read: whole, with fields outside their limits, with a bit or several flipped, or none
-/// at all.
+/// A record to read: whole, with fields outside their limits, with a bit or several flipped, or
+/// none at all.
 fn record(random: &mut Random, reached: &mut Reached) -> Vec<u8> {
     let voices = match random.below(16) {
         0 => 127 + random.below(129),
