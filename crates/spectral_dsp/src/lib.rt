@@ -1,5 +1,6 @@
-// The open calls of spectral-dsp, under the Rust's names and paths. Each is defined, with its
-// contract, its tests and its one call of the core, in the crate of its kind.
+// The open calls of spectral-dsp, under the Rust's names and paths, and those on scene records, which
+// the Rust does not have. Each is defined, with its contract, its tests and its one call of the core,
+// in the crate of its kind.
 pub mod processing;
 
 pub use list_calls::MaskWorkspace;
@@ -15,3 +16,6 @@ pub use motion_calls::motion_openness;
 pub use number_calls::manual_gain_at_bin;
 pub use number_calls::note_emphasis_gain;
 pub use number_calls::note_gate_gain;
+pub use record_calls::SceneRead;
+pub use record_calls::read_scene;
+pub use record_calls::write_scene;
