@@ -91,7 +91,7 @@ module _ (scene : Scene) (n : ℕ) where
     settings : T (sizeAccepted (scene .config)) × T (settingsAccepted (scene .config))
     settings = settings-done (scene .config) (groups .0)
 
-    size-accepted : T (limits.size (scene .config .«fft_size»))
+    pub size-accepted : T (limits.size (scene .config .«fft_size»))
     unfolding sizeAccepted
     size-accepted =
         let config = scene .config in

@@ -142,7 +142,7 @@ module _ (config : MaskConfig) (count : ℕ) (fit : FieldsFit config count) (res
 
 -- ---- back and there
 -- the settings of a number and seven floats have these floats, and are packed into this number
-seven : (n : ℕ) (bs : List ℕ) → settingsFloats (settingsOf n (floatsOf bs 7)) ≡ floatsOf bs 7
+pub seven : (n : ℕ) (bs : List ℕ) → settingsFloats (settingsOf n (floatsOf bs 7)) ≡ floatsOf bs 7
 unfolding settingsOf floatsOf
 seven n bs = refl
 
