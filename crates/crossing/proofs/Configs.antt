@@ -2,11 +2,9 @@
 -- it was. Assumes nothing.
 use mathlib.Core.Path.{_≡_, refl, ap, _∙_}
 use mathlib.Core.Bool.{Bool, true, false, cond}
-use mathlib.Core.List.{List}
 use Prim.Native.Nat.{_≤_, _<_}
 use borrow.Author.Tests.{le-leb, lt-leb}
 use lib.Dec.{leb}
-use lib.Ieee.{Float}
 use Rattle.answer.specs.Refusal.{SIZE-OR-RATE, SETTING}
 use Rattle.answer.specs.Reply.{Reply, refused}
 use Rattle.scene.specs.declared.MaskConfig.{MaskConfig}
@@ -16,7 +14,7 @@ use Rattle.refusals.proofs.MaskAccepted.{Done}
 use Rattle.crossing.specs.declared.settings.Settings.{Settings}
 use Rattle.crossing.specs.MaskSettings.{configOf, withSettings}
 
-refused-left : (b : Bool) (new old : List Float) → old ≡ written (cond b (refused SETTING 0) (refused SIZE-OR-RATE 0)) new old
+refused-left : {A : Type 0} (b : Bool) (new old : A) → old ≡ written (cond b (refused SETTING 0) (refused SIZE-OR-RATE 0)) new old
 refused-left true new old = refl
 refused-left false new old = refl
 
@@ -26,16 +24,16 @@ module _ (settings : Settings) (reply : MaskConfig → Reply) (config : MaskConf
   unfolding withSettings
   known {a} e h = e ∙ ap reply same ∙ rw (le-leb (settings .«motion_shape») 7 h)
 
-  pub known-left : {a : Reply} {xs : List Float} (mask : MaskConfig → List Float) (old : List Float) → a ≡ reply config → settings .«motion_shape» ≤ 7 → xs ≡ written a (mask config) old
+  pub known-left : {A : Type 0} {a : Reply} {xs : A} (mask : MaskConfig → A) (old : A) → a ≡ reply config → settings .«motion_shape» ≤ 7 → xs ≡ written a (mask config) old
       → xs ≡ written (withSettings settings reply) (mask (configOf settings)) old
-  known-left {a} {xs} mask old e h w = w ∙ ap (λ (k : MaskConfig). written a (mask k) old) same ∙ ap (λ (r : Reply). written r (mask (configOf settings)) old) (known e h)
+  known-left {A} {a} {xs} mask old e h w = w ∙ ap (λ (k : MaskConfig). written a (mask k) old) same ∙ ap (λ (r : Reply). written r (mask (configOf settings)) old) (known e h)
 
   -- with another shape
   pub unknown : {a : Reply} → a ≡ cond (sizeAccepted config) (refused SETTING 0) (refused SIZE-OR-RATE 0) → 7 < settings .«motion_shape» → a ≡ withSettings settings reply
   unfolding withSettings
   unknown {a} e h = e ∙ ap (λ (k : MaskConfig). cond (sizeAccepted k) (refused SETTING 0) (refused SIZE-OR-RATE 0)) same ∙ rw (lt-leb (settings .«motion_shape») 7 h)
 
-pub unknown-left : (settings : Settings) (reply : MaskConfig → Reply) (new old : List Float) → 7 < settings .«motion_shape» → old ≡ written (withSettings settings reply) new old
+pub unknown-left : {A : Type 0} (settings : Settings) (reply : MaskConfig → Reply) (new old : A) → 7 < settings .«motion_shape» → old ≡ written (withSettings settings reply) new old
 unfolding withSettings
 unknown-left settings reply new old h = rw (lt-leb (settings .«motion_shape») 7 h) (refused-left (sizeAccepted (configOf settings)) new old)
 

@@ -23,7 +23,7 @@ pub struct VoiceRecord {
     pub pan: f32,
 }
 
-fn voice_of(record: VoiceRecord) -> MaskVoice
+pub fn voice_of(record: VoiceRecord) -> MaskVoice
     ensures { λ r. ⌜ r ≡ voiceOf «record» ⌝ }
 {
     let pitch = pitch_of(record.pitch_form, record.note, record.semitones_or_hertz);

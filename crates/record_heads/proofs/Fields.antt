@@ -13,12 +13,8 @@ use lib.Pow.{shr-shr, shr-lt}
 use Rattle.lists.specs.Tested.{below-at}
 use Rattle.limits.specs.Limits as limits
 use Rattle.limits.proofs.Sizes.{size-power}
-use Rattle.scene.specs.declared.MotionShape.{MotionShape}
-use Rattle.scene.specs.declared.MotionShape.the-variants.{Ripple, Harmonic, Drift, Scan}
-use Rattle.scene.specs.declared.MotionShape.the-variants.{Notch, Saw, Sprinkle, Cloud}
-use Rattle.scene.specs.Made.{shapeOf}
 use Rattle.record_words.specs.Fields.{fieldAt}
-use Rattle.record_heads.specs.Heads.{logOf, layerNumber, shapeNumber, packed}
+use Rattle.record_heads.specs.Heads.{logOf, layerNumber, packed}
 
 -- ---- the fields of a packed number
 module _ (log layer shape partials count : ℕ)
@@ -105,7 +101,7 @@ packed-there n h z =
     let s = shr-shr n 19 1 in
     omega arith
 
--- ---- size, layer and shape by their numbers
+-- ---- size and layer by their numbers
 pub log-of-size : (k : ℕ) → k < 16 → logOf (2 ^ k) ≡ k
 unfolding trailingZeros
 log-of-size k h = eqb→eq (logOf (2 ^ k)) k (below-at 16 (λ k. eqb (logOf (2 ^ k)) k) tt k h)
@@ -134,30 +130,6 @@ layer-of-number false = refl
 pub number-of-layer : (n : ℕ) → n < 2 → layerNumber (eqb n 1) ≡ n
 number-of-layer n h =
     eqb→eq (layerNumber (eqb n 1)) n (below-at 2 (λ n. eqb (layerNumber (eqb n 1)) n) tt n h)
-
-pub shape-below : (shape : MotionShape) → shapeNumber shape < 8
-shape-below Ripple = omega arith
-shape-below Harmonic = omega arith
-shape-below Drift = omega arith
-shape-below Scan = omega arith
-shape-below Notch = omega arith
-shape-below Saw = omega arith
-shape-below Sprinkle = omega arith
-shape-below Cloud = omega arith
-
-pub shape-of-number : (shape : MotionShape) → shapeOf (shapeNumber shape) ≡ shape
-shape-of-number Ripple = refl
-shape-of-number Harmonic = refl
-shape-of-number Drift = refl
-shape-of-number Scan = refl
-shape-of-number Notch = refl
-shape-of-number Saw = refl
-shape-of-number Sprinkle = refl
-shape-of-number Cloud = refl
-
-pub number-of-shape : (n : ℕ) → n < 8 → shapeNumber (shapeOf n) ≡ n
-number-of-shape n h =
-    eqb→eq (shapeNumber (shapeOf n)) n (below-at 8 (λ n. eqb (shapeNumber (shapeOf n)) n) tt n h)
 
 -- ---- what the code computes
 -- the bits of a mask are a remainder

@@ -18,11 +18,12 @@ use Rattle.lists.specs.Stores.{stored, stored-append}
 use Rattle.limits.specs.Limits as limits
 use Rattle.scene.specs.declared.MaskConfig.{MaskConfig}
 use Rattle.scene.specs.declared.MotionShape.{MotionShape}
-use Rattle.scene.specs.Made.{shapeOf}
+use Rattle.scene.specs.Made.{shapeOf, shapeNumber}
+use Rattle.scene.proofs.Shapes.{shape-below, shape-of-number, number-of-shape}
 use Rattle.record_words.specs.Floats.{floatsBytes, floatsOf}
 use Rattle.record_words.proofs.FloatLists.{Fits, Number, floats-length, floats-back, bytes-of-floats}
 use Rattle.record_words.specs.Fields.{fieldAt}
-use Rattle.record_heads.specs.Heads.{logOf, layerNumber, shapeNumber, FieldsFit, headNumber, settingsFloats, headBytes}
+use Rattle.record_heads.specs.Heads.{logOf, layerNumber, FieldsFit, headNumber, settingsFloats, headBytes}
 use Rattle.record_heads.specs.Heads.{headIn, countOf, zeroBits, settingsOf, settingsIn}
 use Rattle.record_heads.proofs.Fields as fields
 
@@ -67,7 +68,7 @@ module _ (config : MaskConfig) (count : ℕ) (fit : FieldsFit config count) (res
   layer-fits = fields.layer-below (config .«note_layer_enabled»)
 
   abbrev shape-fits : shapeNumber (config .motion .shape) < 8
-  shape-fits = fields.shape-below (config .motion .shape)
+  shape-fits = shape-below (config .motion .shape)
 
   abbrev log : ℕ
   log = logOf (config .«fft_size»)
@@ -131,7 +132,7 @@ module _ (config : MaskConfig) (count : ℕ) (fit : FieldsFit config count) (res
       ∙ fields.layer-of-number (config .«note_layer_enabled»))
       (fields.partials-back log layer shape p count a layer-fits shape-fits d e)
       (ap shapeOf (fields.shape-back log layer shape p count a layer-fits shape-fits d e)
-      ∙ fields.shape-of-number (config .motion .shape))
+      ∙ shape-of-number (config .motion .shape))
 
   pub settings-back :
       T (limits.size (config .«fft_size»)) → All Fits (settingsFloats config)
@@ -154,7 +155,7 @@ number-there n floats h z =
     rw (
       fields.log-of-size (fieldAt n 20 4) (mod-lt _ (omega arith)),
       fields.number-of-layer (fieldAt n 19 1) (mod-lt _ (omega arith)),
-      fields.number-of-shape (fieldAt n 16 3) (mod-lt _ (omega arith)),
+      number-of-shape (fieldAt n 16 3) (mod-lt _ (omega arith)),
     )
     (fields.packed-there n h (eqb→eq (fieldAt n 0 3) 0 z))
 

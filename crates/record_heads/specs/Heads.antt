@@ -8,10 +8,7 @@ use lib.Ieee.{Float, nan}
 use lib.ListN.{getD, drop}
 use Rattle.lists.specs.Bytes.{numberAt, bytesOf}
 use Rattle.scene.specs.declared.MaskConfig.{MaskConfig}
-use Rattle.scene.specs.declared.MotionShape.{MotionShape}
-use Rattle.scene.specs.declared.MotionShape.the-variants.{Ripple, Harmonic, Drift, Scan}
-use Rattle.scene.specs.declared.MotionShape.the-variants.{Notch, Saw, Sprinkle, Cloud}
-use Rattle.scene.specs.Made.{shapeOf}
+use Rattle.scene.specs.Made.{shapeNumber, shapeOf}
 use Rattle.record_words.specs.Fields.{then, fieldAt}
 use Rattle.record_words.specs.Floats.{floatsBytes, floatsOf}
 
@@ -24,17 +21,6 @@ logOf size = trailingZeros 64 size
 -- "the note layer (1 is on)"
 abbrev pub layerNumber : Bool → ℕ
 layerNumber on = cond on 1 0
-
--- "the shape (0 to 7 in the order of `MotionShape`)"
-abbrev pub shapeNumber : MotionShape → ℕ
-shapeNumber Ripple = 0
-shapeNumber Harmonic = 1
-shapeNumber Drift = 2
-shapeNumber Scan = 3
-shapeNumber Notch = 4
-shapeNumber Saw = 5
-shapeNumber Sprinkle = 6
-shapeNumber Cloud = 7
 
 -- "4 bits for the logarithm of the size, 1 for the note layer, 3 for the shape, 5 for the partials,
 -- 8 for the voice count, 3 zero bits"

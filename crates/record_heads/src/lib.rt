@@ -6,7 +6,7 @@ ghost use lib.Dec.{eqb};
 ghost use lib.ListN.{length};
 ghost use Rattle.lists.specs.Stores.{stored};
 ghost use Rattle.limits.specs.Lengths.{RECORD-HEAD};
-ghost use Rattle.record_heads.specs.Heads.{logOf, layerNumber, shapeNumber, FieldsFit};
+ghost use Rattle.record_heads.specs.Heads.{logOf, layerNumber, FieldsFit};
 ghost use Rattle.record_heads.specs.Heads.{headNumber, settingsFloats, headBytes};
 ghost use Rattle.record_heads.specs.Heads.{headIn, countOf, zeroBits, settingsOf, settingsIn};
 use record_words::FLOATS;
@@ -16,7 +16,6 @@ use record_words::put_three;
 use record_words::three_at;
 use scene::MaskConfig;
 use scene::MotionConfig;
-use scene::MotionShape;
 
 // The small fields take this many bytes.
 const FIELDS: usize = 3;
@@ -34,21 +33,6 @@ fn layer_number(on: bool) -> u32
     if on { 1 } else { 0 }
 }
 
-fn shape_number(shape: MotionShape) -> u32
-    ensures { λ r. ⌜ (r ≡ shapeNumber shape) × (r < 8) ⌝ }
-{
-    match shape {
-        MotionShape::Ripple => 0,
-        MotionShape::Harmonic => 1,
-        MotionShape::Drift => 2,
-        MotionShape::Scan => 3,
-        MotionShape::Notch => 4,
-        MotionShape::Saw => 5,
-        MotionShape::Sprinkle => 6,
-        MotionShape::Cloud => 7,
-    }
-}
-
 // The small fields as one number: each stands behind the ones before it, and three zero bits behind
 // the last.
 fn head_number(config: MaskConfig, count: usize) -> u32
@@ -58,7 +42,7 @@ fn head_number(config: MaskConfig, count: usize) -> u32
     let motion = config.motion;
     let shape = motion.shape;
     let size_and_layer = log_of(config.fft_size) * 2 + layer_number(config.note_layer_enabled);
-    let and_shape = size_and_layer * 8 + shape_number(shape);
+    let and_shape = size_and_layer * 8 + scene::shape_number(shape);
     let and_partials = and_shape * 32 + config.partials as u32;
     (and_partials * 256 + count as u32) * 8
 }

@@ -1,4 +1,5 @@
--- A shape by its number, the silent voice, and the scene of a call that gives none. Assumes nothing.
+-- A shape by its number and the number of a shape, the silent voice, and the scene of a call that
+-- gives none. Assumes nothing.
 use mathlib.Core.Bool.{false, cond}
 use Prim.Native.Nat.{ℕ}
 use lib.Dec.{eqb}
@@ -24,6 +25,17 @@ shapeOf n =
     (cond (eqb n 5) Saw
     (cond (eqb n 6) Sprinkle
     Cloud))))))
+
+-- the number of a shape
+abbrev pub shapeNumber : MotionShape → ℕ
+shapeNumber Ripple = 0
+shapeNumber Harmonic = 1
+shapeNumber Drift = 2
+shapeNumber Scan = 3
+shapeNumber Notch = 4
+shapeNumber Saw = 5
+shapeNumber Sprinkle = 6
+shapeNumber Cloud = 7
 
 -- the initial contents of an array of voices
 abbrev pub silentVoice : MaskVoice

@@ -4,12 +4,12 @@ pub mod pitches;
 
 ghost use mathlib.Core.Path.{_≡_};
 ghost use mathlib.Core.Bool.{_&&_};
-ghost use Prim.Native.Nat.{_≤_};
+ghost use Prim.Native.Nat.{_≤_, _<_};
 ghost use lib.ListN.{replicate};
 ghost use Rattle.limits.specs.Lengths.{MOST-VOICES};
 ghost use Rattle.scene.specs.Accepted.{motionAccepted, sizeAccepted, settingsAccepted};
 ghost use Rattle.scene.specs.Accepted.{voiceAccepted, firstVoiceOutside};
-ghost use Rattle.scene.specs.Made.{shapeOf, silentVoice, blankScene};
+ghost use Rattle.scene.specs.Made.{shapeOf, shapeNumber, silentVoice, blankScene};
 ghost use Rattle.scene.specs.Gathered.{held};
 use limits::lengths::MOST_VOICES;
 
@@ -93,6 +93,22 @@ pub fn shape_of(number: u32) -> MotionShape
         5 => MotionShape::Saw,
         6 => MotionShape::Sprinkle,
         _ => MotionShape::Cloud,
+    }
+}
+
+// The number of a shape, in that order.
+pub fn shape_number(shape: MotionShape) -> u32
+    ensures { λ r. ⌜ (r ≡ shapeNumber shape) × (r < 8) ⌝ }
+{
+    match shape {
+        MotionShape::Ripple => 0,
+        MotionShape::Harmonic => 1,
+        MotionShape::Drift => 2,
+        MotionShape::Scan => 3,
+        MotionShape::Notch => 4,
+        MotionShape::Saw => 5,
+        MotionShape::Sprinkle => 6,
+        MotionShape::Cloud => 7,
     }
 }
 

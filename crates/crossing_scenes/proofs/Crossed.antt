@@ -1,0 +1,96 @@
+-- A scene comes back from its plain record, and what the loops that copy its voices make. Assumes
+-- nothing.
+use mathlib.Core.Path.{_≡_, refl, sym, ap, _∙_}
+use mathlib.Core.List.{List, [], _∷_, _++_, map, append-nil}
+use Prim.Native.Nat.{ℕ, zero, suc}
+use native.Mathlib.Nat.{le-refl}
+use lib.ListN.{length, getD, take}
+use lib.Seq.{take-length}
+use Rattle.lists.specs.Maps.{tabFrom, tabulate, tabulate-self}
+use Rattle.scene.specs.declared.MaskVoice.{MaskVoice}
+use Rattle.scene.specs.declared.MaskConfig.{MaskConfig}
+use Rattle.scene.specs.declared.MotionShape.{MotionShape}
+use Rattle.scene.specs.declared.Pitch.{Pitch}
+use Rattle.scene.specs.declared.Scene.{Scene}
+use Rattle.scene.specs.Accepted.{noVoice}
+use Rattle.scene.specs.Gathered.{gatheredTo}
+use Rattle.scene.proofs.PitchNumbers.{pitch-back}
+use Rattle.scene.proofs.Shapes.{shape-of-number}
+use Rattle.crossing.specs.MaskSettings.{configOf}
+use Rattle.crossing_voices.specs.declared.VoiceRecord.{VoiceRecord}
+use Rattle.crossing_voices.specs.VoiceRecords.{voiceOf, recordVoices}
+use Rattle.crossing_scenes.specs.Scenes.{sceneOf, plainSettings, plainVoice, plainScene}
+
+-- ---- what goes to C and comes back
+abbrev shaped : MaskConfig → MotionShape → MaskConfig
+shaped c shape =
+    record {
+      «sample_rate» = c .«sample_rate»;
+      «fft_size» = c .«fft_size»;
+      «note_depth_db» = c .«note_depth_db»;
+      «note_layer_enabled» = c .«note_layer_enabled»;
+      «width_cents» = c .«width_cents»;
+      partials = c .partials;
+      «harmonic_rolloff_db_per_octave» = c .«harmonic_rolloff_db_per_octave»;
+      motion =
+          record {
+            shape = shape;
+            «depth_db» = c .motion .«depth_db»;
+            phase = c .motion .phase;
+            «size_octaves» = c .motion .«size_octaves»;
+          };
+    }
+
+settings-back : (config : MaskConfig) → configOf (plainSettings config) ≡ config
+settings-back config = ap (shaped config) (shape-of-number (config .motion .shape))
+
+abbrev pitched : MaskVoice → Pitch → MaskVoice
+pitched v pitch =
+    record {
+      pitch = pitch;
+      level = v .level;
+      pressure = v .pressure;
+      timbre = v .timbre;
+      «volume_gain» = v .«volume_gain»;
+      «expression_gain» = v .«expression_gain»;
+      pan = v .pan;
+    }
+
+voice-back : (voice : MaskVoice) → voiceOf (plainVoice voice) ≡ voice
+unfolding voiceOf plainVoice
+voice-back voice = ap (pitched voice) (pitch-back (voice .pitch))
+
+voices-back : (voices : List MaskVoice) → recordVoices (map plainVoice voices) ≡ voices
+voices-back [] = refl
+voices-back (v ∷ vs) = rw (voice-back v) (ap (λ (l : List MaskVoice). v ∷ l) (voices-back vs))
+
+pub scene-back : (scene : Scene) → sceneOf (plainScene scene) ≡ scene
+scene-back scene = go (settings-back (scene .config)) (voices-back (scene .voices))
+  where
+    go : {config : MaskConfig} {voices : List MaskVoice} → config ≡ scene .config
+        → voices ≡ scene .voices
+        → record { config = config; voices = voices; count = scene .count } ≡ scene
+    go e f = rw (e, f)
+
+-- ---- the loops
+-- all 128 places are filled
+pub all-filled :
+    (voices : List MaskVoice) → length voices ≡ 128 → gatheredTo 128 voices ≡ voices
+unfolding gatheredTo
+all-filled voices l =
+    append-nil (take 128 voices)
+    ∙ ap (λ (n : ℕ). take n voices) (sym l) ∙ take-length voices
+
+map-tab :
+    {A B : Type 0} (f : A → B) (g : ℕ → A) (i n : ℕ)
+    → map f (tabFrom g i n) ≡ tabFrom (λ k. f (g k)) i n
+unfolding tabFrom
+map-tab f g i zero = refl
+map-tab f g i (suc n) = ap (λ (l : List _). f (g i) ∷ l) (map-tab f g (suc i) n)
+
+pub each-plain :
+    (voices : List MaskVoice)
+    → tabulate (length voices) (λ k. plainVoice (getD voices k noVoice)) ≡ map plainVoice voices
+each-plain voices =
+    sym (map-tab plainVoice (λ k. getD voices k noVoice) 0 (length voices))
+    ∙ ap (map plainVoice) (sym (tabulate-self noVoice voices))
