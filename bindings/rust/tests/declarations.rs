@@ -40,8 +40,8 @@ const TYPES: [(&str, &str, &str); 14] = [
 const RECORDS: [(&str, &str, &str); 4] = [
     ("VoiceRecord", "struct DovetableVoice", "VoiceRecord"),
     ("Settings", "struct DovetableSettings", "Settings"),
-    ("Scene", "struct DovetableScene", "Scene"),
-    ("SceneRead", "struct DovetableSceneRead", "SceneRead"),
+    ("PlainScene", "struct DovetableScene", "Scene"),
+    ("PlainSceneRead", "struct DovetableSceneRead", "SceneRead"),
 ];
 
 #[derive(Clone, Copy, PartialEq)]

@@ -1,9 +1,11 @@
 // The static library: C names, plain numbers and slices. A slice is passed as a pointer and a
 // length, a record as a C struct.
-// An open call returns document 01's number, 0 when it is done. When done it writes its results
-// through the parameters lent for them; when refused it writes the place and nothing else.
+// An open call returns the number of its answer, 0 when it is done. When done it writes its results
+// through the parameters lent for them; when refused it writes the place and nothing else. Reading a
+// scene record returns number, place and scene in one record.
 mod builders;
 mod numbers;
 mod oiko;
 mod processing;
+mod records;
 mod spectral;
