@@ -46,6 +46,19 @@ pub fn count(bytes: &[u8], at: usize, past: usize) -> usize {
     word(bytes, at, past) as usize
 }
 
+// The byte with this number, counted from a word on; 0 past the list's end.
+pub fn byte(bytes: &[u8], at: usize, past: usize, number: usize) -> u8 {
+    let index = std::num::wrapping_add_usize(at, past);
+    if bytes.len() / 4 <= index {
+        return 0;
+    }
+    let place = std::num::wrapping_add_usize(index * 4, number);
+    if bytes.len() <= place {
+        return 0;
+    }
+    bytes[place]
+}
+
 // The place past a record of this many words; the end where there is no such place.
 pub fn after(at: usize, words: usize, end: usize) -> usize
     requires { ⌜ at < end ⌝ }

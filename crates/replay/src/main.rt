@@ -6,6 +6,7 @@ mod masks;
 mod numbers;
 mod oiko;
 mod processing;
+mod records;
 mod settings;
 mod slice;
 mod spectral;
@@ -17,6 +18,7 @@ enum Calls {
     Spectral,
     Processing,
     Masks,
+    Records,
 }
 
 // Makes the call of the record at a place, prints its line without the end, and answers the number
@@ -28,6 +30,7 @@ fn print_record(calls: Calls, bytes: &[u8], at: usize) -> usize {
         Calls::Spectral => spectral::print_record(bytes, at),
         Calls::Processing => processing::print_record(bytes, at),
         Calls::Masks => masks::print_record(bytes, at),
+        Calls::Records => records::print_record(bytes, at),
     }
 }
 
@@ -55,4 +58,5 @@ fn main() {
     replay(b"processing.bin", Calls::Processing, &mut bytes);
     replay(b"masks.bin", Calls::Masks, &mut bytes);
     replay(b"mask_refusals.bin", Calls::Masks, &mut bytes);
+    replay(b"scene_records.bin", Calls::Records, &mut bytes);
 }

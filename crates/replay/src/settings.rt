@@ -1,11 +1,16 @@
 // Settings and voices, a word to each field.
 ghost use Prim.Native.Nat.{_≤_, _<_};
 use crate::list;
+use float32::bits::bits_of;
 use limits::lengths::MOST_VOICES;
 use scene::MaskConfig;
 use scene::MaskVoice;
 use scene::MotionConfig;
+use scene::MotionShape;
 use scene::Pitch;
+use scene::pitches::form_of;
+use scene::pitches::note_of;
+use scene::pitches::number_of;
 use scene::pitches::pitch_of;
 use std::num::wrapping_add_usize;
 
@@ -20,6 +25,8 @@ pub fn motion_at(bytes: &[u8], at: usize, past: usize) -> MotionConfig {
     }
 }
 
+const SETTINGS_WORDS: usize = 11;
+
 // A mask's settings, from eleven words.
 pub fn config_at(bytes: &[u8], at: usize, past: usize) -> MaskConfig {
     let first = wrapping_add_usize(at, past);
@@ -33,6 +40,47 @@ pub fn config_at(bytes: &[u8], at: usize, past: usize) -> MaskConfig {
         harmonic_rolloff_db_per_octave: list::float(bytes, first, 6),
         motion: motion_at(bytes, first, 7),
     }
+}
+
+// A count as a word. The cast wants a number below 2^32, which each count of a scene is.
+pub fn word_of(count: usize) -> u32 {
+    (count % 4294967296) as u32
+}
+
+fn word_of_switch(on: bool) -> u32 {
+    if on { 1 } else { 0 }
+}
+
+fn word_of_shape(shape: MotionShape) -> u32 {
+    match shape {
+        MotionShape::Ripple => 0,
+        MotionShape::Harmonic => 1,
+        MotionShape::Drift => 2,
+        MotionShape::Scan => 3,
+        MotionShape::Notch => 4,
+        MotionShape::Saw => 5,
+        MotionShape::Sprinkle => 6,
+        MotionShape::Cloud => 7,
+    }
+}
+
+// The eleven words of a mask's settings.
+pub fn words_of_config(config: MaskConfig) -> [u32; SETTINGS_WORDS] {
+    let motion = config.motion;
+    let shape = motion.shape;
+    [
+        bits_of(config.sample_rate),
+        word_of(config.fft_size),
+        bits_of(config.note_depth_db),
+        word_of_switch(config.note_layer_enabled),
+        bits_of(config.width_cents),
+        word_of(config.partials),
+        bits_of(config.harmonic_rolloff_db_per_octave),
+        word_of_shape(shape),
+        bits_of(motion.depth_db),
+        bits_of(motion.phase),
+        bits_of(motion.size_octaves),
+    ]
 }
 
 // Voices are a count, a number of stored ones, and eight words for each of these.
@@ -70,6 +118,25 @@ fn voice_at(bytes: &[u8], at: usize, past: usize) -> MaskVoice {
         expression_gain: list::float(bytes, first, 6),
         pan: list::float(bytes, first, 7),
     }
+}
+
+fn word_of_pitch(form: u8, note: u8) -> u32 {
+    form as u32 * 256 + note as u32
+}
+
+// The eight words of a voice.
+pub fn words_of_voice(voice: MaskVoice) -> [u32; VOICE_WORDS] {
+    let pitch = voice.pitch;
+    [
+        word_of_pitch(form_of(pitch), note_of(pitch)),
+        bits_of(number_of(pitch)),
+        bits_of(voice.level),
+        bits_of(voice.pressure),
+        bits_of(voice.timbre),
+        bits_of(voice.volume_gain),
+        bits_of(voice.expression_gain),
+        bits_of(voice.pan),
+    ]
 }
 
 // The stored voice with this number, or a default one past them.

@@ -59,6 +59,9 @@ pub fn print_prepared(prepared: Prepared) {
     }
 }
 
+// FNV-1a's hash of no bytes.
+pub const NO_BYTES: u64 = 0xcbf29ce484222325;
+
 // FNV-1a's prime is 2^40 + 435: the product with it modulo 2^64, by halves.
 fn times_prime(hash: u64) -> u64 {
     let low = (hash % 4294967296) * 435;
@@ -67,12 +70,16 @@ fn times_prime(hash: u64) -> u64 {
     std::num::wrapping_add_u64(high * 4294967296 + low % 4294967296, shifted)
 }
 
+fn wide(byte: u8) -> u64 {
+    byte as u64
+}
+
 fn with_byte(hash: u64, byte: u64) -> u64 {
     times_prime(hash ^ byte)
 }
 
 // The hash with the four bytes of a word, the most significant first.
-fn with_word(hash: u64, word: u32) -> u64 {
+pub fn with_word(hash: u64, word: u32) -> u64 {
     let bits = word as u64;
     let first = with_byte(hash, bits / 16777216);
     let second = with_byte(first, bits / 65536 % 256);
@@ -82,7 +89,7 @@ fn with_word(hash: u64, word: u32) -> u64 {
 
 // FNV-1a, of 64 bits, over the bit patterns of the entries.
 fn hash(xs: &[f32]) -> u64 {
-    let mut hash: u64 = 0xcbf29ce484222325;
+    let mut hash: u64 = NO_BYTES;
     let mut i: usize = 0;
     while i < xs.len() {
         hash = with_word(hash, float32::bits::bits_of(xs[i]));
@@ -91,7 +98,38 @@ fn hash(xs: &[f32]) -> u64 {
     hash
 }
 
-pub fn print_hash(xs: &[f32]) {
+// The same over bytes.
+fn hash_of_bytes(bytes: &[u8]) -> u64 {
+    let mut hash: u64 = NO_BYTES;
+    let mut i: usize = 0;
+    while i < bytes.len() {
+        hash = with_byte(hash, wide(bytes[i]));
+        i += 1;
+    }
+    hash
+}
+
+// The hash with the bytes of words.
+pub fn with_words(hash: u64, words: &[u32]) -> u64 {
+    let mut longer: u64 = hash;
+    let mut i: usize = 0;
+    while i < words.len() {
+        longer = with_word(longer, words[i]);
+        i += 1;
+    }
+    longer
+}
+
+// Prints a hash that the caller has made, as one over several parts.
+pub fn print_made(hash: u64) {
     print(b" ");
-    io::print_hex(STDOUT_FILENO, hash(xs), 16);
+    io::print_hex(STDOUT_FILENO, hash, 16);
+}
+
+pub fn print_hash(xs: &[f32]) {
+    print_made(hash(xs));
+}
+
+pub fn print_hash_of_bytes(bytes: &[u8]) {
+    print_made(hash_of_bytes(bytes));
 }
