@@ -40,7 +40,9 @@ fn of_scene(scene: Scene, lengths: bool) -> Outcome
 {
     let config = scene.config;
     let voices = scene.voices;
-    first(of_settings(config), of_voices(voices, scene.count, lengths))
+    let settings = of_settings(config);
+    let tested = of_voices(voices, scene.count, lengths);
+    first(settings, tested)
 }
 
 // Writes a scene as a record, which has 31 bytes and 29 for each voice.

@@ -20,7 +20,8 @@ use Rattle.scene.specs.declared.Pitch.{Pitch}
 use Rattle.scene.specs.Accepted.{noVoice}
 use Rattle.scene.specs.Gathered.{gatheredTo}
 use Rattle.scene.proofs.Gathered.{gathered-more}
-use Rattle.record_words.specs.Floats.{floatsBytes, floatsOf}
+use Rattle.record_words.specs.Floats.{floatsBytes, floatAt, floatsOf}
+use Rattle.record_words.proofs.FloatLists.{float-at-place}
 use Rattle.record_voices.specs.Voices.{pitchByte, NoteFits, voiceFloats, voiceBytes, voicesBytes}
 use Rattle.record_voices.specs.Voices.{pitchIn, voiceWith, voiceOf, voicesOf, pitchAllowed, pitchesAllowed}
 use Rattle.record_voices.proofs.Voices.{voices-length, voices-append, voices-one, voices-counted, voice-at-place}
@@ -65,20 +66,39 @@ note-fits voices n i h l a =
     (all-at NoteFits (take n voices) i noVoice a (rw (length-take-le n voices l) h))
 
 -- ---- reading
-pub voice-read :
-    (bs : List ℕ) (at : ℕ) (floats : List Float) (pitch : Pitch)
-    → floats ≡ floatsOf (drop (at + 1) bs) 7 → pitch ≡ pitchIn (getD bs at 0) (getD floats 1 nan)
-    → record {
-      pitch = pitch;
-      level = getD floats 0 nan;
-      pressure = getD floats 2 nan;
-      timbre = getD floats 3 nan;
-      «volume_gain» = getD floats 4 nan;
-      «expression_gain» = getD floats 5 nan;
-      pan = getD floats 6 nan;
-    } ≡ voiceOf (drop at bs)
-unfolding voiceOf
-voice-read bs at floats pitch e f = rw (f, e, drop-drop 1 at bs, getD-drop at bs 0 0, add-zero at)
+-- a voice by its floats, each at its place
+module _ (bs : List ℕ) (at : ℕ) where
+  float-there : (k place : ℕ) → k < 7 → at + 1 + 4 * k ≡ place → getD (floatsOf (drop 1 (drop at bs)) 7) k nan ≡ floatAt bs place
+  float-there k place h e =
+      ap (λ (l : List ℕ). getD (floatsOf l 7) k nan) (drop-drop 1 at bs)
+      ∙ float-at-place bs (at + 1) k 7 h ∙ ap (floatAt bs) e
+
+  byte-there : getD (drop at bs) 0 0 ≡ getD bs at 0
+  byte-there = getD-drop at bs 0 0 ∙ ap (λ (k : ℕ). getD bs k 0) (add-zero at)
+
+  pub voice-read :
+      record {
+        pitch = pitchIn (getD bs at 0) (floatAt bs (at + 5));
+        level = floatAt bs (at + 1);
+        pressure = floatAt bs (at + 9);
+        timbre = floatAt bs (at + 13);
+        «volume_gain» = floatAt bs (at + 17);
+        «expression_gain» = floatAt bs (at + 21);
+        pan = floatAt bs (at + 25);
+      } ≡ voiceOf (drop at bs)
+  unfolding voiceOf
+  voice-read =
+      rw (
+        byte-there,
+        float-there 0 (at + 1) (omega arith) (omega arith),
+        float-there 1 (at + 5) (omega arith) (omega arith),
+        float-there 2 (at + 9) (omega arith) (omega arith),
+        float-there 3 (at + 13) (omega arith) (omega arith),
+        float-there 4 (at + 17) (omega arith) (omega arith),
+        float-there 5 (at + 21) (omega arith) (omega arith),
+        float-there 6 (at + 25) (omega arith) (omega arith),
+      )
+      refl
 
 -- one voice more in the array
 pub gathered-voice :

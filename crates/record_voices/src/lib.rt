@@ -13,7 +13,7 @@ ghost use Rattle.record_voices.specs.Voices.{pitchAllowed, pitchesAllowe
 use limits::lengths::MOST_VOICES;
 use limits::lengths::RECORD_VOICE;
 use record_words::FLOATS;
-use record_words::floats_at;
+use record_words::float_at;
 use record_words::put_floats;
 use scene::MaskVoice;
 use scene::Pitch;
@@ -81,16 +81,15 @@ fn voice_at(record: &[u8], at: usize) -> MaskVoice
     requires { ⌜ at + 29 ≤ length (now «record») ⌝ }
     ensures { λ r. ⌜ r ≡ voiceOf (drop at (now («record» .entry))) ⌝ }
 {
-    let floats = floats_at(record, at + 1);
-    let pitch = pitch_in(record[at], floats[1]);
+    let pitch = pitch_in(record[at], float_at(record, at + 5));
     MaskVoice {
         pitch,
-        level: floats[0],
-        pressure: floats[2],
-        timbre: floats[3],
-        volume_gain: floats[4],
-        expression_gain: floats[5],
-        pan: floats[6],
+        level: float_at(record, at + 1),
+        pressure: float_at(record, at + 9),
+        timbre: float_at(record, at + 13),
+        volume_gain: float_at(record, at + 17),
+        expression_gain: float_at(record, at + 21),
+        pan: float_at(record, at + 25),
     }
 }
 

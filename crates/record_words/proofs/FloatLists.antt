@@ -7,12 +7,12 @@ use Prim.Native.Nat.{ℕ, zero, suc, _+_, _*_, _≤_, _<_, _^_}
 use native.Mathlib.Nat.{add-zero}
 use native.Mathlib.Omega.{arith}
 use lib.Dec.{T}
-use lib.Ieee.{Float, isNan, binary32, fits, ofBits, toBits}
+use lib.Ieee.{Float, nan, isNan, binary32, fits, ofBits, toBits}
 use lib.Ieee.Bits.{ofBits-toBits, toBits-lt, toBits-ofBits}
-use lib.ListN.{length, take, drop, length-append, length-drop}
+use lib.ListN.{length, getD, take, drop, length-append, length-drop}
 use lib.Seq.{take-add, drop-drop, drop-at}
 use Rattle.lists.specs.Totals.{All, all-drop}
-use Rattle.lists.specs.Maps.{tabFrom}
+use Rattle.lists.specs.Maps.{tabFrom, getD-tabulate}
 use Rattle.lists.specs.Bytes.{Byte, numberAt, bytesOf, length-bytes, number-drop, number-back, number-below, bytes-back}
 use Rattle.record_words.specs.Floats.{floatBytes, floatAt, floatsBytes, floatsOf}
 
@@ -51,6 +51,14 @@ floats-tab bs at i (suc n) =
     number-drop bs (at + 4 * i) 0 4 ∙ ap (λ (k : ℕ). numberAt bs k 4) (add-zero (at + 4 * i)) in
     rw (first, drop-drop 4 (at + 4 * i) bs, e)
     (ap (λ (l : List Float). floatAt bs (at + 4 * i) ∷ l) (floats-tab bs at (suc i) n))
+
+pub float-at-place :
+    (bs : List ℕ) (at k n : ℕ) → k < n
+    → getD (floatsOf (drop at bs) n) k nan ≡ floatAt bs (at + 4 * k)
+float-at-place bs at k n h =
+    ap (λ (m : ℕ). getD (floatsOf (drop m bs) n) k nan) (sym (add-zero at))
+    ∙ ap (λ (xs : List Float). getD xs k nan) (floats-tab bs at 0 n)
+    ∙ getD-tabulate (λ k. floatAt bs (at + 4 * k)) n k nan h
 
 -- ---- there and back
 abbrev pub Fits : Float → Type 0

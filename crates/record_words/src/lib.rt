@@ -65,7 +65,8 @@ fn put_four(bytes: &mut [u8], at: usize, n: u32)
     bytes[at + 3] = byte_of(n, 0);
 }
 
-fn float_at(bytes: &[u8], at: usize) -> f32
+// The float of four bytes.
+pub fn float_at(bytes: &[u8], at: usize) -> f32
     requires { ⌜ at + 4 ≤ length (now bytes) ⌝ }
     ensures { λ r. ⌜ r ≡ floatAt (now (bytes .entry)) at ⌝ }
 {

@@ -6,7 +6,6 @@ use limits::lengths::MOST_VOICES;
 use scene::MaskConfig;
 use scene::MaskVoice;
 use scene::MotionConfig;
-use scene::MotionShape;
 use scene::Pitch;
 use scene::pitches::form_of;
 use scene::pitches::note_of;
@@ -51,19 +50,6 @@ fn word_of_switch(on: bool) -> u32 {
     if on { 1 } else { 0 }
 }
 
-fn word_of_shape(shape: MotionShape) -> u32 {
-    match shape {
-        MotionShape::Ripple => 0,
-        MotionShape::Harmonic => 1,
-        MotionShape::Drift => 2,
-        MotionShape::Scan => 3,
-        MotionShape::Notch => 4,
-        MotionShape::Saw => 5,
-        MotionShape::Sprinkle => 6,
-        MotionShape::Cloud => 7,
-    }
-}
-
 // The eleven words of a mask's settings.
 pub fn words_of_config(config: MaskConfig) -> [u32; SETTINGS_WORDS] {
     let motion = config.motion;
@@ -76,7 +62,7 @@ pub fn words_of_config(config: MaskConfig) -> [u32; SETTINGS_WORDS] {
         bits_of(config.width_cents),
         word_of(config.partials),
         bits_of(config.harmonic_rolloff_db_per_octave),
-        word_of_shape(shape),
+        scene::shape_number(shape),
         bits_of(motion.depth_db),
         bits_of(motion.phase),
         bits_of(motion.size_octaves),
