@@ -15,7 +15,7 @@ use Rattle.answer.specs.Refusal.{RECORD}
 use Rattle.answer.specs.Reply.{Reply, done, refused}
 use Rattle.limits.specs.Lengths.{RECORD-HEAD, recordLength}
 use Rattle.scene.specs.declared.MaskVoice.{MaskVoice}
-use Rattle.scene.specs.declared.Scene.{Scene}
+use Rattle.scene.specs.declared.MaskConfig.{MaskConfig}
 use Rattle.scene.specs.Gathered.{held, gatheredTo, gathered}
 use Rattle.scene.specs.Made.{silentVoice, blankScene}
 use Rattle.scene.proofs.Gathered.{held-fits}
@@ -82,17 +82,29 @@ pub read-refused : (bs : List ℕ) → wellFormed bs ≡ false → readReply bs 
 unfolding readReply
 read-refused bs e = rw e
 
--- past refusal 9 it is what the tests answer on the scene
-pub read-tested :
-    (bs : List ℕ) (scene : Scene) → scene ≡ sceneIn bs → wellFormed bs ≡ true
-    → readReply bs
-    ≡ first (settingsReply (scene .config)) (voicesReply (scene .voices) (scene .count) true)
-unfolding readReply sceneIn
-read-tested bs scene e t =
-    rw (t, e)
-    (ap (λ (r : Reply). first (settingsReply (settingsIn bs)) r)
-    (sym (voices-same (voicesIn bs) (countIn bs) (sym (voices-counted (drop 31 bs) (countIn bs)))
-    true)))
+-- the scene that the code puts together, and past refusal 9 the answer, which is what the tests give
+-- on its parts
+module _ (bs : List ℕ) (config : MaskConfig) (voices : List MaskVoice) (count : ℕ)
+    (e : config ≡ settingsIn bs) (c : count ≡ countIn bs)
+    (v : voices ≡ gatheredTo (held count) (voicesOf (drop RECORD-HEAD bs) (held count))) where
+  array-is : voices ≡ gathered (voicesIn bs)
+  array-is =
+      v ∙ held-voices (drop RECORD-HEAD bs) count
+      ∙ ap (λ (n : ℕ). gathered (voicesOf (drop RECORD-HEAD bs) n)) c
+
+  pub scene-made : record { config = config; voices = voices; count = count } ≡ sceneIn bs
+  unfolding sceneIn
+  scene-made = rw (array-is, e, c)
+
+  pub read-tested :
+      wellFormed bs ≡ true
+      → readReply bs ≡ first (settingsReply config) (voicesReply voices count true)
+  unfolding readReply
+  read-tested t =
+      rw (t, array-is, e, c)
+      (ap (λ (r : Reply). first (settingsReply (settingsIn bs)) r)
+      (sym (voices-same (voicesIn bs) (countIn bs)
+      (sym (voices-counted (drop RECORD-HEAD bs) (countIn bs))) true)))
 
 -- the scene beside an answer that is refused, and beside one that is done
 pub scene-refused :

@@ -4,10 +4,9 @@ ghost use mathlib.Core.Path.{_≡_};
 ghost use lib.ListN.{length};
 ghost use Rattle.answer.specs.Reply.{ofOutcome};
 ghost use Rattle.answer.specs.Written.{written};
-ghost use Rattle.limits.specs.Lengths.{recordLength};
 ghost use Rattle.refusals.specs.Masks.{first, settingsReply, voicesReply};
-ghost use Rattle.record_calls.specs.Records.{recordOf, writeReply, countIn, wellFormed};
-ghost use Rattle.record_calls.specs.Records.{readReply, sceneIn, sceneRead};
+ghost use Rattle.record_calls.specs.Records.{recordOf, writeReply, wellFormed};
+ghost use Rattle.record_calls.specs.Records.{readReply, sceneRead};
 use answer::Outcome;
 use answer::refusal;
 use limits::lengths::RECORD_HEAD;
@@ -33,7 +32,8 @@ pub struct SceneRead {
     pub scene: Scene,
 }
 
-// Refusals 1 to 5 of a scene: the settings, the number of voices, a length, and the voices.
+// Refusals 1 to 5 of a scene that is to be written: the settings, the number of voices, the record's
+// length, and the voices.
 fn of_scene(scene: Scene, lengths: bool) -> Outcome
     ensures { λ r. ⌜ ofOutcome r ≡ first (settingsReply (scene .config))
         (voicesReply (scene .voices) (scene .count) lengths) ⌝ }
@@ -84,21 +84,6 @@ fn well_formed(record: &[u8]) -> bool
     pitches_allowed(record, RECORD_HEAD, count)
 }
 
-// The scene of a record that has its length. Of over 128 voices the array holds the first.
-fn scene_at(record: &[u8]) -> Scene
-    requires { ⌜ length (now «record») ≡ recordLength (countIn (now «record»)) ⌝ }
-    ensures { λ r. ⌜ r ≡ sceneIn (now («record» .entry)) ⌝ }
-{
-    let count = count_of(head_at(record));
-    let config = settings_at(record);
-    let voices = voices_at(record, RECORD_HEAD, held(count));
-    Scene {
-        config: config,
-        voices: voices,
-        count: count,
-    }
-}
-
 // Reads the scene of a record.
 pub fn read_scene(record: &[u8]) -> SceneRead
     ensures { λ r. ⌜ ofOutcome (r .outcome) ≡ readReply (now («record» .entry)) ⌝ }
@@ -111,16 +96,28 @@ pub fn read_scene(record: &[u8]) -> SceneRead
             scene: blank_scene(),
         };
     }
-    let scene = scene_at(record);
-    let outcome = of_scene(scene, true);
+    let count = count_of(head_at(record));
+    let config = settings_at(record);
+    // Of over 128 voices, which are refused, the array holds the first.
+    let voices = voices_at(record, RECORD_HEAD, held(count));
+    let settings = of_settings(config);
+    let heard = of_voices(voices, count, true);
+    let outcome = first(settings, heard);
     match outcome {
         Outcome::Refused(_, _) => SceneRead {
             outcome: outcome,
             scene: blank_scene(),
         },
-        Outcome::Done => SceneRead {
-            outcome: outcome,
-            scene: scene,
-        },
+        Outcome::Done => {
+            let scene = Scene {
+                config: config,
+                voices: voices,
+                count: count,
+            };
+            SceneRead {
+                outcome: outcome,
+                scene: scene,
+            }
+        }
     }
 }

@@ -33,7 +33,7 @@ use Rattle.record_heads.proofs.Heads as head
 use Rattle.record_voices.specs.Voices.{voicesBytes, voicesOf, pitchesAllowed}
 use Rattle.record_voices.proofs.Voices.{VoiceNumbers, voices-length, voices-counted, voices-back, voices-pass, voices-there}
 use Rattle.record_calls.specs.Records.{counted, recordOf, writeReply, countIn, voicesIn, wellFormed, formReply, readReply, sceneIn, sceneRead}
-use Rattle.record_calls.proofs.Reading.{Formed, formed, read-tested, scene-done}
+use Rattle.record_calls.proofs.Reading.{Formed, formed, held-voices, read-tested, scene-done}
 use Rattle.record_calls.proofs.Writing as write
 use Rattle.record_law.specs.Law.{SameScene, F32Scene, ScenesComeBack, RecordsComeBack, OneRecordEach}
 use Rattle.record_law.proofs.Numbers.{settings-fit, voices-fit, settings-numbers, voice-numbers}
@@ -220,7 +220,10 @@ module _ (bytes : List ℕ) (small : All Byte bytes) (accepted : readReply bytes
   unfolding writeReply sceneIn
   write-accepted =
       rw (eq-eqb (length bytes) (recordLength n) (formed-record .whole))
-      (sym (read-tested bytes (sceneIn bytes) refl (is-true (wellFormed bytes) form)) ∙ accepted)
+      (sym
+      (read-tested bytes (settingsIn bytes) (gathered (voicesIn bytes)) n refl refl
+      (sym (held-voices past-head-bytes n)) (is-true (wellFormed bytes) form))
+      ∙ accepted)
 
 pub records-come-back : RecordsComeBack
 records-come-back bytes small accepted =
