@@ -40,107 +40,107 @@ use Rattle.record_law.proofs.Numbers.{settings-fit, voices-fit, setting
 
 -- ---- the scene of a written record
 module _ (scene : Scene) (f32 : F32Scene scene) (n : ℕ) (accepted : writeReply n scene ≡ done [])
-    where
-  abbrev d : Done (writeReply n scene)
-  d = is-done (writeReply n scene) accepted
+  where
+    abbrev d : Done (writeReply n scene)
+    d = is-done (writeReply n scene) accepted
 
-  abbrev voices : List ℕ
-  voices = voicesBytes (counted scene)
+    abbrev voices : List ℕ
+    voices = voicesBytes (counted scene)
 
-  abbrev bytes : List ℕ
-  bytes = recordOf scene
+    abbrev bytes : List ℕ
+    bytes = recordOf scene
 
-  abbrev fit : FieldsFit (scene .config) (scene .count)
-  fit = write.fields-fit scene n d
+    abbrev fit : FieldsFit (scene .config) (scene .count)
+    fit = write.fields-fit scene n d
 
-  counts : countIn bytes ≡ scene .count
-  unfolding recordOf
-  counts = head.count-back (scene .config) (scene .count) fit voices
+    counts : countIn bytes ≡ scene .count
+    unfolding recordOf
+    counts = head.count-back (scene .config) (scene .count) fit voices
 
-  zeros : zeroBits (headIn bytes) ≡ true
-  unfolding recordOf
-  zeros = head.zeros-back (scene .config) (scene .count) fit voices
+    zeros : zeroBits (headIn bytes) ≡ true
+    unfolding recordOf
+    zeros = head.zeros-back (scene .config) (scene .count) fit voices
 
-  settings : settingsIn bytes ≡ scene .config
-  unfolding recordOf
-  settings =
-      head.settings-back (scene .config) (scene .count) fit voices (write.size-accepted scene n d)
-      (settings-fit (scene .config) (f32 .settings-f32))
+    settings : settingsIn bytes ≡ scene .config
+    unfolding recordOf
+    settings =
+        head.settings-back (scene .config) (scene .count) fit voices (write.size-accepted scene n d)
+        (settings-fit (scene .config) (f32 .settings-f32))
 
-  past-head : drop RECORD-HEAD bytes ≡ voices
-  unfolding recordOf
-  past-head =
-      drop-at (headBytes (scene .config) (scene .count)) voices RECORD-HEAD
-      (head.head-length (scene .config) (scene .count))
+    past-head : drop RECORD-HEAD bytes ≡ voices
+    unfolding recordOf
+    past-head =
+        drop-at (headBytes (scene .config) (scene .count)) voices RECORD-HEAD
+        (head.head-length (scene .config) (scene .count))
 
-  whole-length : length bytes ≡ recordLength (countIn bytes)
-  unfolding recordOf
-  whole-length =
-      omega (
-        arith,
-        counts,
-        length-append (headBytes (scene .config) (scene .count)) voices,
-        head.head-length (scene .config) (scene .count),
-        voices-length (counted scene),
-        write.all-counted scene n d,
-      )
+    whole-length : length bytes ≡ recordLength (countIn bytes)
+    unfolding recordOf
+    whole-length =
+        omega (
+          arith,
+          counts,
+          length-append (headBytes (scene .config) (scene .count)) voices,
+          head.head-length (scene .config) (scene .count),
+          voices-length (counted scene),
+          write.all-counted scene n d,
+        )
 
-  -- the voices and their test, with nothing behind them
-  all-voices : voicesIn bytes ≡ counted scene
-  all-voices =
-      ap (voicesOf (drop RECORD-HEAD bytes)) (counts ∙ sym (write.all-counted scene n d))
-      ∙ ap (λ (l : List ℕ). voicesOf l (length (counted scene)))
-      (past-head ∙ sym (append-nil voices))
-      ∙ voices-back (counted scene) []
-      (voices-fit (scene .voices) (scene .count) (f32 .voices-f32))
+    -- the voices and their test, with nothing behind them
+    all-voices : voicesIn bytes ≡ counted scene
+    all-voices =
+        ap (voicesOf (drop RECORD-HEAD bytes)) (counts ∙ sym (write.all-counted scene n d))
+        ∙ ap (λ (l : List ℕ). voicesOf l (length (counted scene)))
+        (past-head ∙ sym (append-nil voices))
+        ∙ voices-back (counted scene) []
+        (voices-fit (scene .voices) (scene .count) (f32 .voices-f32))
 
-  pitches : T (pitchesAllowed (drop RECORD-HEAD bytes) (countIn bytes))
-  pitches =
-      subst (λ (k : ℕ). T (pitchesAllowed (drop RECORD-HEAD bytes) k))
-      (write.all-counted scene n d ∙ sym counts)
-      (subst (λ (l : List ℕ). T (pitchesAllowed l (length (counted scene))))
-      (append-nil voices ∙ sym past-head) (voices-pass (counted scene) []))
+    pitches : T (pitchesAllowed (drop RECORD-HEAD bytes) (countIn bytes))
+    pitches =
+        subst (λ (k : ℕ). T (pitchesAllowed (drop RECORD-HEAD bytes) k))
+        (write.all-counted scene n d ∙ sym counts)
+        (subst (λ (l : List ℕ). T (pitchesAllowed l (length (counted scene))))
+        (append-nil voices ∙ sym past-head) (voices-pass (counted scene) []))
 
-  well-formed : wellFormed bytes ≡ true
-  unfolding wellFormed
-  well-formed =
-      rw (
-        eq-eqb (length bytes) (recordLength (countIn bytes)) whole-length,
-        zeros,
-        is-true (pitchesAllowed (drop RECORD-HEAD bytes) (countIn bytes)) pitches,
-      )
+    well-formed : wellFormed bytes ≡ true
+    unfolding wellFormed
+    well-formed =
+        rw (
+          eq-eqb (length bytes) (recordLength (countIn bytes)) whole-length,
+          zeros,
+          is-true (pitchesAllowed (drop RECORD-HEAD bytes) (countIn bytes)) pitches,
+        )
 
-  -- the answer of the read is that of the write
-  voices-tested :
-      voicesReply (counted scene) (scene .count) true
-      ≡ voicesReply (scene .voices) (scene .count) true
-  unfolding voicesReply
-  voices-tested = rw (take-take (scene .count) (scene .count) (scene .voices) (le-refl (scene .count)))
+    -- the answer of the read is that of the write
+    voices-tested :
+        voicesReply (counted scene) (scene .count) true
+        ≡ voicesReply (scene .voices) (scene .count) true
+    unfolding voicesReply
+    voices-tested = rw (take-take (scene .count) (scene .count) (scene .voices) (le-refl (scene .count)))
 
-  write-tested :
-      writeReply n scene
-      ≡ first (settingsReply (scene .config)) (voicesReply (scene .voices) (scene .count) true)
-  unfolding writeReply
-  write-tested = rw (eq-eqb n (recordLength (scene .count)) (write.whole scene n d))
+    write-tested :
+        writeReply n scene
+        ≡ first (settingsReply (scene .config)) (voicesReply (scene .voices) (scene .count) true)
+    unfolding writeReply
+    write-tested = rw (eq-eqb n (recordLength (scene .count)) (write.whole scene n d))
 
-  read-accepted : readReply bytes ≡ done []
-  unfolding readReply
-  read-accepted =
-      rw (well-formed, settings, all-voices, counts, voices-tested) (sym write-tested ∙ accepted)
+    read-accepted : readReply bytes ≡ done []
+    unfolding readReply
+    read-accepted =
+        rw (well-formed, settings, all-voices, counts, voices-tested) (sym write-tested ∙ accepted)
 
-  same-scene : SameScene (sceneRead bytes) scene
-  unfolding sceneIn
-  same-scene =
-      subst (λ (s : Scene). SameScene s scene) (scene-done bytes read-accepted)
-      (record {
-        settings = settings;
-        count = counts;
-        voices =
-            all-heard (voicesIn bytes) (countIn bytes)
-                (sym (voices-counted (drop RECORD-HEAD bytes) (countIn bytes)))
-                (omega (arith, counts, write.few scene n d))
-            ∙ all-voices;
-      })
+    same-scene : SameScene (sceneRead bytes) scene
+    unfolding sceneIn
+    same-scene =
+        subst (λ (s : Scene). SameScene s scene) (scene-done bytes read-accepted)
+        (record {
+          settings = settings;
+          count = counts;
+          voices =
+              all-heard (voicesIn bytes) (countIn bytes)
+              (sym (voices-counted (drop RECORD-HEAD bytes) (countIn bytes)))
+              (omega (arith, counts, write.few scene n d))
+              ∙ all-voices;
+        })
 
 pub scenes-come-back : ScenesComeBack
 scenes-come-back scene f32 n accepted =

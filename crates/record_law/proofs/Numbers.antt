@@ -101,8 +101,7 @@ module _ (config : MaskConfig) (s : T (sizeAccepted config)) (t : T (settingsAcc
       let d = limits.motionDepth (config .motion .«depth_db») in
       let p = finite (config .motion .phase) in
       let o = limits.motionSize (config .motion .«size_octaves») in
-      let rest = and-r d (p && o) m in
-      (
+      let rest = and-r d (p && o) m in (
         within-no-nan _ _ (config .motion .«depth_db») (and-l d (p && o) m),
         finite-no-nan (config .motion .phase) (and-l p o rest),
         within-no-nan _ _ (config .motion .«size_octaves») (and-r p o rest),

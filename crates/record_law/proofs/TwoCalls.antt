@@ -22,8 +22,7 @@ pub comes-back :
 comes-back scene answered n old after f32 e f g h accepted =
     let same : after ≡ recordOf scene =
     f ∙ ap (λ (w : Reply). written w (recordOf scene) old) accepted in
-    let back = scenes-come-back scene f32 n (sym e ∙ accepted) in
-    (
+    let back = scenes-come-back scene f32 n (sym e ∙ accepted) in (
       g ∙ ap readReply same ∙ back .0,
       subst (λ (s : Scene). SameScene s scene) (sym (h ∙ ap sceneRead same)) (back .1),
     )
@@ -37,8 +36,7 @@ pub written-as-read :
 written-as-read bytes old copy scene small e f g h l accepted =
     let back = records-come-back bytes small (sym e ∙ accepted) in
     let done =
-    g ∙ ap (λ (n : ℕ). writeReply n scene) l ∙ ap (writeReply (length bytes)) f ∙ back .0 in
-    (
+    g ∙ ap (λ (n : ℕ). writeReply n scene) l ∙ ap (writeReply (length bytes)) f ∙ back .0 in (
       done,
       h ∙ ap (λ (w : Reply). written w (recordOf scene) old) done ∙ ap recordOf f ∙ back .1,
     )

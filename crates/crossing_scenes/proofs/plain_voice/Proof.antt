@@ -15,7 +15,7 @@ number-of-requires c κs = search needs
 
 returns : tie.Need-returns
 unfolding plainVoice
-returns c = 
+returns c =
     simp (c .before .before .form-of .ensures, c .before .note-of .ensures, c .number-of .ensures)
 
 pub plain-voice-spec : {M : Type 1} → statement M

@@ -53,16 +53,15 @@ loop-less : tie.Need-loop-less Inv-loop μ-loop
 loop-less c = omega arith
 
 loop-again : tie.Need-loop-again Inv-loop μ-loop
-loop-again c = 
-    let b = c .before .before .before in
-    (
+loop-again c =
+    let b = c .before .before .before in (
       omega arith,
       refl,
       turned-more noRecord (b .loop .inv .2) (omega arith) (c .plain-voice2 .ensures),
     )
 
 returns : tie.Need-returns Inv-loop μ-loop
-returns c = 
+returns c =
     let b = c .before in
     let a = b .before .before .before .args in
     let l : length (a .t1) ≡ 128 = search needs in

@@ -19,7 +19,7 @@ place-requires : tie.Need-place-requires
 place-requires c κs = search needs
 
 returns : tie.Need-returns
-returns c = 
+returns c =
     let plain = c .before .before in
     let read = plain .before .before in
     simp (

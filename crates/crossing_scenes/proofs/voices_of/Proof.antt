@@ -46,13 +46,12 @@ loop-less : tie.Need-loop-less Inv-loop μ-loop
 loop-less c = omega arith
 
 loop-again : tie.Need-loop-again Inv-loop μ-loop
-loop-again c = 
+loop-again c =
     let b = c .before .before .before in
     let records = b .before .before .args .t1 in
     let l : length records ≡ 128 = search needs in
     let there = length-voices records in
-    let same = c .voice-of .ensures ∙ sym (voice-at records (b .loop .i)) in
-    (
+    let same = c .voice-of .ensures ∙ sym (voice-at records (b .loop .i)) in (
       omega arith,
       ap (λ voices. set voices (b .loop .i) (c .voice-of .result)) (b .loop .inv .1)
           ∙ ap (set (gatheredTo (b .loop .i) (recordVoices records)) (b .loop .i)) same
@@ -60,7 +59,7 @@ loop-again c =
     )
 
 returns : tie.Need-returns Inv-loop μ-loop
-returns c = 
+returns c =
     let b = c .before in
     let records = b .before .before .args .t1 in
     let l : length records ≡ 128 = search needs in

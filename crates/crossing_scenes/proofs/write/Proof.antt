@@ -22,11 +22,10 @@ give-outcome-requires : tie.Need-give-outcome-requires
 give-outcome-requires c κs = search needs
 
 returns : tie.Need-returns
-returns c = 
+returns c =
     let called = c .before .before in
     let shape = called .before .if1 .taken in
-    let config = called .before .before .before in
-    (
+    let config = called .before .before .before in (
       given
           (unknown _ _ _ (config .config-of .ensures) (called .shape-refused .ensures) shape)
           (c .give-outcome .ensures),
@@ -46,7 +45,7 @@ same-length : tie.Need-same-length
 same-length c = search needs
 
 returns-2 : tie.Need-returns-2
-returns-2 c = 
+returns-2 c =
     let called = c .before .before .before .before in
     let scene = called .before in
     let shape = scene .before .before in
@@ -56,8 +55,7 @@ returns-2 c =
     let same = scene .scene-of .ensures in
     let a = config .before .before .before .args in
     let old = a .«record» .now in
-    let reply = answer .0 ∙ ap (writeReply _) same in
-    (
+    let reply = answer .0 ∙ ap (writeReply _) same in (
       given (known _ _ _ e reply (shape .if1 .left)) (c .give-outcome2 .ensures),
       known-left _ _ _ e (λ config. recordOf (sceneOf (a .plain))) _ reply (shape .if1 .left)
           (answer .1

@@ -14,7 +14,7 @@ first-requires : tie.Need-first-requires
 first-requires c κs = search needs
 
 returns : tie.Need-returns
-returns c = 
+returns c =
     let voices = c .before in
     c .first .ensures ∙ simp (voices .before .of-settings .ensures, voices .of-voices .ensures)
 

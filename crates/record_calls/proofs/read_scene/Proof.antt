@@ -26,14 +26,14 @@ blank-scene-requires : tie.Need-blank-scene-requires
 blank-scene-requires c κs = search needs
 
 returns : tie.Need-returns
-returns c = 
+returns c =
     let w = c .before .before in
     let bs = w .before .before .args .«record» .now in
     let e = read-refused bs (sym (w .well-formed .ensures) ∙ not-true _ (c .before .if1 .taken)) in
     (sym e, c .blank-scene .ensures ∙ scene-refused bs e)
 
 head-at-requires : tie.Need-head-at-requires
-head-at-requires c κs = 
+head-at-requires c κs =
     let w = c .before in
     let bs = w .before .before .args .«record» .now in
     let e = sym (w .well-formed .ensures) ∙ not-false _ (c .if1 .left) in
@@ -44,7 +44,7 @@ count-of-requires : tie.Need-count-of-requires
 count-of-requires c κs = search needs
 
 settings-at-requires : tie.Need-settings-at-requires
-settings-at-requires c κs = 
+settings-at-requires c κs =
     let w = c .before .before .before in
     let bs = w .before .before .args .«record» .now in
     let e = sym (w .well-formed .ensures) ∙ not-false _ (c .before .before .if1 .left) in
@@ -55,7 +55,7 @@ held-requires : tie.Need-held-requires
 held-requires c κs = search needs
 
 voices-at-requires : tie.Need-voices-at-requires
-voices-at-requires c κs = 
+voices-at-requires c κs =
     let n = c .before .before in
     let left = n .before .before in
     let w = left .before in
@@ -63,8 +63,7 @@ voices-at-requires c κs =
     let e = sym (w .well-formed .ensures) ∙ not-false _ (left .if1 .left) in
     let whole = formed bs (subst T (sym e) tt) .whole in
     let count = n .count-of .ensures .0 ∙ ap countOf (n .before .head-at .ensures .0) in
-    let fits = held-fits (n .count-of .result) in
-    (
+    let fits = held-fits (n .count-of .result) in (
       omega (arith, fits .1, c .held .ensures),
       omega (arith, fits .0, c .held .ensures, count, whole),
     )
@@ -88,7 +87,7 @@ enum-told-2 : tie.Need-enum-told-2
 enum-told-2 c = search needs
 
 returns-2 : tie.Need-returns-2
-returns-2 c = 
+returns-2 c =
     let of-settings = c .before .before .before .before .before in
     let voices = of-settings .before in
     let config = voices .before .before in
@@ -108,15 +107,14 @@ returns-2 c =
     ∙ ap (λ (r : Reply). first r (ofOutcome (c .before .before .before .before .of-voices .result)))
     (of-settings .of-settings .ensures)
     ∙ ap (first (settingsReply (config .settings-at .result))) (c .before .before .before .before .of-voices .ensures)
-    ∙ sym (read-tested bs _ _ _ same count array form) in
-    (
+    ∙ sym (read-tested bs _ _ _ same count array form) in (
       e,
       c .blank-scene2 .ensures
           ∙ scene-refused bs (sym e ∙ ap ofOutcome (c .before .enum-told .given .1)),
     )
 
 returns-3 : tie.Need-returns-3
-returns-3 c = 
+returns-3 c =
     let of-settings = c .before .before .before .before in
     let voices = of-settings .before in
     let config = voices .before .before in
@@ -136,8 +134,7 @@ returns-3 c =
     ∙ ap (λ (r : Reply). first r (ofOutcome (c .before .before .before .of-voices .result)))
     (of-settings .of-settings .ensures)
     ∙ ap (first (settingsReply (config .settings-at .result))) (c .before .before .before .of-voices .ensures)
-    ∙ sym (read-tested bs _ _ _ same count array form) in
-    (
+    ∙ sym (read-tested bs _ _ _ same count array form) in (
       e,
       scene-made bs _ _ _ same count array
           ∙ scene-done bs (sym e ∙ ap ofOutcome (c .enum-told2 .given .1)),

@@ -22,7 +22,7 @@ record-length-requires : tie.Need-record-length-requires
 record-length-requires c κs = search needs
 
 returns-2 : tie.Need-returns-2
-returns-2 c = 
+returns-2 c =
     let n = c .before .before in
     let h = n .before in
     other-length _ _ (n .count-of .ensures .0 ∙ ap countOf (h .head-at .ensures .0))
@@ -33,7 +33,7 @@ zero-bits-requires : tie.Need-zero-bits-requires
 zero-bits-requires c κs = search needs
 
 returns-3 : tie.Need-returns-3
-returns-3 c = 
+returns-3 c =
     let z = c .before in
     let l = z .before in
     let n = l .before .before in
@@ -47,7 +47,7 @@ pitches-allowed-requires : tie.Need-pitches-allowed-requires
 pitches-allowed-requires c κs = search needs
 
 returns-4 : tie.Need-returns-4
-returns-4 c = 
+returns-4 c =
     let z = c .before .before in
     let l = z .before in
     let n = l .before .before in

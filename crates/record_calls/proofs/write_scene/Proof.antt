@@ -30,7 +30,7 @@ enum-told : tie.Need-enum-told
 enum-told c = search needs
 
 put-head-requires : tie.Need-put-head-requires
-put-head-requires c κs = 
+put-head-requires c κs =
     let told = c .before .before .before in
     let tested = told .before .before in
     let l = tested .before in
@@ -42,7 +42,7 @@ put-head-requires c κs =
     (omega (arith, whole (a .scene) n d), fields-fit (a .scene) n d)
 
 put-voices-requires : tie.Need-put-voices-requires
-put-voices-requires c κs = 
+put-voices-requires c κs =
     let head = c .before .before .before in
     let told = head .before .before .before .before in
     let tested = told .before .before in
@@ -52,14 +52,13 @@ put-voices-requires c κs =
     let long = ap (eqb n) (l .record-length .ensures ∙ ap recordLength (l .before .held .ensures)) in
     let e = tested .of-scene .ensures ∙ write-answer (a .scene) n long in
     let d = is-done _ (sym e ∙ ap ofOutcome (told .enum-told .given .1)) in
-    let same = ap length (head .put-head .ensures) ∙ stored-length (a .«record» .now) 0 _ in
-    (
+    let same = ap length (head .put-head .ensures) ∙ stored-length (a .«record» .now) 0 _ in (
       few (a .scene) n d,
       (omega (arith, same, whole (a .scene) n d), notes-fit (a .scene) n d),
     )
 
 returns : tie.Need-returns
-returns c = 
+returns c =
     let tested = c .before .before .before in
     let l = tested .before in
     let a = l .before .before .before .args in
@@ -72,7 +71,7 @@ same-length : tie.Need-same-length
 same-length c = search needs
 
 returns-2 : tie.Need-returns-2
-returns-2 c = 
+returns-2 c =
     let voices = c .before .before in
     let head = voices .before .before .before .before in
     let told = head .before .before .before .before in
@@ -82,8 +81,7 @@ returns-2 c =
     let n = length (a .«record» .now) in
     let long = ap (eqb n) (l .record-length .ensures ∙ ap recordLength (l .before .held .ensures)) in
     let e = tested .of-scene .ensures ∙ write-answer (a .scene) n long in
-    let d = is-done _ (sym e ∙ ap ofOutcome (told .enum-told .given .1)) in
-    (
+    let d = is-done _ (sym e ∙ ap ofOutcome (told .enum-told .given .1)) in (
       ap ofOutcome (sym (told .enum-told .given .1)) ∙ e,
       voices .put-voices .ensures
           ∙ record-stored (a .scene) n (a .«record» .now) _ (whole (a .scene) n d)

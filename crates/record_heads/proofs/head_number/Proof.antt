@@ -49,7 +49,7 @@ mul-result-2 c = search needs
 
 returns : tie.Need-returns
 unfolding packed
-returns c = 
+returns c =
     let log = c .before .before .before .log-of .ensures in
     let layer = c .before .before .layer-number .ensures .0 in
     let shape = c .before .shape-number .ensures .0 in

@@ -21,7 +21,7 @@ same-length : tie.Need-same-length
 same-length c = search needs
 
 returns : tie.Need-returns
-returns c = 
+returns c =
     let floats = c .before .before in
     let three = floats .before .before .before .before .before in
     let a = three .before .before .before .before .args in

@@ -14,7 +14,7 @@ settings-of-requires : tie.Need-settings-of-requires
 settings-of-requires c κs = search needs
 
 returns : tie.Need-returns
-returns c = 
+returns c =
     c .settings-of .ensures
     ∙ simp (c .before .floats-at .ensures, c .before .before .head-at .ensures .0)
 

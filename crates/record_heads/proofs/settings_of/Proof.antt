@@ -21,7 +21,7 @@ cast-t10 : tie.Need-cast-t10
 cast-t10 c = search needs
 
 shl-t11 : tie.Need-shl-t11
-shl-t11 c = 
+shl-t11 c =
     let e = c .field-at .ensures ∙ masked (c .before .before .args .number) 20 4 in
     omega (arith, e)
 
@@ -45,7 +45,7 @@ array-read-t24 c = search needs
 
 returns : tie.Need-returns
 unfolding settingsOf
-returns c = 
+returns c =
     let n = c .before .before .before .before .args .number in
     let log = c .before .before .field-at .ensures ∙ masked n 20 4 in
     let layer = c .before .field-at2 .ensures ∙ masked n 19 1 in

@@ -17,7 +17,7 @@ same-length : tie.Need-same-length
 same-length c = search needs
 
 returns : tie.Need-returns
-returns c = 
+returns c =
     let w = c .before .before in
     let r = w .before .before .before in
     let known = r .before .before in
@@ -25,8 +25,7 @@ returns c =
     let bytes = a .«record» .now in
     let x = r .read-scene .ensures in
     let y = w .write-scene .ensures in
-    let small = all-places Byte 0 bytes (λ i l. omega (arith, known .shared-slice-known .given i)) in
-    (
+    let small = all-places Byte 0 bytes (λ i l. omega (arith, known .shared-slice-known .given i)) in (
       x .0,
       λ l. written-as-read bytes (a .copy .now) _ _ small (x .0) (x .1) (y .0) (y .1) l,
     )

@@ -14,7 +14,7 @@ read-scene-requires-2 : tie.Need-read-scene-requires-2
 read-scene-requires-2 c κs = search needs
 
 returns : tie.Need-returns
-returns c = 
+returns c =
     let one = c .before in
     let second = one .before in
     let first = second .before in
@@ -24,8 +24,7 @@ returns c =
     let small-a =
     all-places Byte 0 (p .a .now) (λ i l. omega (arith, first .shared-slice-known .given i)) in
     let small-b =
-    all-places Byte 0 (p .b .now) (λ i l. omega (arith, second .shared-slice-known2 .given i)) in
-    (
+    all-places Byte 0 (p .b .now) (λ i l. omega (arith, second .shared-slice-known2 .given i)) in (
       x .0,
       (y .0, one-record (p .a .now) (p .b .now) _ _ small-a small-b (x .0) (x .1) (y .0) (y .1)),
     )

@@ -16,14 +16,13 @@ same-length : tie.Need-same-length
 same-length c = search needs
 
 returns : tie.Need-returns
-returns c = 
+returns c =
     let w = c .before .before .before .before in
     let start = w .before .before .before in
     let a = start .args in
     let x = w .write-scene .ensures in
     let y = c .read-scene .ensures in
-    let f = scene-f32 (a .scene) _ (start .good .1 .0) in
-    (
+    let f = scene-f32 (a .scene) _ (start .good .1 .0) in (
       x .0,
       comes-back (a .scene) _ (length (a .«record» .now)) (a .«record» .now) _
           (record { settings-f32 = f .0; voices-f32 = f .1 }) (x .0) (x .1) (y .0) (y .1),

@@ -15,7 +15,7 @@ form-of-requires : tie.Need-form-of-requires
 form-of-requires c κs = search needs
 
 add-result : tie.Need-add-result
-add-result c = 
+add-result c =
     let p = c .before .before .args .pitch in
     let form = form-below p in
     record { fits = omega (arith, form, c .form-of .ensures) }

@@ -45,8 +45,7 @@ loop-less c = omega arith
 loop-again : tie.Need-loop-again Inv-loop μ-loop
 loop-again c =
     let p = c .before in
-    let b = p .before .before in
-    (
+    let b = p .before .before in (
       omega arith,
       allowed-next _ _ _ _ (b .loop-test .taken) (sym (p .pitch-allowed .ensures) ∙ c .if1 .taken)
           ∙ b .before .loop .inv .1,

@@ -27,7 +27,7 @@ same-length : tie.Need-same-length
 same-length c = ap length (c .before .before .put-floats .ensures) ∙ stored-length _ _ _ ∙ simp length-set
 
 returns : tie.Need-returns
-returns c = 
+returns c =
     let floats = c .before .before in
     let byte = floats .before .before .before in
     let a = byte .before .before .args in

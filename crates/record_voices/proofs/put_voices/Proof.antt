@@ -40,8 +40,7 @@ put-voice-requires c κs =
     let b = c .before .before .before in
     let start = b .before .before in
     let a = start .args in
-    let l : length (a .t3) ≡ 128 = search needs in
-    (
+    let l : length (a .t3) ≡ 128 = search needs in (
       omega arith,
       note-fits (a .t3) (a .count) (b .loop .i) (omega arith) (omega arith) (start .pre .1 .1),
     )
@@ -57,8 +56,7 @@ loop-again c =
     let b = c .before .before .before .before .before .before in
     let a = b .before .before .args in
     let l : length (a .t3) ≡ 128 = search needs in
-    let e = c .before .before .put-voice .ensures in
-    (
+    let e = c .before .before .put-voice .ensures in (
       omega arith,
       ap length e ∙ stored-length _ _ _ ∙ b .loop .inv .1,
       e

@@ -53,7 +53,7 @@ float-at-requires-7 : tie.Need-float-at-requires-7
 float-at-requires-7 c κs = search needs
 
 returns : tie.Need-returns
-returns c = 
+returns c =
     let five = c .before .before in
     let three = five .before .before in
     let two = three .before in

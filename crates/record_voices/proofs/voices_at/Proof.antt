@@ -48,8 +48,7 @@ loop-less c = omega arith
 loop-again : tie.Need-loop-again Inv-loop μ-loop
 loop-again c =
     let b = c .before .before in
-    let a = b .before .before .before .args in
-    (
+    let a = b .before .before .before .args in (
       omega arith,
       gathered-voice (a .«record» .now) (a .at) (a .count) (b .loop .i) _ _ (omega arith)
           (omega arith) (b .loop .inv .1) (c .voice-at .ensures),
