@@ -1,4 +1,5 @@
--- The refusal numbers by name: document 01's, in the order of its table, and those of requests. Assumes nothing.
+-- The refusal numbers by name: document 01's, in the order of its table, and those of requests.
+-- Assumes nothing.
 use Prim.Native.Nat.{ℕ}
 
 -- "size not a power of two in 64..16,384, or rate outside 8,000..192,000 Hz"

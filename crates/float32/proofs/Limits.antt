@@ -1,5 +1,5 @@
--- What a passed test of limits says: the two comparisons, that the float is a number and no NaN, and
--- between finite ends or where it is finite that it is a real one. Assumes nothing.
+-- What a passed test of limits says: the two comparisons, that the float is a number and no NaN,
+-- and between finite ends or where it is finite that it is a real one. Assumes nothing.
 use mathlib.Core.Bool.{not}
 use lib.Dec.{T}
 use lib.Ieee.{Float, nan, inf, fin, Format, lt, eq, le, isNan, fits}

@@ -32,7 +32,8 @@ module _ (voices : List MaskVoice) (count : ℕ) (counted : count ≡ length voi
       → voicesMaskReply n curve (gathered voices) count config
       ≡ voicesMaskReply n curve voices count config
   unfolding voicesMaskReply
-  mono-same n curve config = ap (λ (r : Reply). first (settingsReply config) r) (voices-same voices count counted _)
+  mono-same n curve config =
+      ap (λ (r : Reply). first (settingsReply config) r) (voices-same voices count counted _)
 
   pub tabled-same :
       (n : ℕ) (curve : List Float) (config : MaskConfig) (table : List Float)
@@ -40,7 +41,8 @@ module _ (voices : List MaskVoice) (count : ℕ) (counted : count ≡ length voi
       ≡ tabledMaskReply n curve voices count config table
   unfolding tabledMaskReply
   tabled-same n curve config table =
-      ap (λ (r : Reply). first (settingsReply config) (first r (tableReply table))) (voices-same voices count counted _)
+      ap (λ (r : Reply). first (settingsReply config) (first r (tableReply table)))
+      (voices-same voices count counted _)
 
   pub stereo-same :
       (m n : ℕ) (curve : List Float) (config : MaskConfig) (table : List Float)
@@ -48,7 +50,8 @@ module _ (voices : List MaskVoice) (count : ℕ) (counted : count ≡ length voi
       ≡ stereoReply m n curve voices count config table
   unfolding stereoReply
   stereo-same m n curve config table =
-      ap (λ (r : Reply). first (settingsReply config) (first r (tableReply table))) (voices-same voices count counted _)
+      ap (λ (r : Reply). first (settingsReply config) (first r (tableReply table)))
+      (voices-same voices count counted _)
 
   -- ---- a call that is done was given at most 128 voices
   few :

@@ -1,5 +1,5 @@
--- Bytes as one number, the most significant first, and a number as bytes, over any width: each comes
--- back from the other. Assumes nothing.
+-- Bytes as one number, the most significant first, and a number as bytes, over any width: each
+-- comes back from the other. Assumes nothing.
 use mathlib.Core.Path.{_≡_, refl, sym, ap, _∙_}
 use mathlib.Core.List.{List, [], _∷_, _++_, append-assoc}
 use Prim.Native.Nat.{ℕ, zero, suc, _+_, _*_, _/_, _%_, _^_, _≤_, _<_}
@@ -32,14 +32,18 @@ length-bytes (suc n) number =
     ∙ ap (λ (k : ℕ). k + 1) (length-bytes n (number / 256)) ∙ add-one n
 
 -- the bytes further on
-pub number-drop : (bytes : List ℕ) (past first n : ℕ) → numberAt (drop past bytes) first n ≡ numberAt bytes (past + first) n
+pub number-drop :
+    (bytes : List ℕ) (past first n : ℕ)
+    → numberAt (drop past bytes) first n ≡ numberAt bytes (past + first) n
 unfolding numberAt
 number-drop bytes past first zero = refl
 number-drop bytes past first (suc n) =
     rw (number-drop bytes past first n, getD-drop past bytes (first + n) 0, add-assoc past first n)
 
 -- ---- a number comes back from its bytes
-pub number-back : (n number : ℕ) (rest : List ℕ) → number < 256 ^ n → numberAt (bytesOf n number ++ rest) 0 n ≡ number
+pub number-back :
+    (n number : ℕ) (rest : List ℕ) → number < 256 ^ n
+    → numberAt (bytesOf n number ++ rest) 0 n ≡ number
 unfolding numberAt bytesOf
 number-back zero number rest h = omega arith
 number-back (suc n) number rest h =
@@ -47,11 +51,17 @@ number-back (suc n) number rest h =
     let p : 256 ^ suc n ≡ 256 ^ n * 256 = pow-suc 256 n in
     let whole = div-add-mod' number 256 in
     let low : number / 256 < 256 ^ n = omega arith in
-    rw (append-assoc front (number % 256 ∷ []) rest, zero-add n, number-back n (number / 256) (number % 256 ∷ rest) low, getD-at front (number % 256) rest 0 n (length-bytes n (number / 256)))
+    rw (
+      append-assoc front (number % 256 ∷ []) rest,
+      zero-add n,
+      number-back n (number / 256) (number % 256 ∷ rest) low,
+      getD-at front (number % 256) rest 0 n (length-bytes n (number / 256)),
+    )
     whole
 
 -- ---- bytes come back from their number
-pub number-below : (n : ℕ) (bytes : List ℕ) → n ≤ length bytes → All Byte bytes → numberAt bytes 0 n < 256 ^ n
+pub number-below :
+    (n : ℕ) (bytes : List ℕ) → n ≤ length bytes → All Byte bytes → numberAt bytes 0 n < 256 ^ n
 unfolding numberAt
 number-below zero bytes l h = omega arith
 number-below (suc n) bytes l h =
@@ -60,7 +70,9 @@ number-below (suc n) bytes l h =
     let r = number-below n bytes (omega arith) h in
     omega arith
 
-pub bytes-back : (n : ℕ) (bytes : List ℕ) → n ≤ length bytes → All Byte bytes → bytesOf n (numberAt bytes 0 n) ≡ take n bytes
+pub bytes-back :
+    (n : ℕ) (bytes : List ℕ) → n ≤ length bytes → All Byte bytes
+    → bytesOf n (numberAt bytes 0 n) ≡ take n bytes
 unfolding numberAt bytesOf
 bytes-back zero bytes l h = refl
 bytes-back (suc n) bytes l h =

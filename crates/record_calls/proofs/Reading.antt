@@ -24,7 +24,8 @@ use Rattle.refusals.proofs.Heard.{voices-same}
 use Rattle.record_heads.specs.Heads.{headIn, zeroBits, settingsIn}
 use Rattle.record_voices.specs.Voices.{voicesOf, pitchesAllowed}
 use Rattle.record_voices.proofs.Voices.{voices-counted, voices-first}
-use Rattle.record_calls.specs.Records.{countIn, voicesIn, wellFormed, readReply, sceneIn, sceneRead}
+use Rattle.record_calls.specs.Records.{countIn, voicesIn, wellFormed, readReply, sceneIn}
+use Rattle.record_calls.specs.Records.{sceneRead}
 
 -- ---- the test of refusal 9, by the test that answers
 module _ (bs : List ℕ) where
@@ -82,8 +83,8 @@ pub read-refused : (bs : List ℕ) → wellFormed bs ≡ false → readReply bs 
 unfolding readReply
 read-refused bs e = rw e
 
--- the scene that the code puts together, and past refusal 9 the answer, which is what the tests give
--- on its parts
+-- the scene that the code puts together, and past refusal 9 the answer, which is what the tests
+-- give on its parts
 module _ (bs : List ℕ) (config : MaskConfig) (voices : List MaskVoice) (count : ℕ)
     (e : config ≡ settingsIn bs) (c : count ≡ countIn bs)
     (v : voices ≡ gatheredTo (held count) (voicesOf (drop RECORD-HEAD bs) (held count))) where

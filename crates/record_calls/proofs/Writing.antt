@@ -1,5 +1,5 @@
--- What the code of `write_scene` needs: a scene that passes the tests has room for each field in its
--- bits, and head and voices stored one after the other are the record. Assumes nothing.
+-- What the code of `write_scene` needs: a scene that passes the tests has room for each field in
+-- its bits, and head and voices stored one after the other are the record. Assumes nothing.
 use mathlib.Core.Path.{_≡_, refl, sym, ap, _∙_, subst}
 use mathlib.Core.Bool.{Bool, true, false, cond, not, _&&_}
 use mathlib.Core.List.{List, [], _∷_, _++_}
@@ -20,7 +20,8 @@ use Rattle.scene.specs.declared.MaskConfig.{MaskConfig}
 use Rattle.scene.specs.declared.Pitch.{Pitch}
 use Rattle.scene.specs.declared.Pitch.the-variants.{Note, Hertz}
 use Rattle.scene.specs.declared.Scene.{Scene}
-use Rattle.scene.specs.Accepted.{noVoice, sizeAccepted, settingsAccepted, motionAccepted, pitchAccepted}
+use Rattle.scene.specs.Accepted.{noVoice, sizeAccepted, settingsAccepted, motionAccepted}
+use Rattle.scene.specs.Accepted.{pitchAccepted}
 use Rattle.scene.specs.Accepted.{voiceAccepted, firstVoiceOutside}
 use Rattle.scene.specs.Gathered.{held}
 use Rattle.scene.specs.PitchNumbers.{noteOf}
@@ -44,7 +45,8 @@ held-length false count n three four rest = refl
 -- the note of an accepted voice has room in seven bits
 pitch-fits : (pitch : Pitch) → T (pitchAccepted pitch) → noteOf pitch ≤ MOST-NOTE
 unfolding pitchAccepted noteOf
-pitch-fits (Note note semitones) t = leb→le note MOST-NOTE (and-l (limits.note note) (limits.tuning semitones) t)
+pitch-fits (Note note semitones) t =
+    leb→le note MOST-NOTE (and-l (limits.note note) (limits.tuning semitones) t)
 pitch-fits (Hertz hertz) t = omega arith
 
 note-fits : (voice : MaskVoice) → T (voiceAccepted voice) → NoteFits voice
@@ -101,12 +103,14 @@ module _ (scene : Scene) (n : ℕ) where
     unfolding settingsAccepted
     partials-few =
         let config = scene .config in
-        let notes = limits.noteDepth (config .«note_depth_db») && limits.width (config .«width_cents») in
+        let notes =
+        limits.noteDepth (config .«note_depth_db») && limits.width (config .«width_cents») in
         let partials = limits.partials (config .partials) in
         let rolloff = limits.rolloff (config .«harmonic_rolloff_db_per_octave») in
         let motion = motionAccepted (config .motion) in
         let harmonics =
-        and-l (partials && rolloff) motion (and-r notes ((partials && rolloff) && motion) (settings .1)) in
+        and-l (partials && rolloff) motion
+        (and-r notes ((partials && rolloff) && motion) (settings .1)) in
         leb→le (config .partials) MAX-PARTIALS
         (and-r (leb 1 (config .partials)) (leb (config .partials) MAX-PARTIALS)
         (and-l partials rolloff harmonics))

@@ -1,5 +1,5 @@
--- A whole scene record, in the words of request 104: the bytes that a scene is written as, the scene
--- that a record holds, and what the two calls answer. Assumes nothing.
+-- A whole scene record, in the words of request 104: the bytes that a scene is written as, the
+-- scene that a record holds, and what the two calls answer. Assumes nothing.
 use mathlib.Core.Bool.{Bool, true, cond, _&&_}
 use mathlib.Core.List.{List, [], _++_}
 use Prim.Native.Nat.{ℕ}
@@ -47,8 +47,8 @@ wellFormed bytes =
     eqb (length bytes) (recordLength (countIn bytes))
     && (zeroBits (headIn bytes) && pitchesAllowed (drop RECORD-HEAD bytes) (countIn bytes))
 
--- Refusal 9: "A record read whose length isn't 31 plus 29 for each voice counted, or with a forbidden
--- bit set"
+-- Refusal 9: "A record read whose length isn't 31 plus 29 for each voice counted, or with a
+-- forbidden bit set"
 abbrev pub formReply : List ℕ → Reply
 formReply bytes = cond (wellFormed bytes) (done []) (refused RECORD 0)
 

@@ -32,8 +32,8 @@ pub struct SceneRead {
     pub scene: Scene,
 }
 
-// Refusals 1 to 5 of a scene that is to be written: the settings, the number of voices, the record's
-// length, and the voices.
+// Refusals 1 to 5 of a scene that is to be written: the settings, the number of voices, the
+// record's length, and the voices.
 fn of_scene(scene: Scene, lengths: bool) -> Outcome
     ensures { λ r. ⌜ ofOutcome r ≡ first (settingsReply (scene .config))
         (voicesReply (scene .voices) (scene .count) lengths) ⌝ }

@@ -13,7 +13,8 @@ use lib.ListN.{length, getD, take, drop, length-append, length-drop}
 use lib.Seq.{drop-at, take-add}
 use borrow.Author.Tests.{eq-eqb}
 use Rattle.lists.specs.Totals.{All, all-drop}
-use Rattle.lists.specs.Bytes.{Byte, numberAt, bytesOf, length-bytes, number-back, number-below, bytes-back}
+use Rattle.lists.specs.Bytes.{Byte, numberAt, bytesOf, length-bytes, number-back, number-below}
+use Rattle.lists.specs.Bytes.{bytes-back}
 use Rattle.lists.specs.Stores.{stored, stored-append}
 use Rattle.limits.specs.Limits as limits
 use Rattle.scene.specs.declared.MaskConfig.{MaskConfig}
@@ -21,9 +22,11 @@ use Rattle.scene.specs.declared.MotionShape.{MotionShape}
 use Rattle.scene.specs.Made.{shapeOf, shapeNumber}
 use Rattle.scene.proofs.Shapes.{shape-below, shape-of-number, number-of-shape}
 use Rattle.record_words.specs.Floats.{floatsBytes, floatsOf}
-use Rattle.record_words.proofs.FloatLists.{Fits, Number, floats-length, floats-back, bytes-of-floats}
+use Rattle.record_words.proofs.FloatLists.{Fits, Number, floats-length, floats-back}
+use Rattle.record_words.proofs.FloatLists.{bytes-of-floats}
 use Rattle.record_words.specs.Fields.{fieldAt}
-use Rattle.record_heads.specs.Heads.{logOf, layerNumber, FieldsFit, headNumber, settingsFloats, headBytes}
+use Rattle.record_heads.specs.Heads.{logOf, layerNumber, FieldsFit, headNumber}
+use Rattle.record_heads.specs.Heads.{settingsFloats, headBytes}
 use Rattle.record_heads.specs.Heads.{headIn, countOf, zeroBits, settingsOf, settingsIn}
 use Rattle.record_heads.proofs.Fields as fields
 
@@ -128,7 +131,8 @@ module _ (config : MaskConfig) (count : ℕ) (fit : FieldsFit config count) (res
       with-same config
       (ap (λ (k : ℕ). 2 ^ k) (fields.log-back log layer shape p count a layer-fits shape-fits d e)
       ∙ fields.size-of-log (config .«fft_size») accepted)
-      (ap (λ (k : ℕ). eqb k 1) (fields.layer-back log layer shape p count a layer-fits shape-fits d e)
+      (ap (λ (k : ℕ). eqb k 1)
+      (fields.layer-back log layer shape p count a layer-fits shape-fits d e)
       ∙ fields.layer-of-number (config .«note_layer_enabled»))
       (fields.partials-back log layer shape p count a layer-fits shape-fits d e)
       (ap shapeOf (fields.shape-back log layer shape p count a layer-fits shape-fits d e)

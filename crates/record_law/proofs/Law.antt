@@ -24,19 +24,25 @@ use Rattle.scene.specs.declared.Scene.{Scene}
 use Rattle.scene.specs.Accepted.{noVoice, voiceAccepted}
 use Rattle.scene.specs.Gathered.{gathered}
 use Rattle.refusals.specs.Masks.{first, settingsReply, voicesReply}
-use Rattle.refusals.proofs.MaskAccepted.{Done, is-done, both-done, settings-done, voices-done, voice-done}
+use Rattle.refusals.proofs.MaskAccepted.{Done, is-done, both-done, settings-done, voices-done}
+use Rattle.refusals.proofs.MaskAccepted.{voice-done}
 use Rattle.refusals.proofs.Heard.{all-heard}
 use Rattle.record_words.specs.Floats.{floatsOf}
 use Rattle.record_words.proofs.FloatLists.{Number}
-use Rattle.record_heads.specs.Heads.{FieldsFit, headBytes, headIn, countOf, zeroBits, settingsFloats, settingsIn}
+use Rattle.record_heads.specs.Heads.{FieldsFit, headBytes, headIn, countOf, zeroBits}
+use Rattle.record_heads.specs.Heads.{settingsFloats, settingsIn}
 use Rattle.record_heads.proofs.Heads as head
 use Rattle.record_voices.specs.Voices.{voicesBytes, voicesOf, pitchesAllowed}
-use Rattle.record_voices.proofs.Voices.{VoiceNumbers, voices-length, voices-counted, voices-back, voices-pass, voices-there}
-use Rattle.record_calls.specs.Records.{counted, recordOf, writeReply, countIn, voicesIn, wellFormed, formReply, readReply, sceneIn, sceneRead}
+use Rattle.record_voices.proofs.Voices.{VoiceNumbers, voices-length, voices-counted, voices-back}
+use Rattle.record_voices.proofs.Voices.{voices-pass, voices-there}
+use Rattle.record_calls.specs.Records.{counted, recordOf, writeReply, countIn, voicesIn, wellFormed}
+use Rattle.record_calls.specs.Records.{formReply, readReply, sceneIn, sceneRead}
 use Rattle.record_calls.proofs.Reading.{Formed, formed, held-voices, read-tested, scene-done}
 use Rattle.record_calls.proofs.Writing as write
-use Rattle.record_law.specs.Law.{SameScene, F32Scene, ScenesComeBack, RecordsComeBack, OneRecordEach}
-use Rattle.record_law.proofs.Numbers.{settings-fit, voices-fit, settings-numbers, voice-numbers}
+use Rattle.record_law.specs.Law.{SameScene, F32Scene, ScenesComeBack, RecordsComeBack}
+use Rattle.record_law.specs.Law.{OneRecordEach}
+use Rattle.record_law.proofs.Numbers.{settings-fit, voices-fit, settings-numbers}
+use Rattle.record_law.proofs.Numbers.{voice-numbers}
 
 -- ---- the scene of a written record
 module _ (scene : Scene) (f32 : F32Scene scene) (n : ℕ) (accepted : writeReply n scene ≡ done [])
@@ -115,7 +121,8 @@ module _ (scene : Scene) (f32 : F32Scene scene) (n : ℕ) (accepted : writeReply
         voicesReply (counted scene) (scene .count) true
         ≡ voicesReply (scene .voices) (scene .count) true
     unfolding voicesReply
-    voices-tested = rw (take-take (scene .count) (scene .count) (scene .voices) (le-refl (scene .count)))
+    voices-tested =
+        rw (take-take (scene .count) (scene .count) (scene .voices) (le-refl (scene .count)))
 
     write-tested :
         writeReply n scene

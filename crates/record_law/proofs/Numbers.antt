@@ -1,5 +1,5 @@
--- The floats of a record: those of a scene's parameters are f32s, and those of accepted settings and
--- voices are no NaN. Assumes nothing.
+-- The floats of a record: those of a scene's parameters are f32s, and those of accepted settings
+-- and voices are no NaN. Assumes nothing.
 use mathlib.Core.Path.{_≡_, refl, sym, subst}
 use mathlib.Core.Bool.{Bool, _&&_}
 use mathlib.Core.List.{List, [], _∷_}

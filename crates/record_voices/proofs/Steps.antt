@@ -22,9 +22,12 @@ use Rattle.scene.specs.Gathered.{gatheredTo}
 use Rattle.scene.proofs.Gathered.{gathered-more}
 use Rattle.record_words.specs.Floats.{floatsBytes, floatAt, floatsOf}
 use Rattle.record_words.proofs.FloatLists.{float-at-place}
-use Rattle.record_voices.specs.Voices.{pitchByte, NoteFits, voiceFloats, voiceBytes, voicesBytes}
-use Rattle.record_voices.specs.Voices.{pitchIn, voiceWith, voiceOf, voicesOf, pitchAllowed, pitchesAllowed}
-use Rattle.record_voices.proofs.Voices.{voices-length, voices-append, voices-one, voices-counted, voice-at-place}
+use Rattle.record_voices.specs.Voices.{pitchByte, NoteFits, voiceFloats, voiceBytes}
+use Rattle.record_voices.specs.Voices.{voicesBytes}
+use Rattle.record_voices.specs.Voices.{pitchIn, voiceWith, voiceOf, voicesOf, pitchAllowed}
+use Rattle.record_voices.specs.Voices.{pitchesAllowed}
+use Rattle.record_voices.proofs.Voices.{voices-length, voices-append, voices-one}
+use Rattle.record_voices.proofs.Voices.{voices-counted, voice-at-place}
 
 -- ---- writing
 -- a voice's byte, and its floats behind it
@@ -68,7 +71,9 @@ note-fits voices n i h l a =
 -- ---- reading
 -- a voice by its floats, each at its place
 module _ (bs : List ℕ) (at : ℕ) where
-  float-there : (k place : ℕ) → k < 7 → at + 1 + 4 * k ≡ place → getD (floatsOf (drop 1 (drop at bs)) 7) k nan ≡ floatAt bs place
+  float-there :
+      (k place : ℕ) → k < 7 → at + 1 + 4 * k ≡ place
+      → getD (floatsOf (drop 1 (drop at bs)) 7) k nan ≡ floatAt bs place
   float-there k place h e =
       ap (λ (l : List ℕ). getD (floatsOf l 7) k nan) (drop-drop 1 at bs)
       ∙ float-at-place bs (at + 1) k 7 h ∙ ap (floatAt bs) e

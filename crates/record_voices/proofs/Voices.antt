@@ -25,9 +25,12 @@ use Rattle.scene.specs.Accepted.{noVoice}
 use Rattle.scene.specs.PitchNumbers.{NOTE-FORM, HERTZ-FORM, formOf, noteOf, numberOf, pitchOf}
 use Rattle.scene.proofs.PitchNumbers.{Numbers, pitch-back, note-numbers, hertz-numbers}
 use Rattle.record_words.specs.Floats.{floatsBytes, floatsOf}
-use Rattle.record_words.proofs.FloatLists.{Fits, Number, floats-length, floats-back, bytes-of-floats}
-use Rattle.record_voices.specs.Voices.{pitchByte, NoteFits, voiceFloats, voiceBytes, voicesBytes}
-use Rattle.record_voices.specs.Voices.{pitchIn, voiceWith, voiceOf, voicesOf, pitchAllowed, pitchesAllowed}
+use Rattle.record_words.proofs.FloatLists.{Fits, Number, floats-length, floats-back}
+use Rattle.record_words.proofs.FloatLists.{bytes-of-floats}
+use Rattle.record_voices.specs.Voices.{pitchByte, NoteFits, voiceFloats, voiceBytes}
+use Rattle.record_voices.specs.Voices.{voicesBytes}
+use Rattle.record_voices.specs.Voices.{pitchIn, voiceWith, voiceOf, voicesOf, pitchAllowed}
+use Rattle.record_voices.specs.Voices.{pitchesAllowed}
 
 -- ---- lengths and steps
 pub voice-length : (voice : MaskVoice) → length (voiceBytes voice) ≡ 29

@@ -1,5 +1,5 @@
--- Floats that follow one another in bytes: they are read back to the bit, and bytes whose floats are
--- no NaN are written as they were read. Assumes nothing.
+-- Floats that follow one another in bytes: they are read back to the bit, and bytes whose floats
+-- are no NaN are written as they were read. Assumes nothing.
 use mathlib.Core.Path.{_≡_, refl, sym, ap, _∙_}
 use mathlib.Core.Bool.{not}
 use mathlib.Core.List.{List, [], _∷_, _++_, append-assoc, append-nil}
@@ -13,7 +13,8 @@ use lib.ListN.{length, getD, take, drop, length-append, length-drop}
 use lib.Seq.{take-add, drop-drop, drop-at}
 use Rattle.lists.specs.Totals.{All, all-drop}
 use Rattle.lists.specs.Maps.{tabFrom, getD-tabulate}
-use Rattle.lists.specs.Bytes.{Byte, numberAt, bytesOf, length-bytes, number-drop, number-back, number-below, bytes-back}
+use Rattle.lists.specs.Bytes.{Byte, numberAt, bytesOf, length-bytes, number-drop, number-back}
+use Rattle.lists.specs.Bytes.{number-below, bytes-back}
 use Rattle.record_words.specs.Floats.{floatBytes, floatAt, floatsBytes, floatsOf}
 
 -- ---- lengths and steps

@@ -1,5 +1,5 @@
--- Floats in a scene record: each is the four bytes of its bit pattern, "most significant first", and
--- one follows the other. Assumes nothing.
+-- Floats in a scene record: each is the four bytes of its bit pattern, "most significant first",
+-- and one follows the other. Assumes nothing.
 use mathlib.Core.List.{List, [], _∷_, _++_}
 use Prim.Native.Nat.{ℕ, zero, suc}
 use lib.Ieee.{Float, ofBits, toBits, binary32}

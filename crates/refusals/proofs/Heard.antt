@@ -1,6 +1,6 @@
--- For the array that a list of voices fills, and a count that is the list's length, the tests of the
--- voices answer what they do for the list itself: more than 128 voices are refused, and of at most
--- 128 the array begins with the list. Assumes nothing.
+-- For the array that a list of voices fills, and a count that is the list's length, the tests of
+-- the voices answer what they do for the list itself: more than 128 voices are refused, and of at
+-- most 128 the array begins with the list. Assumes nothing.
 use mathlib.Core.Path.{_≡_, refl, sym, ap, _∙_, subst}
 use mathlib.Core.Bool.{Bool, true, false, cond, not}
 use mathlib.Core.List.{List, []}

@@ -1,6 +1,6 @@
 -- What a function is told of its parameters on entry (`c .good`): the floats of the settings are
--- f32s, and those of each voice of an array and of a scene. Of a lent slice of f32 it is told by the slice itself.
--- Assumes nothing.
+-- f32s, and those of each voice of an array and of a scene. Of a lent slice of f32 it is told by
+-- the slice itself. Assumes nothing.
 use mathlib.Core.Path.{_≡_, sym, subst}
 use mathlib.Core.Bool.{Bool, true}
 use mathlib.Core.List.{List, [], _∷_, map}
@@ -61,7 +61,8 @@ voices-f32 n voices vs told i h =
     let e = each-at MaskVoice (row voice-type.the-type .own) voices (told .0) (told .1 .1) i noVoice h in
     voice-f32 (getD voices i noVoice) (e .0 ∷ []) (e .1)
 
--- the same of an array that is a field of a struct, where each voice stands as the tuple of its fields
+-- the same of an array that is a field of a struct, where each voice stands as the tuple of its
+-- fields
 each-into : (d e : Type 0) (g : d → e) (f : e → List Val → Fml) (xs : List d) (us : List Val) → shadow (each e f (map g xs) us) → (i : ℕ) (x : d) → i < length xs → (u : Val) × shadow (f (g (getD xs i x)) (u ∷ []))
 each-into d e g f [] us s i z h = absurd (not-suc-le-zero h)
 each-into d e g f (x ∷ xs) [] s i z h = absurd s

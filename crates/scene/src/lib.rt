@@ -129,7 +129,8 @@ pub fn silent_voices() -> [MaskVoice; MOST_VOICES]
     [voice; MOST_VOICES]
 }
 
-// What stands in a scene's place where there is none. Every setting is 0, so that no call accepts it.
+// What stands in a scene's place where there is none. Every setting is 0, so that no call accepts
+// it.
 pub fn blank_scene() -> Scene
     ensures { λ r. ⌜ r ≡ blankScene ⌝ }
 {

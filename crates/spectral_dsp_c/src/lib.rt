@@ -1,8 +1,7 @@
 // The static library: C names, plain numbers and slices. A slice is passed as a pointer and a
-// length, a record as a C struct.
-// An open call returns the number of its answer, 0 when it is done. When done it writes its results
-// through the parameters lent for them; when refused it writes the place and nothing else. Reading a
-// scene record returns number, place and scene in one record.
+// length, a record as a C struct. An open call returns the number of its answer, 0 when it is done.
+// When done it writes its results through the parameters lent for them; when refused it writes the
+// place and nothing else. Reading a scene record returns number, place and scene in one record.
 mod builders;
 mod numbers;
 mod oiko;

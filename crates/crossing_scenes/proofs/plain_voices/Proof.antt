@@ -66,7 +66,8 @@ returns c =
     let a = b .before .before .before .args in
     let l : length (a .t1) ≡ 128 = search needs in
     turned-fill (b .loop .inv .2) (omega arith)
-    ∙ ap (λ (n : ℕ). tabulate n (λ k. plainVoice (getD (a .t1) k noVoice))) (b .loop .inv .1 ∙ sym l)
+    ∙ ap (λ (n : ℕ). tabulate n (λ k. plainVoice (getD (a .t1) k noVoice)))
+    (b .loop .inv .1 ∙ sym l)
     ∙ each-plain (a .t1)
 
 pub plain-voices-spec : {M : Type 1} → statement M

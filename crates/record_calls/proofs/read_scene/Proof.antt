@@ -106,7 +106,8 @@ returns-2 c =
     c .before .before .before .first .ensures
     ∙ ap (λ (r : Reply). first r (ofOutcome (c .before .before .before .before .of-voices .result)))
     (of-settings .of-settings .ensures)
-    ∙ ap (first (settingsReply (config .settings-at .result))) (c .before .before .before .before .of-voices .ensures)
+    ∙ ap (first (settingsReply (config .settings-at .result)))
+    (c .before .before .before .before .of-voices .ensures)
     ∙ sym (read-tested bs _ _ _ same count array form) in (
       e,
       c .blank-scene2 .ensures
@@ -133,7 +134,8 @@ returns-3 c =
     c .before .before .first .ensures
     ∙ ap (λ (r : Reply). first r (ofOutcome (c .before .before .before .of-voices .result)))
     (of-settings .of-settings .ensures)
-    ∙ ap (first (settingsReply (config .settings-at .result))) (c .before .before .before .of-voices .ensures)
+    ∙ ap (first (settingsReply (config .settings-at .result)))
+    (c .before .before .before .of-voices .ensures)
     ∙ sym (read-tested bs _ _ _ same count array form) in (
       e,
       scene-made bs _ _ _ same count array

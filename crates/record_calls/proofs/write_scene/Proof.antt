@@ -5,7 +5,8 @@ use lib.Dec.{eqb}
 use native.Mathlib.Omega.{arith}
 use mathlib.Core.Path.{_≡_, refl, sym, ap, _∙_}
 use borrow.Author.Needs.{needs}
-use Rattle.record_calls.proofs.Writing.{write-answer, few, whole, all-counted, fields-fit, notes-fit, record-stored}
+use Rattle.record_calls.proofs.Writing.{write-answer, few, whole, all-counted, fields-fit}
+use Rattle.record_calls.proofs.Writing.{notes-fit, record-stored}
 use Rattle.refusals.proofs.MaskAccepted.{is-done}
 use Rattle.scene.proofs.Gathered.{held-fits}
 use Rattle.limits.specs.Lengths.{recordLength}
@@ -18,7 +19,8 @@ held-requires : tie.Need-held-requires
 held-requires c κs = search needs
 
 record-length-requires : tie.Need-record-length-requires
-record-length-requires c κs = omega (arith, held-fits (c .before .before .args .scene .count) .1, c .held .ensures)
+record-length-requires c κs =
+    omega (arith, held-fits (c .before .before .args .scene .count) .1, c .held .ensures)
 
 of-scene-requires : tie.Need-of-scene-requires
 of-scene-requires c κs = search needs
@@ -36,7 +38,8 @@ put-head-requires c κs =
     let l = tested .before in
     let a = l .before .before .before .args in
     let n = length (a .«record» .now) in
-    let long = ap (eqb n) (l .record-length .ensures ∙ ap recordLength (l .before .held .ensures)) in
+    let long =
+    ap (eqb n) (l .record-length .ensures ∙ ap recordLength (l .before .held .ensures)) in
     let e = tested .of-scene .ensures ∙ write-answer (a .scene) n long in
     let d = is-done _ (sym e ∙ ap ofOutcome (told .enum-told .given .1)) in
     (omega (arith, whole (a .scene) n d), fields-fit (a .scene) n d)
@@ -49,7 +52,8 @@ put-voices-requires c κs =
     let l = tested .before in
     let a = l .before .before .before .args in
     let n = length (a .«record» .now) in
-    let long = ap (eqb n) (l .record-length .ensures ∙ ap recordLength (l .before .held .ensures)) in
+    let long =
+    ap (eqb n) (l .record-length .ensures ∙ ap recordLength (l .before .held .ensures)) in
     let e = tested .of-scene .ensures ∙ write-answer (a .scene) n long in
     let d = is-done _ (sym e ∙ ap ofOutcome (told .enum-told .given .1)) in
     let same = ap length (head .put-head .ensures) ∙ stored-length (a .«record» .now) 0 _ in (
@@ -63,7 +67,8 @@ returns c =
     let l = tested .before in
     let a = l .before .before .before .args in
     let n = length (a .«record» .now) in
-    let long = ap (eqb n) (l .record-length .ensures ∙ ap recordLength (l .before .held .ensures)) in
+    let long =
+    ap (eqb n) (l .record-length .ensures ∙ ap recordLength (l .before .held .ensures)) in
     let e = tested .of-scene .ensures ∙ write-answer (a .scene) n long in
     (ap ofOutcome (sym (c .before .outcome .given .1)) ∙ e, refl)
 
@@ -79,7 +84,8 @@ returns-2 c =
     let l = tested .before in
     let a = l .before .before .before .args in
     let n = length (a .«record» .now) in
-    let long = ap (eqb n) (l .record-length .ensures ∙ ap recordLength (l .before .held .ensures)) in
+    let long =
+    ap (eqb n) (l .record-length .ensures ∙ ap recordLength (l .before .held .ensures)) in
     let e = tested .of-scene .ensures ∙ write-answer (a .scene) n long in
     let d = is-done _ (sym e ∙ ap ofOutcome (told .enum-told .given .1)) in (
       ap ofOutcome (sym (told .enum-told .given .1)) ∙ e,

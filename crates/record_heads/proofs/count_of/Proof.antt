@@ -13,7 +13,8 @@ cast-result : tie.Need-cast-result
 cast-result c = search needs
 
 returns : tie.Need-returns
-returns c = let e = c .field-at .ensures ∙ masked (c .before .args .number) 3 8 in (e, omega (arith, e))
+returns c =
+    let e = c .field-at .ensures ∙ masked (c .before .args .number) 3 8 in (e, omega (arith, e))
 
 pub count-of-spec : {M : Type 1} → statement M
 count-of-spec = tie.close (tie.spec field-at-requires cast-result returns)

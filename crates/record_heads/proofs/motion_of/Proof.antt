@@ -22,7 +22,12 @@ array-read-t14 c = search needs
 
 returns : tie.Need-returns
 unfolding settingsOf
-returns c = simp (c .shape-of .ensures, c .before .field-at .ensures, masked (c .before .before .args .number) 16 3)
+returns c =
+    simp (
+      c .shape-of .ensures,
+      c .before .field-at .ensures,
+      masked (c .before .before .args .number) 16 3,
+    )
 
 pub motion-of-spec : {M : Type 1} → statement M
 motion-of-spec =

@@ -25,7 +25,8 @@ returns c =
     let bytes = a .«record» .now in
     let x = r .read-scene .ensures in
     let y = w .write-scene .ensures in
-    let small = all-places Byte 0 bytes (λ i l. omega (arith, known .shared-slice-known .given i)) in (
+    let small =
+    all-places Byte 0 bytes (λ i l. omega (arith, known .shared-slice-known .given i)) in (
       x .0,
       λ l. written-as-read bytes (a .copy .now) _ _ small (x .0) (x .1) (y .0) (y .1) l,
     )

@@ -24,7 +24,8 @@ put-floats-requires : tie.Need-put-floats-requires
 put-floats-requires c κs = simp length-set (omega arith)
 
 same-length : tie.Need-same-length
-same-length c = ap length (c .before .before .put-floats .ensures) ∙ stored-length _ _ _ ∙ simp length-set
+same-length c =
+    ap length (c .before .before .put-floats .ensures) ∙ stored-length _ _ _ ∙ simp length-set
 
 returns : tie.Need-returns
 returns c =

@@ -14,7 +14,8 @@ use Rattle.record_words.proofs.floats_at.Statement.{statement}
 use Rattle.record_words.proofs.floats_at.Tie as tie
 
 abbrev Inv-loop : tie.InvT-loop
-Inv-loop bytes at floats₀ i₀ floats i = (i ≤ 7) × (length floats₀ ≡ 7) × Turned (λ k x. floatAt bytes (at + 4 * k)) 0 floats₀ floats i
+Inv-loop bytes at floats₀ i₀ floats i =
+    (i ≤ 7) × (length floats₀ ≡ 7) × Turned (λ k x. floatAt bytes (at + 4 * k)) 0 floats₀ floats i
 
 abbrev μ-loop : tie.MeasureT-loop
 μ-loop bytes at floats₀ i₀ floats i = 7 - i
@@ -44,8 +45,11 @@ loop-less : tie.Need-loop-less Inv-loop μ-loop
 loop-less c = omega arith
 
 loop-again : tie.Need-loop-again Inv-loop μ-loop
-loop-again c = let b = c .before .before in
-    (omega arith, b .loop .inv .1, turned-more nan (b .loop .inv .2) (omega arith) (c .float-at .ensures))
+loop-again c = let b = c .before .before in (
+  omega arith,
+  b .loop .inv .1,
+  turned-more nan (b .loop .inv .2) (omega arith) (c .float-at .ensures),
+)
 
 returns : tie.Need-returns Inv-loop μ-loop
 returns c = let b = c .before in

@@ -14,7 +14,8 @@ same-length : tie.Need-same-length
 same-length c = search needs
 
 returns : tie.Need-returns
-returns c = c .before .before .put-four .ensures ∙ simp (c .before .before .before .bits-of .ensures)
+returns c =
+    c .before .before .put-four .ensures ∙ simp (c .before .before .before .bits-of .ensures)
 
 pub put-float-spec : {M : Type 1} → statement M
 put-float-spec = tie.close (tie.spec bits-of-requires put-four-requires same-length returns)

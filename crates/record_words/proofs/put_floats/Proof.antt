@@ -15,18 +15,24 @@ use Rattle.record_words.proofs.put_floats.Statement.{statement}
 use Rattle.record_words.proofs.put_floats.Tie as tie
 
 abbrev Inv-loop : tie.InvT-loop
-Inv-loop bytes₀ at floats i₀ bytes i = (i ≤ 7) × (length bytes ≡ length bytes₀) × (bytes ≡ stored bytes₀ at (floatsBytes (take i floats)))
+Inv-loop bytes₀ at floats i₀ bytes i =
+    (i ≤ 7) × (length bytes ≡ length bytes₀) ×
+    (bytes ≡ stored bytes₀ at (floatsBytes (take i floats)))
 
 abbrev μ-loop : tie.MeasureT-loop
 μ-loop bytes₀ at floats i₀ bytes i = 7 - i
 
 -- one float more
-more : (old now : List ℕ) (at i : ℕ) (xs : List Float) → length xs ≡ 7 → i < 7 → now ≡ stored old at (floatsBytes (take i xs))
-    → stored now (at + 4 * i) (floatBytes (getD xs i nan)) ≡ stored old at (floatsBytes (take (i + 1) xs))
+more :
+    (old now : List ℕ) (at i : ℕ) (xs : List Float) → length xs ≡ 7 → i < 7
+    → now ≡ stored old at (floatsBytes (take i xs))
+    → stored now (at + 4 * i) (floatBytes (getD xs i nan))
+    ≡ stored old at (floatsBytes (take (i + 1) xs))
 more old now at i xs l h e =
     let t : length (take i xs) ≡ i = length-take-le i xs (omega arith) in
     ap (λ b. stored b (at + 4 * i) (floatBytes (getD xs i nan))) e
-    ∙ stored-append old at (at + 4 * i) (floatsBytes (take i xs)) (floatBytes (getD xs i nan)) (omega (arith, floats-length (take i xs)))
+    ∙ stored-append old at (at + 4 * i) (floatsBytes (take i xs)) (floatBytes (getD xs i nan))
+    (omega (arith, floats-length (take i xs)))
     ∙ ap (stored old at)
     (ap (λ b. floatsBytes (take i xs) ++ b) (sym (floats-one (getD xs i nan)))
     ∙ sym (floats-append (take i xs) (getD xs i nan ∷ []))
@@ -61,8 +67,13 @@ loop-again : tie.Need-loop-again Inv-loop μ-loop
 loop-again c = let b = c .before .before .before .before .before in
     let a = b .before .before .args in
     let l : length (a .t3) ≡ 7 = search needs in
-    let e = c .before .before .put-float .ensures in
-    (omega arith, ap length e ∙ stored-length _ _ _ ∙ b .loop .inv .1, e ∙ more (a .bytes .now) (b .loop .bytes) (a .at) (b .loop .i) (a .t3) l (omega arith) (b .loop .inv .2))
+    let e = c .before .before .put-float .ensures in (
+      omega arith,
+      ap length e ∙ stored-length _ _ _ ∙ b .loop .inv .1,
+      e
+          ∙ more (a .bytes .now) (b .loop .bytes) (a .at) (b .loop .i) (a .t3) l (omega arith)
+          (b .loop .inv .2),
+    )
 
 same-length : tie.Need-same-length Inv-loop μ-loop
 same-length c = c .before .loop .inv .1
@@ -71,7 +82,9 @@ returns : tie.Need-returns Inv-loop μ-loop
 returns c = let b = c .before in
     let a = b .before .before .args in
     let l : length (a .t3) ≡ 7 = search needs in
-    b .loop .inv .2 ∙ ap (λ xs. stored (a .bytes .now) (a .at) (floatsBytes xs)) (take-all (b .loop .i) (a .t3) (omega arith))
+    b .loop .inv .2
+    ∙ ap (λ xs. stored (a .bytes .now) (a .at) (floatsBytes xs))
+    (take-all (b .loop .i) (a .t3) (omega arith))
 
 pub put-floats-spec : {M : Type 1} → statement M
 put-floats-spec =

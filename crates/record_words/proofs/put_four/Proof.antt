@@ -43,7 +43,9 @@ same-length : tie.Need-same-length
 same-length c = search needs
 
 returns : tie.Need-returns
-returns c = stored-four _ _ _ _ _ _ _ (c .before .before .before .byte-of .ensures) (c .before .before .byte-of2 .ensures) (c .before .byte-of3 .ensures) (c .byte-of4 .ensures)
+returns c =
+    stored-four _ _ _ _ _ _ _ (c .before .before .before .byte-of .ensures)
+    (c .before .before .byte-of2 .ensures) (c .before .byte-of3 .ensures) (c .byte-of4 .ensures)
 
 pub put-four-spec : {M : Type 1} → statement M
 put-four-spec =

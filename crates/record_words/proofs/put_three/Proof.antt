@@ -34,7 +34,9 @@ same-length : tie.Need-same-length
 same-length c = search needs
 
 returns : tie.Need-returns
-returns c = stored-three _ _ _ _ _ _ (c .before .before .byte-of .ensures) (c .before .byte-of2 .ensures) (c .byte-of3 .ensures)
+returns c =
+    stored-three _ _ _ _ _ _ (c .before .before .byte-of .ensures) (c .before .byte-of2 .ensures)
+    (c .byte-of3 .ensures)
 
 pub put-three-spec : {M : Type 1} → statement M
 put-three-spec =
