@@ -9,11 +9,10 @@ use lib.Seq.{take-length}
 use Rattle.lists.specs.Maps.{tabFrom, tabulate, tabulate-self}
 use Rattle.scene.specs.declared.MaskVoice.{MaskVoice}
 use Rattle.scene.specs.declared.MaskConfig.{MaskConfig}
-use Rattle.scene.specs.declared.MotionShape.{MotionShape}
-use Rattle.scene.specs.declared.Pitch.{Pitch}
 use Rattle.scene.specs.declared.Scene.{Scene}
 use Rattle.scene.specs.Accepted.{noVoice}
 use Rattle.scene.specs.Gathered.{gatheredTo}
+use Rattle.scene.proofs.Parts.{withPitch, fields-same}
 use Rattle.scene.proofs.PitchNumbers.{pitch-back}
 use Rattle.scene.proofs.Shapes.{shape-of-number}
 use Rattle.crossing.specs.MaskSettings.{configOf}
@@ -22,43 +21,13 @@ use Rattle.crossing_voices.specs.VoiceRecords.{voiceOf, recordVoices}
 use Rattle.crossing_scenes.specs.Scenes.{sceneOf, plainSettings, plainVoice, plainScene}
 
 -- ---- what goes to C and comes back
-abbrev shaped : MaskConfig → MotionShape → MaskConfig
-shaped c shape =
-    record {
-      «sample_rate» = c .«sample_rate»;
-      «fft_size» = c .«fft_size»;
-      «note_depth_db» = c .«note_depth_db»;
-      «note_layer_enabled» = c .«note_layer_enabled»;
-      «width_cents» = c .«width_cents»;
-      partials = c .partials;
-      «harmonic_rolloff_db_per_octave» = c .«harmonic_rolloff_db_per_octave»;
-      motion =
-          record {
-            shape = shape;
-            «depth_db» = c .motion .«depth_db»;
-            phase = c .motion .phase;
-            «size_octaves» = c .motion .«size_octaves»;
-          };
-    }
-
 settings-back : (config : MaskConfig) → configOf (plainSettings config) ≡ config
-settings-back config = ap (shaped config) (shape-of-number (config .motion .shape))
-
-abbrev pitched : MaskVoice → Pitch → MaskVoice
-pitched v pitch =
-    record {
-      pitch = pitch;
-      level = v .level;
-      pressure = v .pressure;
-      timbre = v .timbre;
-      «volume_gain» = v .«volume_gain»;
-      «expression_gain» = v .«expression_gain»;
-      pan = v .pan;
-    }
+settings-back config =
+    fields-same config refl refl refl (shape-of-number (config .motion .shape))
 
 voice-back : (voice : MaskVoice) → voiceOf (plainVoice voice) ≡ voice
 unfolding voiceOf plainVoice
-voice-back voice = ap (pitched voice) (pitch-back (voice .pitch))
+voice-back voice = ap (withPitch voice) (pitch-back (voice .pitch))
 
 voices-back : (voices : List MaskVoice) → recordVoices (map plainVoice voices) ≡ voices
 voices-back [] = refl

@@ -11,3 +11,4 @@ pub mod Interpolation
 pub mod Stages
 pub mod Bytes
 pub mod Stores
+pub mod Pieces

@@ -11,9 +11,10 @@ use lib.Ieee.{Float}
 use lib.Ieee.Fits.{and-l, and-r}
 use lib.ListN.{length, take, drop, replicate}
 use borrow.Author.Tests.{eq-eqb, ne-eqb}
+use Rattle.lists.specs.Pieces.{pieces-first}
 use Rattle.answer.specs.Refusal.{RECORD}
 use Rattle.answer.specs.Reply.{Reply, done, refused}
-use Rattle.limits.specs.Lengths.{RECORD-HEAD, recordLength}
+use Rattle.limits.specs.Lengths.{RECORD-HEAD, RECORD-VOICE, recordLength}
 use Rattle.scene.specs.declared.MaskVoice.{MaskVoice}
 use Rattle.scene.specs.declared.MaskConfig.{MaskConfig}
 use Rattle.scene.specs.Gathered.{held, gatheredTo, gathered}
@@ -22,8 +23,8 @@ use Rattle.scene.proofs.Gathered.{held-fits}
 use Rattle.refusals.specs.Masks.{first, settingsReply, voicesReply}
 use Rattle.refusals.proofs.Heard.{voices-same}
 use Rattle.record_heads.specs.Heads.{headIn, zeroBits, settingsIn}
-use Rattle.record_voices.specs.Voices.{voicesOf, pitchesAllowed}
-use Rattle.record_voices.proofs.Voices.{voices-counted, voices-first}
+use Rattle.record_voices.specs.Voices.{voiceOf, voicesOf, pitchesAllowed}
+use Rattle.record_voices.proofs.Voices.{voices-counted}
 use Rattle.record_calls.specs.Records.{countIn, voicesIn, wellFormed, readReply, sceneIn}
 use Rattle.record_calls.specs.Records.{sceneRead}
 
@@ -76,7 +77,8 @@ held-voices bs n =
     let few = held-fits n .0 in
     rw (voices-counted bs n)
     (ap (λ (l : List MaskVoice). l ++ replicate (128 - held n) silentVoice)
-    (voices-first bs (held n) (held n) (le-refl (held n)) ∙ sym (voices-first bs (held n) n few)))
+    (pieces-first voiceOf RECORD-VOICE bs (held n) (held n) (le-refl (held n))
+    ∙ sym (pieces-first voiceOf RECORD-VOICE bs (held n) n few)))
 
 -- ---- the answer
 pub read-refused : (bs : List ℕ) → wellFormed bs ≡ false → readReply bs ≡ refused RECORD 0

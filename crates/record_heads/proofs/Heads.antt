@@ -15,11 +15,13 @@ use borrow.Author.Tests.{eq-eqb}
 use Rattle.lists.specs.Totals.{All, all-drop}
 use Rattle.lists.specs.Bytes.{Byte, numberAt, bytesOf, length-bytes, number-back, number-below}
 use Rattle.lists.specs.Bytes.{bytes-back}
+use Rattle.lists.specs.Pieces.{piecesOf}
 use Rattle.lists.specs.Stores.{stored, stored-append}
 use Rattle.limits.specs.Limits as limits
 use Rattle.scene.specs.declared.MaskConfig.{MaskConfig}
 use Rattle.scene.specs.declared.MotionShape.{MotionShape}
 use Rattle.scene.specs.Made.{shapeOf, shapeNumber}
+use Rattle.scene.proofs.Parts.{fields-same}
 use Rattle.scene.proofs.Shapes.{shape-below, shape-of-number, number-of-shape}
 use Rattle.record_words.specs.Floats.{floatsBytes, floatsOf}
 use Rattle.record_words.proofs.FloatLists.{Fits, Number, floats-length, floats-back}
@@ -41,31 +43,6 @@ head-length config count =
     )
 
 -- ---- there and back
--- settings with another size, layer and shape
-abbrev with : MaskConfig → ℕ → Bool → ℕ → MotionShape → MaskConfig
-with c size layer partials shape =
-    record {
-      «sample_rate» = c .«sample_rate»;
-      «fft_size» = size;
-      «note_depth_db» = c .«note_depth_db»;
-      «note_layer_enabled» = layer;
-      «width_cents» = c .«width_cents»;
-      partials = partials;
-      «harmonic_rolloff_db_per_octave» = c .«harmonic_rolloff_db_per_octave»;
-      motion =
-          record {
-            shape = shape;
-            «depth_db» = c .motion .«depth_db»;
-            phase = c .motion .phase;
-            «size_octaves» = c .motion .«size_octaves»;
-          };
-    }
-
-with-same :
-    (c : MaskConfig) {m n : ℕ} {a b : Bool} {p q : ℕ} {s t : MotionShape}
-    → m ≡ n → a ≡ b → p ≡ q → s ≡ t → with c m a p s ≡ with c n b q t
-with-same c e f g h = rw (e, f, g, h)
-
 module _ (config : MaskConfig) (count : ℕ) (fit : FieldsFit config count) (rest : List ℕ) where
   abbrev layer-fits : layerNumber (config .«note_layer_enabled») < 2
   layer-fits = fields.layer-below (config .«note_layer_enabled»)
@@ -128,7 +105,7 @@ module _ (config : MaskConfig) (count : ℕ) (fit : FieldsFit config count) (res
       let a = fit .log in
       let d = fit .partials in
       let e = fit .count-fits in
-      with-same config
+      fields-same config
       (ap (λ (k : ℕ). 2 ^ k) (fields.log-back log layer shape p count a layer-fits shape-fits d e)
       ∙ fields.size-of-log (config .«fft_size») accepted)
       (ap (λ (k : ℕ). eqb k 1)
@@ -148,7 +125,7 @@ module _ (config : MaskConfig) (count : ℕ) (fit : FieldsFit config count) (res
 -- ---- back and there
 -- the settings of a number and seven floats have these floats, and are packed into this number
 pub seven : (n : ℕ) (bs : List ℕ) → settingsFloats (settingsOf n (floatsOf bs 7)) ≡ floatsOf bs 7
-unfolding settingsOf floatsOf
+unfolding settingsOf piecesOf
 seven n bs = refl
 
 number-there :

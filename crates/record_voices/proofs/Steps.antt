@@ -15,6 +15,7 @@ use lib.Seq.{take-suc, drop-drop, getD-drop, getD-take, length-take-le}
 use borrow.Author.Tests.{eq-eqb, ne-eqb}
 use Rattle.lists.specs.Totals.{All, all-at}
 use Rattle.lists.specs.Stores.{stored, stored-append, stored-one}
+use Rattle.lists.specs.Pieces.{piece-at-place}
 use Rattle.scene.specs.declared.MaskVoice.{MaskVoice}
 use Rattle.scene.specs.declared.Pitch.{Pitch}
 use Rattle.scene.specs.Accepted.{noVoice}
@@ -26,8 +27,7 @@ use Rattle.record_voices.specs.Voices.{pitchByte, NoteFits, voiceFloats,
 use Rattle.record_voices.specs.Voices.{voicesBytes}
 use Rattle.record_voices.specs.Voices.{pitchIn, voiceWith, voiceOf, voicesOf, pitchAllowed}
 use Rattle.record_voices.specs.Voices.{pitchesAllowed}
-use Rattle.record_voices.proofs.Voices.{voices-length, voices-append, voices-one}
-use Rattle.record_voices.proofs.Voices.{voices-counted, voice-at-place}
+use Rattle.record_voices.proofs.Voices.{voices-counted}
 
 -- ---- writing
 -- a voice's byte, and its floats behind it
@@ -41,25 +41,6 @@ voice-stored old at byte voice floats e f =
     rw (e, f)
     (ap (λ (l : List ℕ). stored l (at + 1) (floatsBytes (voiceFloats voice))) (stored-one old at b)
     ∙ stored-append old at (at + 1) (b ∷ []) (floatsBytes (voiceFloats voice)) refl)
-
--- one voice more
-pub voices-more :
-    (old now : List ℕ) (at i : ℕ) (voices : List MaskVoice) → i < length voices
-    → now ≡ stored old at (voicesBytes (take i voices))
-    → stored now (at + 29 * i) (voiceBytes (getD voices i noVoice))
-    ≡ stored old at (voicesBytes (take (i + 1) voices))
-voices-more old now at i voices h e =
-    let before = take i voices in
-    let voice = getD voices i noVoice in
-    let t : length before ≡ i = length-take-le i voices (omega arith) in
-    ap (λ (l : List ℕ). stored l (at + 29 * i) (voiceBytes voice)) e
-    ∙ stored-append old at (at + 29 * i) (voicesBytes before) (voiceBytes voice)
-    (omega (arith, voices-length before))
-    ∙ ap (stored old at)
-    (ap (λ (l : List ℕ). voicesBytes before ++ l) (sym (voices-one voice))
-    ∙ sym (voices-append before (voice ∷ []))
-    ∙ ap voicesBytes
-    (sym (ap (λ (k : ℕ). take k voices) (add-one i) ∙ take-suc voices i noVoice h)))
 
 pub note-fits :
     (voices : List MaskVoice) (n i : ℕ) → i < n → n ≤ length voices → All NoteFits (take n voices)
@@ -114,7 +95,7 @@ gathered-voice bs at n i array voice h m e f =
     let voices = voicesOf (drop at bs) n in
     let there : i < length voices = rw (voices-counted (drop at bs) n) h in
     let same : voice ≡ getD voices i noVoice =
-    f ∙ ap voiceOf (sym (drop-drop (29 * i) at bs)) ∙ sym (voice-at-place (drop at bs) n i h) in
+    f ∙ ap voiceOf (sym (drop-drop (29 * i) at bs)) ∙ sym (piece-at-place voiceOf 29 noVoice (drop at bs) n i h) in
     rw (e, same) (gathered-more voices i there (omega arith))
 
 -- ---- the test of the forbidden bits

@@ -17,12 +17,13 @@ use lib.Seq.{take-add, take-suc, drop-drop, drop-at, getD-drop, length-take-le, 
 use borrow.Author.Tests.{eqb-true, eqb-false, eq-eqb, ne-eqb}
 use Rattle.lists.specs.Totals.{All, all-drop, all-at}
 use Rattle.lists.specs.Bytes.{Byte}
-use Rattle.lists.specs.Stores.{stored, stored-append, stored-one}
+use Rattle.lists.specs.Pieces.{pieces, piecesOf, pieces-length, pieces-counted, pieces-back}
 use Rattle.scene.specs.declared.MaskVoice.{MaskVoice}
 use Rattle.scene.specs.declared.Pitch.{Pitch}
 use Rattle.scene.specs.declared.Pitch.the-variants.{Note, Hertz}
 use Rattle.scene.specs.Accepted.{noVoice}
 use Rattle.scene.specs.PitchNumbers.{NOTE-FORM, HERTZ-FORM, formOf, noteOf, numberOf, pitchOf}
+use Rattle.scene.proofs.Parts.{withPitch}
 use Rattle.scene.proofs.PitchNumbers.{Numbers, pitch-back, note-numbers, hertz-numbers}
 use Rattle.record_words.specs.Floats.{floatsBytes, floatsOf}
 use Rattle.record_words.proofs.FloatLists.{Fits, Number, floats-length, floats-back}
@@ -38,52 +39,10 @@ unfolding voiceBytes
 voice-length voice = ap suc (floats-length (voiceFloats voice))
 
 pub voices-length : (voices : List MaskVoice) → length (voicesBytes voices) ≡ 29 * length voices
-unfolding voicesBytes
-voices-length [] = refl
-voices-length (v ∷ vs) =
-    omega (
-      arith,
-      length-append (voiceBytes v) (voicesBytes vs),
-      voice-length v,
-      voices-length vs,
-    )
-
-pub voices-append :
-    (xs ys : List MaskVoice) → voicesBytes (xs ++ ys) ≡ voicesBytes xs ++ voicesBytes ys
-unfolding voicesBytes
-voices-append [] ys = refl
-voices-append (x ∷ xs) ys =
-    ap (λ (l : List ℕ). voiceBytes x ++ l) (voices-append xs ys)
-    ∙ sym (append-assoc (voiceBytes x) (voicesBytes xs) (voicesBytes ys))
-
-pub voices-one : (v : MaskVoice) → voicesBytes (v ∷ []) ≡ voiceBytes v
-unfolding voicesBytes
-voices-one v = append-nil (voiceBytes v)
+voices-length = pieces-length voiceBytes 29 voice-length
 
 pub voices-counted : (bs : List ℕ) (n : ℕ) → length (voicesOf bs n) ≡ n
-unfolding voicesOf
-voices-counted bs zero = refl
-voices-counted bs (suc n) = ap suc (voices-counted (drop 29 bs) n)
-
--- the voice at each place
-pub voice-at-place :
-    (bs : List ℕ) (n i : ℕ) → i < n → getD (voicesOf bs n) i noVoice ≡ voiceOf (drop (29 * i) bs)
-unfolding voicesOf
-voice-at-place bs zero i h = absurd (omega arith)
-voice-at-place bs (suc n) zero h = refl
-voice-at-place bs (suc n) (suc i) h =
-    let e : 29 + 29 * i ≡ 29 * suc i = omega arith in
-    voice-at-place (drop 29 bs) n i (omega arith)
-    ∙ ap voiceOf (drop-drop (29 * i) 29 bs ∙ ap (λ (k : ℕ). drop k bs) e)
-
--- the first of more voices
-pub voices-first :
-    (bs : List ℕ) (m n : ℕ) → m ≤ n → take m (voicesOf bs n) ≡ voicesOf bs m
-unfolding voicesOf
-voices-first bs zero n h = refl
-voices-first bs (suc m) zero h = absurd (omega arith)
-voices-first bs (suc m) (suc n) h =
-    ap (λ (l : List MaskVoice). voiceOf bs ∷ l) (voices-first (drop 29 bs) m n (omega arith))
+voices-counted = pieces-counted voiceOf 29
 
 -- ---- a pitch by its byte
 module _ (note form : ℕ) (h : form < 2) where
@@ -131,37 +90,17 @@ module _ (byte : ℕ) (number : Float) (allowed : T (pitchAllowed byte)) where
   number-back = numbers-in .number-back
 
 -- ---- there and back
-abbrev pitched : MaskVoice → Pitch → MaskVoice
-pitched v p =
-    record {
-      pitch = p;
-      level = v .level;
-      pressure = v .pressure;
-      timbre = v .timbre;
-      «volume_gain» = v .«volume_gain»;
-      «expression_gain» = v .«expression_gain»;
-      pan = v .pan;
-    }
-
 voice-back :
     (v : MaskVoice) (rest : List ℕ) → All Fits (voiceFloats v) → voiceOf (voiceBytes v ++ rest) ≡ v
 unfolding voiceBytes voiceOf
 voice-back v rest h =
-    rw (floats-back (voiceFloats v) rest h) (ap (pitched v) (pitch-read (v .pitch)))
+    rw (floats-back (voiceFloats v) rest h) (ap (withPitch v) (pitch-read (v .pitch)))
 
 pub voices-back :
     (vs : List MaskVoice) (rest : List ℕ) → All (λ v. All Fits (voiceFloats v)) vs
     → voicesOf (voicesBytes vs ++ rest) (length vs) ≡ vs
-unfolding voicesBytes voicesOf
-voices-back [] rest h = refl
-voices-back (v ∷ vs) rest h =
-    let more = voicesBytes vs ++ rest in
-    rw (
-      append-assoc (voiceBytes v) (voicesBytes vs) rest,
-      voice-back v more (h .0),
-      drop-at (voiceBytes v) more 29 (voice-length v),
-    )
-    (ap (λ (l : List MaskVoice). v ∷ l) (voices-back vs rest (h .1)))
+voices-back =
+    pieces-back voiceBytes 29 voice-length voiceOf (λ v. All Fits (voiceFloats v)) voice-back
 
 -- and no voice that is written has a forbidden bit
 first-byte : (v : MaskVoice) (l : List ℕ) → getD (voiceBytes v ++ l) 0 0 ≡ pitchByte (v .pitch)
@@ -171,7 +110,7 @@ first-byte v l = refl
 pub voices-pass :
     (vs : List MaskVoice) (rest : List ℕ)
     → T (pitchesAllowed (voicesBytes vs ++ rest) (length vs))
-unfolding pitchesAllowed voicesBytes
+unfolding pitchesAllowed pieces
 voices-pass [] rest = tt
 voices-pass (v ∷ vs) rest =
     let more = voicesBytes vs ++ rest in
@@ -188,7 +127,7 @@ voices-pass (v ∷ vs) rest =
 seven :
     (byte : ℕ) (bs : List ℕ) → T (pitchAllowed byte)
     → voiceFloats (voiceWith byte (floatsOf bs 7)) ≡ floatsOf bs 7
-unfolding floatsOf
+unfolding piecesOf
 seven byte bs allowed = rw (number-back byte (getD (floatsOf bs 7) 1 nan) allowed)
 
 voice-there :
@@ -215,7 +154,7 @@ numbers-in-bytes bs allowed numbers =
 pub voices-there :
     (n : ℕ) (bs : List ℕ) → 29 * n ≤ length bs → All Byte bs → T (pitchesAllowed bs n)
     → All VoiceNumbers (voicesOf bs n) → voicesBytes (voicesOf bs n) ≡ take (29 * n) bs
-unfolding voicesBytes voicesOf pitchesAllowed
+unfolding pieces piecesOf pitchesAllowed
 voices-there zero bs l h t numbers = refl
 voices-there (suc n) bs l h t numbers =
     go (pitchAllowed (getD bs 0 0)) refl t

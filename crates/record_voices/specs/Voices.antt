@@ -1,11 +1,12 @@
 -- The voices of a scene record, 29 bytes each, in the words of request 104. Assumes nothing.
 use mathlib.Core.Bool.{Bool, true, false, cond, not, _&&_}
-use mathlib.Core.List.{List, [], _∷_, _++_}
+use mathlib.Core.List.{List, [], _∷_}
 use Prim.Native.Nat.{ℕ, zero, suc, _/_, _%_, _≤_}
 use lib.Dec.{eqb}
 use lib.Ieee.{Float, nan}
 use lib.ListN.{getD, drop}
-use Rattle.limits.specs.Lengths.{MOST-NOTE}
+use Rattle.lists.specs.Pieces.{pieces, piecesOf}
+use Rattle.limits.specs.Lengths.{MOST-NOTE, RECORD-VOICE}
 use Rattle.scene.specs.declared.MaskVoice.{MaskVoice}
 use Rattle.scene.specs.declared.Pitch.{Pitch}
 use Rattle.scene.specs.PitchNumbers.{HERTZ-FORM, formOf, noteOf, numberOf, pitchOf}
@@ -38,9 +39,9 @@ voiceFloats voice =
 unfoldable pub voiceBytes : MaskVoice → List ℕ
 voiceBytes voice = pitchByte (voice .pitch) ∷ floatsBytes (voiceFloats voice)
 
-unfoldable pub voicesBytes : List MaskVoice → List ℕ
-voicesBytes [] = []
-voicesBytes (voice ∷ voices) = voiceBytes voice ++ voicesBytes voices
+-- the bytes of voices that follow one another
+abbrev pub voicesBytes : List MaskVoice → List ℕ
+voicesBytes voices = pieces voiceBytes voices
 
 -- ---- read
 
@@ -65,9 +66,8 @@ unfoldable pub voiceOf : List ℕ → MaskVoice
 voiceOf bytes = voiceWith (getD bytes 0 0) (floatsOf (drop 1 bytes) 7)
 
 -- the n voices that follow one another there
-unfoldable pub voicesOf : List ℕ → ℕ → List MaskVoice
-voicesOf bytes zero = []
-voicesOf bytes (suc n) = voiceOf bytes ∷ voicesOf (drop 29 bytes) n
+abbrev pub voicesOf : List ℕ → ℕ → List MaskVoice
+voicesOf bytes n = piecesOf voiceOf RECORD-VOICE bytes n
 
 -- a first byte without a forbidden bit: by hertz the bits of the note are zero
 abbrev pub pitchAllowed : ℕ → Bool
@@ -77,4 +77,4 @@ pitchAllowed byte = not (eqb (byte % 2) HERTZ-FORM && not (eqb (byte / 2) 0))
 unfoldable pub pitchesAllowed : List ℕ → ℕ → Bool
 pitchesAllowed bytes zero = true
 pitchesAllowed bytes (suc n) =
-    cond (pitchAllowed (getD bytes 0 0)) (pitchesAllowed (drop 29 bytes) n) false
+    cond (pitchAllowed (getD bytes 0 0)) (pitchesAllowed (drop RECORD-VOICE bytes) n) false

@@ -5,8 +5,11 @@ use native.Mathlib.Omega.{arith}
 use lib.ListN.{length, take}
 use borrow.Author.Needs.{needs}
 use Rattle.lists.specs.Stores.{stored, stored-length, stored-none}
-use Rattle.record_voices.specs.Voices.{voicesBytes}
-use Rattle.record_voices.proofs.Steps.{voices-more, note-fits}
+use Rattle.lists.specs.Pieces.{pieces, pieces-more}
+use Rattle.scene.specs.Accepted.{noVoice}
+use Rattle.record_voices.specs.Voices.{voiceBytes, voicesBytes}
+use Rattle.record_voices.proofs.Voices.{voice-length}
+use Rattle.record_voices.proofs.Steps.{note-fits}
 use Rattle.record_voices.proofs.put_voices.Statement.{statement}
 use Rattle.record_voices.proofs.put_voices.Tie as tie
 
@@ -20,7 +23,7 @@ abbrev μ-loop : tie.MeasureT-loop
 μ-loop record₀ at count voices i₀ «record» i = count - i
 
 loop-holds : tie.Need-loop-holds Inv-loop μ-loop
-unfolding voicesBytes
+unfolding pieces
 loop-holds c = (omega arith, refl, stored-none _ _)
 
 mul-put-voice : tie.Need-mul-put-voice Inv-loop μ-loop
@@ -60,8 +63,8 @@ loop-again c =
       omega arith,
       ap length e ∙ stored-length _ _ _ ∙ b .loop .inv .1,
       e
-          ∙ voices-more (a .«record» .now) (b .loop .«record») (a .at) (b .loop .i) (a .t3)
-          (omega arith) (b .loop .inv .2),
+          ∙ pieces-more voiceBytes 29 voice-length noVoice (a .«record» .now)
+          (b .loop .«record») (a .at) (b .loop .i) (a .t3) (omega arith) (b .loop .inv .2),
     )
 
 same-length : tie.Need-same-length Inv-loop μ-loop

@@ -1,14 +1,13 @@
 -- `floats_at` meets its contract: each entry passed is the float of its place. Assumes nothing.
-use mathlib.Core.Path.{_≡_, refl, sym, ap, _∙_}
-use Prim.Native.Nat.{ℕ, _+_, _*_, _≤_, _-_}
-use native.Mathlib.Nat.{add-zero}
+use mathlib.Core.Path.{_≡_, refl, ap, _∙_}
+use Prim.Native.Nat.{_+_, _*_, _≤_, _-_}
 use native.Mathlib.Omega.{arith}
 use lib.Ieee.{nan}
-use lib.ListN.{length, drop, replicate}
+use lib.ListN.{length}
 use borrow.Author.Needs.{needs}
 use Rattle.lists.specs.Maps.{tabulate}
 use Rattle.lists.specs.Turned.{Turned, turned-none, turned-more, turned-fill}
-use Rattle.record_words.specs.Floats.{floatAt, floatsOf}
+use Rattle.record_words.specs.Floats.{floatAt}
 use Rattle.record_words.proofs.FloatLists.{floats-tab}
 use Rattle.record_words.proofs.floats_at.Statement.{statement}
 use Rattle.record_words.proofs.floats_at.Tie as tie
@@ -56,8 +55,7 @@ returns c = let b = c .before in
     let a = b .before .before .args in
     turned-fill (b .loop .inv .2) (omega arith)
     ∙ ap (λ n. tabulate n (λ k. floatAt (a .bytes .now) (a .at + 4 * k))) (b .loop .inv .1)
-    ∙ sym (floats-tab (a .bytes .now) (a .at) 0 7)
-    ∙ ap (λ n. floatsOf (drop n (a .bytes .now)) 7) (add-zero (a .at))
+    ∙ floats-tab (a .bytes .now) (a .at) 7
 
 pub floats-at-spec : {M : Type 1} → statement M
 floats-at-spec =

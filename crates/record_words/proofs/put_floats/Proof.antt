@@ -1,16 +1,15 @@
 -- `put_floats` meets its contract: the floats passed stand one after the other. Assumes nothing.
 use mathlib.Core.Path.{_≡_, refl, sym, ap, _∙_}
-use mathlib.Core.List.{List, [], _∷_, _++_}
 use Prim.Native.Nat.{ℕ, _+_, _*_, _≤_, _<_, _-_}
-use native.Mathlib.Numerals.{add-one}
 use native.Mathlib.Omega.{arith}
-use lib.Ieee.{Float, nan}
-use lib.ListN.{length, getD, take}
-use lib.Seq.{take-suc, length-take-le, take-all}
+use lib.Ieee.{nan}
+use lib.ListN.{length, take}
+use lib.Seq.{take-all}
 use borrow.Author.Needs.{needs}
 use Rattle.record_words.specs.Floats.{floatBytes, floatsBytes}
-use Rattle.lists.specs.Stores.{stored, stored-append, stored-length, stored-none}
-use Rattle.record_words.proofs.FloatLists.{floats-length, floats-append, floats-one}
+use Rattle.lists.specs.Stores.{stored, stored-length, stored-none}
+use Rattle.lists.specs.Pieces.{pieces, pieces-more}
+use Rattle.record_words.proofs.FloatLists.{float-length}
 use Rattle.record_words.proofs.put_floats.Statement.{statement}
 use Rattle.record_words.proofs.put_floats.Tie as tie
 
@@ -22,24 +21,8 @@ Inv-loop bytes₀ at floats i₀ bytes i =
 abbrev μ-loop : tie.MeasureT-loop
 μ-loop bytes₀ at floats i₀ bytes i = 7 - i
 
--- one float more
-more :
-    (old now : List ℕ) (at i : ℕ) (xs : List Float) → length xs ≡ 7 → i < 7
-    → now ≡ stored old at (floatsBytes (take i xs))
-    → stored now (at + 4 * i) (floatBytes (getD xs i nan))
-    ≡ stored old at (floatsBytes (take (i + 1) xs))
-more old now at i xs l h e =
-    let t : length (take i xs) ≡ i = length-take-le i xs (omega arith) in
-    ap (λ b. stored b (at + 4 * i) (floatBytes (getD xs i nan))) e
-    ∙ stored-append old at (at + 4 * i) (floatsBytes (take i xs)) (floatBytes (getD xs i nan))
-    (omega (arith, floats-length (take i xs)))
-    ∙ ap (stored old at)
-    (ap (λ b. floatsBytes (take i xs) ++ b) (sym (floats-one (getD xs i nan)))
-    ∙ sym (floats-append (take i xs) (getD xs i nan ∷ []))
-    ∙ ap floatsBytes (sym (ap (λ k. take k xs) (add-one i) ∙ take-suc xs i nan (omega arith))))
-
 loop-holds : tie.Need-loop-holds Inv-loop μ-loop
-unfolding floatsBytes
+unfolding pieces
 loop-holds c = (omega arith, refl, stored-none _ _)
 
 mul-put-float : tie.Need-mul-put-float Inv-loop μ-loop
@@ -71,8 +54,8 @@ loop-again c = let b = c .before .before .before .before .before in
       omega arith,
       ap length e ∙ stored-length _ _ _ ∙ b .loop .inv .1,
       e
-          ∙ more (a .bytes .now) (b .loop .bytes) (a .at) (b .loop .i) (a .t3) l (omega arith)
-          (b .loop .inv .2),
+          ∙ pieces-more floatBytes 4 float-length nan (a .bytes .now) (b .loop .bytes) (a .at)
+          (b .loop .i) (a .t3) (omega arith) (b .loop .inv .2),
     )
 
 same-length : tie.Need-same-length Inv-loop μ-loop
