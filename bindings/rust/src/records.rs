@@ -1,4 +1,4 @@
-//! Scene records: settings and voices as bytes, to store them. include/dovetable.h has the layout.
+//! Scene records: settings and voices as bytes, to store them. docs/CARD.md has the layout.
 //! In each unsafe block a pointer and a length are those of one slice.
 
 use crate::refused::{Refused, outcome};

@@ -1,9 +1,8 @@
 -- A scene comes back from its plain record, and what the loops that copy its voices make. Assumes
 -- nothing.
 use mathlib.Core.Path.{_≡_, refl, sym, ap, _∙_}
-use mathlib.Core.List.{List, [], _∷_, _++_, map, append-nil}
+use mathlib.Core.List.{List, [], _∷_, map, append-nil}
 use Prim.Native.Nat.{ℕ, zero, suc}
-use native.Mathlib.Nat.{le-refl}
 use lib.ListN.{length, getD, take}
 use lib.Seq.{take-length}
 use Rattle.lists.specs.Maps.{tabFrom, tabulate, tabulate-self}
@@ -16,7 +15,6 @@ use Rattle.scene.proofs.Parts.{withPitch, fields-same}
 use Rattle.scene.proofs.PitchNumbers.{pitch-back}
 use Rattle.scene.proofs.Shapes.{shape-of-number}
 use Rattle.crossing.specs.MaskSettings.{configOf}
-use Rattle.crossing_voices.specs.declared.VoiceRecord.{VoiceRecord}
 use Rattle.crossing_voices.specs.VoiceRecords.{voiceOf, recordVoices}
 use Rattle.crossing_scenes.specs.Scenes.{sceneOf, plainSettings, plainVoice, plainScene}
 

@@ -1,6 +1,6 @@
 -- How a scene crosses to and from a caller in C: as one record of plain numbers, with all 128
 -- places for voices. Assumes nothing.
-use mathlib.Core.List.{List, map}
+use mathlib.Core.List.{map}
 use Rattle.answer.specs.Reply.{Reply, number, place}
 use Rattle.scene.specs.declared.MaskVoice.{MaskVoice}
 use Rattle.scene.specs.declared.MaskConfig.{MaskConfig}

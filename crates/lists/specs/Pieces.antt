@@ -4,7 +4,7 @@
 use mathlib.Core.Path.{_≡_, refl, sym, ap, _∙_}
 use mathlib.Core.List.{List, [], _∷_, _++_, append-assoc, append-nil}
 use Prim.Native.Nat.{ℕ, zero, suc, _+_, _*_, _≤_, _<_}
-use native.Mathlib.Nat.{mul-zero, mul-suc, add-zero}
+use native.Mathlib.Nat.{mul-zero, mul-suc}
 use native.Mathlib.Numerals.{add-one}
 use native.Mathlib.Omega.{arith}
 use lib.ListN.{length, getD, take, drop, length-append}
@@ -96,7 +96,8 @@ module _ {A : Type 0} where
         → getD (piecesOf read width bytes n) i d ≡ read (drop (width * i) bytes)
     unfolding piecesOf
     piece-at-place d bytes zero i h = absurd (omega arith)
-    piece-at-place d bytes (suc n) zero h = ap (λ (k : ℕ). read (drop k bytes)) (sym (mul-zero width))
+    piece-at-place d bytes (suc n) zero h =
+        ap (λ (k : ℕ). read (drop k bytes)) (sym (mul-zero width))
     piece-at-place d bytes (suc n) (suc i) h =
         let next : width + width * i ≡ width * suc i = omega (arith, mul-suc width i) in
         piece-at-place d (drop width bytes) n i (omega arith)

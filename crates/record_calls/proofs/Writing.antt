@@ -1,13 +1,13 @@
 -- What the code of `write_scene` needs: a scene that passes the tests has room for each field in
 -- its bits, and head and voices stored one after the other are the record. Assumes nothing.
-use mathlib.Core.Path.{_≡_, refl, sym, ap, _∙_, subst}
+use mathlib.Core.Path.{_≡_, refl, ap, _∙_}
 use mathlib.Core.Bool.{Bool, true, false, cond, not, _&&_}
-use mathlib.Core.List.{List, [], _∷_, _++_}
-use Prim.Native.Nat.{ℕ, _+_, _*_, _≤_, _<_}
+use mathlib.Core.List.{List, _++_}
+use Prim.Native.Nat.{ℕ, _+_, _≤_}
 use native.Mathlib.Omega.{arith}
 use lib.Dec.{T, eqb, eqb→eq, ltb, leb, leb→le}
 use lib.Ieee.Fits.{and-l, and-r}
-use lib.ListN.{length, getD, take, length-append, length-take}
+use lib.ListN.{length, getD, length-append, length-take}
 use Rattle.lists.specs.Totals.{All}
 use Rattle.lists.specs.Folds.{bad-le}
 use Rattle.lists.specs.Entries.{all-places}
@@ -16,7 +16,6 @@ use Rattle.answer.specs.Reply.{Reply}
 use Rattle.limits.specs.Limits as limits
 use Rattle.limits.specs.Lengths.{MOST-VOICES, MAX-PARTIALS, MOST-NOTE, RECORD-HEAD, recordLength}
 use Rattle.scene.specs.declared.MaskVoice.{MaskVoice}
-use Rattle.scene.specs.declared.MaskConfig.{MaskConfig}
 use Rattle.scene.specs.declared.Pitch.{Pitch}
 use Rattle.scene.specs.declared.Pitch.the-variants.{Note, Hertz}
 use Rattle.scene.specs.declared.Scene.{Scene}

@@ -2,24 +2,23 @@
 -- to the bit, and a head whose zero bits are zero and whose floats are no NaN is the one that its
 -- settings and count are written as. Assumes nothing.
 use mathlib.Core.Path.{_≡_, refl, sym, ap, _∙_}
-use mathlib.Core.Bool.{Bool, true}
-use mathlib.Core.List.{List, [], _∷_, _++_, append-assoc}
+use mathlib.Core.Bool.{true}
+use mathlib.Core.List.{List, _++_, append-assoc}
 use Prim.Native.Nat.{ℕ, _+_, _^_, _≤_, _<_}
 use native.Mathlib.Nat.{mod-lt}
 use native.Mathlib.Omega.{arith}
 use lib.Dec.{T, eqb, eqb→eq}
-use lib.Ieee.{Float, nan}
-use lib.ListN.{length, getD, take, drop, length-append, length-drop}
+use lib.Ieee.{Float}
+use lib.ListN.{length, take, drop, length-append, length-drop}
 use lib.Seq.{drop-at, take-add}
 use borrow.Author.Tests.{eq-eqb}
 use Rattle.lists.specs.Totals.{All, all-drop}
-use Rattle.lists.specs.Bytes.{Byte, numberAt, bytesOf, length-bytes, number-back, number-below}
+use Rattle.lists.specs.Bytes.{Byte, bytesOf, length-bytes, number-back, number-below}
 use Rattle.lists.specs.Bytes.{bytes-back}
 use Rattle.lists.specs.Pieces.{piecesOf}
 use Rattle.lists.specs.Stores.{stored, stored-append}
 use Rattle.limits.specs.Limits as limits
 use Rattle.scene.specs.declared.MaskConfig.{MaskConfig}
-use Rattle.scene.specs.declared.MotionShape.{MotionShape}
 use Rattle.scene.specs.Made.{shapeOf, shapeNumber}
 use Rattle.scene.proofs.Parts.{fields-same}
 use Rattle.scene.proofs.Shapes.{shape-below, shape-of-number, number-of-shape}

@@ -2,12 +2,12 @@
 -- the test of refusal 9 and holds its scene, and one that is accepted is what its scene is written
 -- as. Assumes nothing.
 use mathlib.Core.Path.{_≡_, refl, sym, ap, _∙_, subst}
-use mathlib.Core.Bool.{Bool, true, false, cond, _&&_}
-use mathlib.Core.List.{List, [], _++_, append-nil}
-use Prim.Native.Nat.{ℕ, _+_, _*_, _≤_, _<_}
+use mathlib.Core.Bool.{Bool, true, false, cond}
+use mathlib.Core.List.{List, [], append-nil}
+use Prim.Native.Nat.{ℕ, _*_, _<_}
 use native.Mathlib.Nat.{le-refl}
 use native.Mathlib.Omega.{arith}
-use lib.Dec.{T, eqb}
+use lib.Dec.{T}
 use lib.Ieee.Bits.{is-true}
 use lib.ListN.{length, getD, take, drop, length-append, length-drop, take-append-drop}
 use lib.Seq.{take-all, take-take, drop-at}
@@ -15,11 +15,10 @@ use borrow.Author.Tests.{eq-eqb}
 use Rattle.lists.specs.Totals.{All, all-drop}
 use Rattle.lists.specs.Entries.{all-places}
 use Rattle.lists.specs.Bytes.{Byte}
-use Rattle.answer.specs.Reply.{Reply, done, refused}
+use Rattle.answer.specs.Reply.{done, refused}
 use Rattle.answer.specs.Refusal.{RECORD}
 use Rattle.limits.specs.Lengths.{RECORD-HEAD, recordLength}
 use Rattle.scene.specs.declared.MaskVoice.{MaskVoice}
-use Rattle.scene.specs.declared.MaskConfig.{MaskConfig}
 use Rattle.scene.specs.declared.Scene.{Scene}
 use Rattle.scene.specs.Accepted.{noVoice, voiceAccepted}
 use Rattle.scene.specs.Gathered.{gathered}
@@ -29,8 +28,8 @@ use Rattle.refusals.proofs.MaskAccepted.{voice-done}
 use Rattle.refusals.proofs.Heard.{all-heard}
 use Rattle.record_words.specs.Floats.{floatsOf}
 use Rattle.record_words.proofs.FloatLists.{Number}
-use Rattle.record_heads.specs.Heads.{FieldsFit, headBytes, headIn, countOf, zeroBits}
-use Rattle.record_heads.specs.Heads.{settingsFloats, settingsIn}
+use Rattle.record_heads.specs.Heads.{FieldsFit, headBytes, headIn, zeroBits}
+use Rattle.record_heads.specs.Heads.{settingsIn}
 use Rattle.record_heads.proofs.Heads as head
 use Rattle.record_voices.specs.Voices.{voicesBytes, voicesOf, pitchesAllowed}
 use Rattle.record_voices.proofs.Voices.{VoiceNumbers, voices-length, voices-counted, voices-back}

@@ -2,30 +2,27 @@
 -- nothing.
 use mathlib.Core.Path.{_≡_, refl, sym, ap, _∙_, subst}
 use mathlib.Core.Bool.{Bool, true, false, not, _&&_}
-use mathlib.Core.List.{List, [], _∷_, _++_}
+use mathlib.Core.List.{List, [], _∷_}
 use Prim.Native.Nat.{ℕ, suc, _+_, _*_, _-_, _/_, _%_, _≤_, _<_}
 use native.Mathlib.Nat.{add-zero}
-use native.Mathlib.Numerals.{add-one}
 use native.Mathlib.Omega.{arith}
 use lib.Bits.{bitAnd, and-mask}
 use lib.Dec.{eqb}
 use lib.Ieee.{Float, nan}
 use lib.ListN.{length, getD, set, take, drop}
-use lib.Seq.{take-suc, drop-drop, getD-drop, getD-take, length-take-le}
+use lib.Seq.{drop-drop, getD-drop, getD-take, length-take-le}
 use borrow.Author.Tests.{eq-eqb, ne-eqb}
 use Rattle.lists.specs.Totals.{All, all-at}
 use Rattle.lists.specs.Stores.{stored, stored-append, stored-one}
 use Rattle.lists.specs.Pieces.{piece-at-place}
 use Rattle.scene.specs.declared.MaskVoice.{MaskVoice}
-use Rattle.scene.specs.declared.Pitch.{Pitch}
 use Rattle.scene.specs.Accepted.{noVoice}
 use Rattle.scene.specs.Gathered.{gatheredTo}
 use Rattle.scene.proofs.Gathered.{gathered-more}
 use Rattle.record_words.specs.Floats.{floatsBytes, floatAt, floatsOf}
 use Rattle.record_words.proofs.FloatLists.{float-at-place}
 use Rattle.record_voices.specs.Voices.{pitchByte, NoteFits, voiceFloats, voiceBytes}
-use Rattle.record_voices.specs.Voices.{voicesBytes}
-use Rattle.record_voices.specs.Voices.{pitchIn, voiceWith, voiceOf, voicesOf, pitchAllowed}
+use Rattle.record_voices.specs.Voices.{pitchIn, voiceOf, voicesOf, pitchAllowed}
 use Rattle.record_voices.specs.Voices.{pitchesAllowed}
 use Rattle.record_voices.proofs.Voices.{voices-counted}
 
@@ -95,7 +92,8 @@ gathered-voice bs at n i array voice h m e f =
     let voices = voicesOf (drop at bs) n in
     let there : i < length voices = rw (voices-counted (drop at bs) n) h in
     let same : voice ≡ getD voices i noVoice =
-    f ∙ ap voiceOf (sym (drop-drop (29 * i) at bs)) ∙ sym (piece-at-place voiceOf 29 noVoice (drop at bs) n i h) in
+    f ∙ ap voiceOf (sym (drop-drop (29 * i) at bs))
+    ∙ sym (piece-at-place voiceOf 29 noVoice (drop at bs) n i h) in
     rw (e, same) (gathered-more voices i there (omega arith))
 
 -- ---- the test of the forbidden bits

@@ -1,34 +1,32 @@
 -- A voice's bytes, there and back: a voice comes back to the bit, and bytes without a forbidden bit
 -- and with no NaN are those that their voice is written as. The same of voices that follow one
 -- another. Assumes nothing.
-use mathlib.Core.Path.{_≡_, refl, sym, ap, _∙_, subst}
+use mathlib.Core.Path.{_≡_, refl, sym, ap, subst}
 use mathlib.Core.Bool.{Bool, true, false, cond, not, _&&_}
-use mathlib.Core.List.{List, [], _∷_, _++_, append-assoc, append-nil}
+use mathlib.Core.List.{List, [], _∷_, _++_, append-assoc}
 use Prim.Native.Nat.{ℕ, zero, suc, _+_, _*_, _/_, _%_, _≤_, _<_}
-use native.Mathlib.Nat.{add-zero, div-add-mod', mod-lt}
-use native.Mathlib.Numerals.{add-one}
+use native.Mathlib.Nat.{div-add-mod', mod-lt}
 use native.Mathlib.Omega.{arith}
 use lib.Arith.{digits-div, digits-mod}
 use lib.Dec.{T, eqb}
 use lib.Ieee.{Float, nan}
 use lib.Ieee.Bits.{is-true}
-use lib.ListN.{length, getD, take, drop, set, length-append, length-drop}
-use lib.Seq.{take-add, take-suc, drop-drop, drop-at, getD-drop, length-take-le, getD-take}
-use borrow.Author.Tests.{eqb-true, eqb-false, eq-eqb, ne-eqb}
-use Rattle.lists.specs.Totals.{All, all-drop, all-at}
+use lib.ListN.{length, getD, take, drop, length-drop}
+use lib.Seq.{take-add, drop-at}
+use borrow.Author.Tests.{ne-eqb}
+use Rattle.lists.specs.Totals.{All, all-drop}
 use Rattle.lists.specs.Bytes.{Byte}
 use Rattle.lists.specs.Pieces.{pieces, piecesOf, pieces-length, pieces-counted, pieces-back}
 use Rattle.scene.specs.declared.MaskVoice.{MaskVoice}
 use Rattle.scene.specs.declared.Pitch.{Pitch}
 use Rattle.scene.specs.declared.Pitch.the-variants.{Note, Hertz}
-use Rattle.scene.specs.Accepted.{noVoice}
-use Rattle.scene.specs.PitchNumbers.{NOTE-FORM, HERTZ-FORM, formOf, noteOf, numberOf, pitchOf}
+use Rattle.scene.specs.PitchNumbers.{HERTZ-FORM, formOf, noteOf, numberOf, pitchOf}
 use Rattle.scene.proofs.Parts.{withPitch}
 use Rattle.scene.proofs.PitchNumbers.{Numbers, pitch-back, note-numbers, hertz-numbers}
-use Rattle.record_words.specs.Floats.{floatsBytes, floatsOf}
+use Rattle.record_words.specs.Floats.{floatsOf}
 use Rattle.record_words.proofs.FloatLists.{Fits, Number, floats-length, floats-back}
 use Rattle.record_words.proofs.FloatLists.{bytes-of-floats}
-use Rattle.record_voices.specs.Voices.{pitchByte, NoteFits, voiceFloats, voiceBytes}
+use Rattle.record_voices.specs.Voices.{pitchByte, voiceFloats, voiceBytes}
 use Rattle.record_voices.specs.Voices.{voicesBytes}
 use Rattle.record_voices.specs.Voices.{pitchIn, voiceWith, voiceOf, voicesOf, pitchAllowed}
 use Rattle.record_voices.specs.Voices.{pitchesAllowed}

@@ -4,7 +4,7 @@ ghost use Prim.Native.Nat.{_+_, _*_, _≤_};
 ghost use lib.ListN.{length, take, drop};
 ghost use Rattle.lists.specs.Totals.{All};
 ghost use Rattle.lists.specs.Stores.{stored};
-ghost use Rattle.limits.specs.Lengths.{MOST-VOICES, MOST-NOTE};
+ghost use Rattle.limits.specs.Lengths.{MOST-VOICES, MOST-NOTE, RECORD-VOICE};
 ghost use Rattle.scene.specs.Gathered.{gatheredTo};
 ghost use Rattle.scene.specs.PitchNumbers.{noteOf};
 ghost use Rattle.record_voices.specs.Voices.{pitchByte, NoteFits, voiceFloats, voiceBytes};
@@ -45,7 +45,7 @@ fn voice_floats(voice: MaskVoice) -> [f32; FLOATS]
 
 // Writes a voice's bytes from a place on.
 fn put_voice(record: &mut [u8], at: usize, voice: MaskVoice)
-    requires { ⌜ at + 29 ≤ length (now «record») ⌝ }
+    requires { ⌜ at + RECORD-VOICE ≤ length (now «record») ⌝ }
     requires { ⌜ NoteFits voice ⌝ }
     ensures { λ _. ⌜ now («record» .exit)
         ≡ stored (now («record» .entry)) at (voiceBytes voice) ⌝ }
@@ -58,7 +58,7 @@ fn put_voice(record: &mut [u8], at: usize, voice: MaskVoice)
 // Writes the voices that count, one after the other.
 pub fn put_voices(record: &mut [u8], at: usize, voices: [MaskVoice; MOST_VOICES], count: usize)
     requires { ⌜ count ≤ MOST-VOICES ⌝ }
-    requires { ⌜ at + 29 * count ≤ length (now «record») ⌝ }
+    requires { ⌜ at + RECORD-VOICE * count ≤ length (now «record») ⌝ }
     requires { ⌜ All NoteFits (take count voices) ⌝ }
     ensures { λ _. ⌜ now («record» .exit)
         ≡ stored (now («record» .entry)) at (voicesBytes (take count voices)) ⌝ }
@@ -78,7 +78,7 @@ fn pitch_in(byte: u8, number: f32) -> Pitch
 
 // The voice whose bytes begin at a place.
 fn voice_at(record: &[u8], at: usize) -> MaskVoice
-    requires { ⌜ at + 29 ≤ length (now «record») ⌝ }
+    requires { ⌜ at + RECORD-VOICE ≤ length (now «record») ⌝ }
     ensures { λ r. ⌜ r ≡ voiceOf (drop at (now («record» .entry))) ⌝ }
 {
     let pitch = pitch_in(record[at], float_at(record, at + 5));
@@ -96,7 +96,7 @@ fn voice_at(record: &[u8], at: usize) -> MaskVoice
 // The voices that follow one another from a place on, at the start of the core's array.
 pub fn voices_at(record: &[u8], at: usize, count: usize) -> [MaskVoice; MOST_VOICES]
     requires { ⌜ count ≤ MOST-VOICES ⌝ }
-    requires { ⌜ at + 29 * count ≤ length (now «record») ⌝ }
+    requires { ⌜ at + RECORD-VOICE * count ≤ length (now «record») ⌝ }
     ensures { λ r. ⌜ r ≡ gatheredTo count (voicesOf (drop at (now («record» .entry))) count) ⌝ }
 {
     let mut voices = silent_voices();
@@ -120,7 +120,7 @@ fn pitch_allowed(byte: u8) -> bool
 
 // Whether none of the voices that follow one another from a place on has a forbidden bit.
 pub fn pitches_allowed(record: &[u8], at: usize, count: usize) -> bool
-    requires { ⌜ at + 29 * count ≤ length (now «record») ⌝ }
+    requires { ⌜ at + RECORD-VOICE * count ≤ length (now «record») ⌝ }
     ensures { λ r. ⌜ r ≡ pitchesAllowed (drop at (now («record» .entry))) count ⌝ }
 {
     let mut i: usize = 0;

@@ -1,7 +1,7 @@
 -- What the code computes byte by byte: the number of three bytes, and the bytes
 -- of a number.
 -- Assumes nothing.
-use mathlib.Core.Path.{_≡_, refl, sym, ap, _∙_}
+use mathlib.Core.Path.{_≡_, ap, _∙_}
 use mathlib.Core.List.{List, [], _∷_}
 use Prim.Native.Nat.{ℕ, suc, _+_, _*_, _/_, _%_, _^_}
 use native.Mathlib.Nat.{add-zero, div-one}

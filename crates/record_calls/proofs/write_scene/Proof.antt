@@ -3,7 +3,7 @@
 use lib.ListN.{length}
 use lib.Dec.{eqb}
 use native.Mathlib.Omega.{arith}
-use mathlib.Core.Path.{_≡_, refl, sym, ap, _∙_}
+use mathlib.Core.Path.{refl, sym, ap, _∙_}
 use borrow.Author.Needs.{needs}
 use Rattle.record_calls.proofs.Writing.{write-answer, few, whole, all-counted, fields-fit}
 use Rattle.record_calls.proofs.Writing.{notes-fit, record-stored}

@@ -1,8 +1,8 @@
 -- `voices_at` meets its contract: the array fills from its start. Assumes nothing.
 use mathlib.Core.Path.{_≡_, sym, ap, _∙_}
-use Prim.Native.Nat.{ℕ, _+_, _*_, _-_, _≤_}
+use Prim.Native.Nat.{ℕ, _-_, _≤_}
 use native.Mathlib.Omega.{arith}
-use lib.ListN.{length, drop}
+use lib.ListN.{drop}
 use borrow.Author.Needs.{needs}
 use Rattle.scene.specs.Gathered.{gatheredTo}
 use Rattle.scene.proofs.Gathered.{gathered-none}
