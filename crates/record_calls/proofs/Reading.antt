@@ -29,26 +29,20 @@ use Rattle.record_calls.specs.Records.{countIn, voicesIn, wellFormed, re
 use Rattle.record_calls.specs.Records.{sceneRead}
 
 -- ---- the test of refusal 9, by the test that answers
-module _ (bs : List ℕ) where
-  pub short-record : length bs < RECORD-HEAD → false ≡ wellFormed bs
+module _ (bs : List ℕ) (n : ℕ) (e : n ≡ countIn bs) where
+  pub other-length : (length bs ≡ recordLength n → ⊥) → false ≡ wellFormed bs
   unfolding wellFormed
-  short-record h =
-      rw (ne-eqb (length bs) (recordLength (countIn bs)) (λ e. omega (arith, e, h)))
+  other-length h = rw (← e, ne-eqb (length bs) (recordLength n) h)
 
-  module _ (n : ℕ) (e : n ≡ countIn bs) where
-    pub other-length : (length bs ≡ recordLength n → ⊥) → false ≡ wellFormed bs
+  module _ (h : length bs ≡ recordLength n) where
+    pub bits-set : zeroBits (headIn bs) ≡ false → false ≡ wellFormed bs
     unfolding wellFormed
-    other-length h = rw (← e, ne-eqb (length bs) (recordLength n) h)
+    bits-set z = rw (← e, eq-eqb (length bs) (recordLength n) h, z)
 
-    module _ (h : length bs ≡ recordLength n) where
-      pub bits-set : zeroBits (headIn bs) ≡ false → false ≡ wellFormed bs
-      unfolding wellFormed
-      bits-set z = rw (← e, eq-eqb (length bs) (recordLength n) h, z)
-
-      pub last-test :
-          zeroBits (headIn bs) ≡ true → pitchesAllowed (drop RECORD-HEAD bs) n ≡ wellFormed bs
-      unfolding wellFormed
-      last-test z = rw (← e, eq-eqb (length bs) (recordLength n) h, z)
+    pub last-test :
+        zeroBits (headIn bs) ≡ true → pitchesAllowed (drop RECORD-HEAD bs) n ≡ wellFormed bs
+    unfolding wellFormed
+    last-test z = rw (← e, eq-eqb (length bs) (recordLength n) h, z)
 
 -- ---- what a record that passes it is like
 pub record Formed (bs : List ℕ) : Type 0 where

@@ -1,16 +1,17 @@
 -- `well_formed` meets its contract, test by test. Assumes nothing.
+use native.Mathlib.Omega.{arith}
 use lib.ListN.{length}
 use Prim.Native.Nat.{ℕ}
-use mathlib.Core.Path.{_≡_, sym, ap, subst, _∙_}
+use mathlib.Core.Path.{_≡_, refl, sym, ap, subst, _∙_}
 use borrow.Author.Tests.{not-true, not-false}
 use borrow.Author.Needs.{needs}
-use Rattle.record_calls.proofs.Reading.{short-record, other-length, bits-set, last-test}
+use Rattle.record_calls.proofs.Reading.{other-length, bits-set, last-test}
 use Rattle.record_heads.specs.Heads.{countOf, zeroBits}
 use Rattle.record_calls.proofs.well_formed.Statement.{statement}
 use Rattle.record_calls.proofs.well_formed.Tie as tie
 
 returns : tie.Need-returns
-returns c = short-record _ (c .if1 .taken)
+returns c = other-length _ _ refl (λ e. omega (arith, e, c .if1 .taken))
 
 head-at-requires : tie.Need-head-at-requires
 head-at-requires c κs = search needs
