@@ -38,3 +38,7 @@ OVERLAP = 8
 -- forbidden bit set"
 abbrev pub RECORD : ℕ
 RECORD = 9
+
+-- request 105: "An id already present when added, or missing when taken out or changed"
+abbrev pub ID : ℕ
+ID = 10

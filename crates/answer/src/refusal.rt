@@ -26,3 +26,7 @@ pub const OVERLAP: u8 = 8;
 
 // A scene record has the wrong length, or a forbidden bit set.
 pub const RECORD: u8 = 9;
+
+// An id is in the bank already where a voice is added, or is not in it where one is taken out or
+// changed.
+pub const ID: u8 = 10;

@@ -1,31 +1,25 @@
--- A scene comes back from its plain record, and what the loops that copy its voices make. Assumes
+-- A scene comes back from its plain record, and what the loop that copies its voices makes. Assumes
 -- nothing.
 use mathlib.Core.Path.{_≡_, refl, sym, ap, _∙_}
-use mathlib.Core.List.{List, [], _∷_, map, append-nil}
+use mathlib.Core.List.{List, [], _∷_, map}
 use Prim.Native.Nat.{ℕ, zero, suc}
-use lib.ListN.{length, getD, take}
-use lib.Seq.{take-length}
+use lib.ListN.{length, getD}
 use Rattle.lists.specs.Maps.{tabFrom, tabulate, tabulate-self}
 use Rattle.scene.specs.declared.MaskVoice.{MaskVoice}
 use Rattle.scene.specs.declared.MaskConfig.{MaskConfig}
 use Rattle.scene.specs.declared.Scene.{Scene}
 use Rattle.scene.specs.Accepted.{noVoice}
-use Rattle.scene.specs.Gathered.{gatheredTo}
-use Rattle.scene.proofs.Parts.{withPitch, fields-same}
-use Rattle.scene.proofs.PitchNumbers.{pitch-back}
+use Rattle.scene.proofs.Parts.{fields-same}
 use Rattle.scene.proofs.Shapes.{shape-of-number}
 use Rattle.crossing.specs.MaskSettings.{configOf}
-use Rattle.crossing_voices.specs.VoiceRecords.{voiceOf, recordVoices}
-use Rattle.crossing_scenes.specs.Scenes.{sceneOf, plainSettings, plainVoice, plainScene}
+use Rattle.voice_records.specs.VoiceRecords.{plainVoice, recordVoices}
+use Rattle.voice_records.proofs.RecordVoices.{voice-back}
+use Rattle.crossing_scenes.specs.Scenes.{sceneOf, plainSettings, plainScene}
 
 -- ---- what goes to C and comes back
 settings-back : (config : MaskConfig) → configOf (plainSettings config) ≡ config
 settings-back config =
     fields-same config refl refl refl (shape-of-number (config .motion .shape))
-
-voice-back : (voice : MaskVoice) → voiceOf (plainVoice voice) ≡ voice
-unfolding voiceOf plainVoice
-voice-back voice = ap (withPitch voice) (pitch-back (voice .pitch))
 
 voices-back : (voices : List MaskVoice) → recordVoices (map plainVoice voices) ≡ voices
 voices-back [] = refl
@@ -39,15 +33,7 @@ scene-back scene = go (settings-back (scene .config)) (voices-back (scene .voice
         → record { config = config; voices = voices; count = scene .count } ≡ scene
     go e f = rw (e, f)
 
--- ---- the loops
--- all 128 places are filled
-pub all-filled :
-    (voices : List MaskVoice) → length voices ≡ 128 → gatheredTo 128 voices ≡ voices
-unfolding gatheredTo
-all-filled voices l =
-    append-nil (take 128 voices)
-    ∙ ap (λ (n : ℕ). take n voices) (sym l) ∙ take-length voices
-
+-- ---- the loop
 map-tab :
     {A B : Type 0} (f : A → B) (g : ℕ → A) (i n : ℕ)
     → map f (tabFrom g i n) ≡ tabFrom (λ k. f (g k)) i n

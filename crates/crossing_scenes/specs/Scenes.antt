@@ -2,15 +2,12 @@
 -- places for voices. Assumes nothing.
 use mathlib.Core.List.{map}
 use Rattle.answer.specs.Reply.{Reply, number, place}
-use Rattle.scene.specs.declared.MaskVoice.{MaskVoice}
 use Rattle.scene.specs.declared.MaskConfig.{MaskConfig}
 use Rattle.scene.specs.declared.Scene.{Scene}
 use Rattle.scene.specs.Made.{shapeNumber}
-use Rattle.scene.specs.PitchNumbers.{formOf, noteOf, numberOf}
 use Rattle.crossing.specs.declared.settings.Settings.{Settings}
 use Rattle.crossing.specs.MaskSettings.{configOf}
-use Rattle.crossing_voices.specs.declared.VoiceRecord.{VoiceRecord}
-use Rattle.crossing_voices.specs.VoiceRecords.{recordVoices}
+use Rattle.voice_records.specs.VoiceRecords.{plainVoice, recordVoices}
 use Rattle.crossing_scenes.specs.declared.PlainScene.{PlainScene}
 use Rattle.crossing_scenes.specs.declared.PlainSceneRead.{PlainSceneRead}
 
@@ -38,21 +35,6 @@ plainSettings config =
       «motion_depth_db» = config .motion .«depth_db»;
       «motion_phase» = config .motion .phase;
       «motion_size_octaves» = config .motion .«size_octaves»;
-    }
-
--- by hertz the note is 0
-unfoldable pub plainVoice : MaskVoice → VoiceRecord
-plainVoice voice =
-    record {
-      «pitch_form» = formOf (voice .pitch);
-      note = noteOf (voice .pitch);
-      «semitones_or_hertz» = numberOf (voice .pitch);
-      level = voice .level;
-      pressure = voice .pressure;
-      timbre = voice .timbre;
-      «volume_gain» = voice .«volume_gain»;
-      «expression_gain» = voice .«expression_gain»;
-      pan = voice .pan;
     }
 
 abbrev pub plainScene : Scene → PlainScene

@@ -5,24 +5,23 @@ ghost use lib.ListN.{length};
 ghost use Rattle.answer.specs.Written.{written};
 ghost use Rattle.crossing.specs.Given.{Given};
 ghost use Rattle.crossing.specs.MaskSettings.{withSettings};
-ghost use Rattle.crossing_voices.specs.VoiceRecords.{recordVoices};
+ghost use Rattle.voice_records.specs.VoiceRecords.{plainVoice};
 ghost use Rattle.record_calls.specs.Records.{recordOf, writeReply, readReply, sceneRead};
-ghost use Rattle.crossing_scenes.specs.Scenes.{sceneOf, plainSettings, plainVoice};
-ghost use Rattle.crossing_scenes.specs.Scenes.{plainScene, plainRead};
+ghost use Rattle.crossing_scenes.specs.Scenes.{sceneOf, plainSettings, plainScene};
+ghost use Rattle.crossing_scenes.specs.Scenes.{plainRead};
 use crossing::answers::give_outcome;
 use crossing::settings::Settings;
 use crossing::settings::config_of;
 use crossing::settings::shape_refused;
-use crossing_voices::VoiceRecord;
-use crossing_voices::voice_of;
 use limits::lengths::MOST_VOICES;
 use record_calls::read_scene;
 use record_calls::write_scene;
 use scene::MaskConfig;
 use scene::MaskVoice;
 use scene::Scene;
-use scene::pitches;
-use scene::silent_voices;
+use voice_records::VoiceRecord;
+use voice_records::plain_voice;
+use voice_records::voices_of;
 
 // A scene with C's layout. The voices that count stand first.
 #[repr(C)]
@@ -38,18 +37,6 @@ pub struct PlainSceneRead {
     pub number: u32,
     pub place: usize,
     pub scene: PlainScene,
-}
-
-fn voices_of(records: [VoiceRecord; MOST_VOICES]) -> [MaskVoice; MOST_VOICES]
-    ensures { λ r. ⌜ r ≡ recordVoices records ⌝ }
-{
-    let mut voices = silent_voices();
-    let mut i: usize = 0;
-    while i < MOST_VOICES {
-        voices[i] = voice_of(records[i]);
-        i += 1;
-    }
-    voices
 }
 
 fn scene_of(plain: PlainScene) -> Scene
@@ -83,23 +70,6 @@ fn plain_settings(config: MaskConfig) -> Settings
         motion_depth_db: motion.depth_db,
         motion_phase: motion.phase,
         motion_size_octaves: motion.size_octaves,
-    }
-}
-
-fn plain_voice(voice: MaskVoice) -> VoiceRecord
-    ensures { λ r. ⌜ r ≡ plainVoice voice ⌝ }
-{
-    let pitch = voice.pitch;
-    VoiceRecord {
-        pitch_form: pitches::form_of(pitch),
-        note: pitches::note_of(pitch),
-        semitones_or_hertz: pitches::number_of(pitch),
-        level: voice.level,
-        pressure: voice.pressure,
-        timbre: voice.timbre,
-        volume_gain: voice.volume_gain,
-        expression_gain: voice.expression_gain,
-        pan: voice.pan,
     }
 }
 

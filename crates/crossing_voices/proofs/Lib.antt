@@ -1,2 +1,1 @@
-pub mod RecordVoices
 pub mod Records

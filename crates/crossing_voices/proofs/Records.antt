@@ -22,9 +22,9 @@ use denote.Triple.Clauses.{ensured, lasts}
 use denote.Triple.Spec.{tripleOf}
 use Rattle.scene.specs.declared.MaskVoice.{MaskVoice}
 use Rattle.scene.specs.Gathered.{gathered}
-use Rattle.crossing_voices.specs.declared.VoiceRecord.{VoiceRecord}
-use Rattle.crossing_voices.specs.VoiceRecords.{recordVoices}
-use Rattle.crossing_voices.proofs.VoiceRecord as S
+use Rattle.voice_records.specs.declared.VoiceRecord.{VoiceRecord}
+use Rattle.voice_records.specs.VoiceRecords.{recordVoices}
+use Rattle.voice_records.proofs.VoiceRecord as S
 use Rattle.crossing_voices.proofs.gather as gather
 
 abbrev pub R : RattleType

@@ -12,3 +12,4 @@ pub mod Stages
 pub mod Bytes
 pub mod Stores
 pub mod Pieces
+pub mod Closing

@@ -1,8 +1,9 @@
-// The open calls of spectral-dsp, under the Rust's names and paths, and those on scene records,
-// which the Rust does not have. Each is defined, with its contract, its tests and its one call of
-// the core, in the crate of its kind.
+// The open calls of spectral-dsp, under the Rust's names and paths, and those on scene records and
+// on a bank of voices, which the Rust does not have. Each is defined, with its contract, its tests
+// and its one call of the core, in the crate of its kind.
 pub mod processing;
 
+pub use bank_masks::read_masks;
 pub use list_calls::MaskWorkspace;
 pub use list_calls::advance_note_envelopes;
 pub use mask_calls::build_stereo_masks_with_prepared_spectrum;
@@ -19,3 +20,9 @@ pub use number_calls::note_gate_gain;
 pub use record_calls::SceneRead;
 pub use record_calls::read_scene;
 pub use record_calls::write_scene;
+pub use voice_bank::Bank;
+pub use voice_bank::Banked;
+pub use voice_bank::add_voice;
+pub use voice_bank::change_voice;
+pub use voice_bank::new_bank;
+pub use voice_bank::remove_voice;

@@ -11,12 +11,12 @@ ghost use Rattle.mask_builder.specs.Mask.{maskOf};
 ghost use Rattle.refusals.specs.Masks.{maskReply, voicesMaskReply, tabledMaskReply, stereoReply};
 ghost use Rattle.crossing.specs.Given.{Given};
 ghost use Rattle.crossing.specs.MaskSettings.{configOf, withSettings};
-ghost use Rattle.crossing_voices.specs.VoiceRecords.{recordVoices};
+ghost use Rattle.voice_records.specs.VoiceRecords.{recordVoices};
 use crossing::answers::give_outcome;
 use crossing::settings::Settings;
 use crossing::settings::config_of;
 use crossing::settings::shape_refused;
-use crossing_voices::VoiceRecord;
+use voice_records::VoiceRecord;
 
 #[no_mangle]
 pub extern "C" fn dovetable_build_mask_with_voices(

@@ -8,8 +8,7 @@ use borrow.Author.Needs.{needs}
 use Rattle.lists.specs.Maps.{tabulate}
 use Rattle.lists.specs.Turned.{Turned, turned-none, turned-more, turned-fill}
 use Rattle.scene.specs.Accepted.{noVoice}
-use Rattle.crossing_voices.specs.VoiceRecords.{noRecord}
-use Rattle.crossing_scenes.specs.Scenes.{plainVoice}
+use Rattle.voice_records.specs.VoiceRecords.{noRecord, plainVoice}
 use Rattle.crossing_scenes.proofs.Crossed.{each-plain}
 use Rattle.crossing_scenes.proofs.plain_voices.Statement.{statement}
 use Rattle.crossing_scenes.proofs.plain_voices.Tie as tie

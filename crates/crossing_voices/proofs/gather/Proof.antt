@@ -57,12 +57,12 @@ use Rattle.scene.specs.declared.MaskVoice.{MaskVoice}
 use Rattle.scene.specs.Accepted.{noVoice}
 use Rattle.scene.proofs.MaskVoice as T
 use Rattle.scene.proofs.MaskVoice.Laws as T′
-use Rattle.crossing_voices.specs.declared.VoiceRecord.{VoiceRecord}
-use Rattle.crossing_voices.specs.VoiceRecords.{voiceOf, recordVoices, noRecord}
-use Rattle.crossing_voices.proofs.VoiceRecord as S
-use Rattle.crossing_voices.proofs.VoiceRecord.Laws as S′
+use Rattle.voice_records.specs.declared.VoiceRecord.{VoiceRecord}
+use Rattle.voice_records.specs.VoiceRecords.{voiceOf, recordVoices, noRecord}
+use Rattle.voice_records.proofs.VoiceRecord as S
+use Rattle.voice_records.proofs.VoiceRecord.Laws as S′
 use Rattle.crossing_voices.proofs.Records.{R}
-use Rattle.crossing_voices.proofs.RecordVoices.{length-voices, voice-at, all-gathered}
+use Rattle.voice_records.proofs.RecordVoices.{length-voices, voice-at, all-gathered}
 use Rattle.scene.specs.Made.{silentVoice}
 use Rattle.scene.specs.Gathered.{held, gatheredTo, gathered}
 use Rattle.scene.proofs.Gathered.{held-fits, length-gathered, gathered-none, gathered-more}
@@ -72,10 +72,10 @@ use Rattle.crossing_voices.proofs.record_at as ra
 use Rattle.crossing_voices.proofs.record_at.Symbol as ra-def
 use Rattle.crossing_voices.proofs.record_at.Symbol.{name as #record-at}
 use Rattle.crossing_voices.proofs.record_at.Met as ra-thm
-use Rattle.crossing_voices.proofs.voice_of as vo
-use Rattle.crossing_voices.proofs.voice_of.Symbol as vo-def
-use Rattle.crossing_voices.proofs.voice_of.Symbol.{name as #voice-of}
-use Rattle.crossing_voices.proofs.voice_of.Met as vo-thm
+use Rattle.voice_records.proofs.voice_of as vo
+use Rattle.voice_records.proofs.voice_of.Symbol as vo-def
+use Rattle.voice_records.proofs.voice_of.Symbol.{name as #voice-of}
+use Rattle.voice_records.proofs.voice_of.Met as vo-thm
 use Rattle.scene.proofs.held as held-fn
 use Rattle.scene.proofs.held.Symbol as held-def
 use Rattle.scene.proofs.held.Symbol.{name as #held}
@@ -349,6 +349,6 @@ gather-spec 𝓤 H 𝓜 𝓖 𝓡 =
     (tables 𝓤 H 𝓜 𝓡 code.env .C) (tables 𝓤 H 𝓜 𝓡 code.env .Λ) #gather code.function (code.unfolded 𝓤 H 𝓜 𝓡)
     (gather-meets 𝓤 H (𝓖 .A) (givenOf 𝓤 H 𝓜 𝓖) (𝓜 .mem) (𝓡 .run) (tablesOf 𝓤 H 𝓜 (tables 𝓤 H 𝓜 𝓡 code.env))
     (cited 𝓤 H (RecordAt 𝓤 H (𝓖 .A) (𝓜 .mem) (𝓡 .run)) 𝓜 𝓡 code.env #record-at ra-def.routine code.calls-crossing-voices·record-at (ra-thm.met 𝓤 H 𝓜 𝓖 𝓡))
-    (cited 𝓤 H (VoiceOf 𝓤 H (𝓖 .A) (𝓜 .mem) (𝓡 .run)) 𝓜 𝓡 code.env #voice-of vo-def.routine code.calls-crossing-voices·voice-of (vo-thm.met 𝓤 H 𝓜 𝓖 𝓡))
+    (cited 𝓤 H (VoiceOf 𝓤 H (𝓖 .A) (𝓜 .mem) (𝓡 .run)) 𝓜 𝓡 code.env #voice-of vo-def.routine code.calls-voice-records·voice-of (vo-thm.met 𝓤 H 𝓜 𝓖 𝓡))
     (cited 𝓤 H (Held 𝓤 H (𝓖 .A) (𝓜 .mem) (𝓡 .run)) 𝓜 𝓡 code.env #held held-def.routine code.calls-scene·held (held-thm.met 𝓤 H 𝓜 𝓖 𝓡))
     (cited 𝓤 H (Silent 𝓤 H (𝓖 .A) (𝓜 .mem) (𝓡 .run)) 𝓜 𝓡 code.env #silent-voices silent-def.routine code.calls-scene·silent-voices (silent-thm.met 𝓤 H 𝓜 𝓖 𝓡)))

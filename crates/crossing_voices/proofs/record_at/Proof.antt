@@ -36,11 +36,11 @@ use denote.Triple.Table.{entered}
 use denote.Triple.Walked.{says, needs, Stays, stay-none, stay-none-slice, walkOf, goes-none, goes-none-slice, Walks, ends-at, walked, walk-meets}
 use denote.Exit.{yes}
 use borrow.Author.Needs.{scaled-fits}
-use Rattle.crossing_voices.specs.declared.VoiceRecord.{VoiceRecord}
-use Rattle.crossing_voices.specs.VoiceRecords.{noRecord}
+use Rattle.voice_records.specs.declared.VoiceRecord.{VoiceRecord}
+use Rattle.voice_records.specs.VoiceRecords.{noRecord}
 use Rattle.crossing_voices.proofs.Records.{R}
-use Rattle.crossing_voices.proofs.VoiceRecord as T
-use Rattle.crossing_voices.proofs.VoiceRecord.Laws as T′
+use Rattle.voice_records.proofs.VoiceRecord as T
+use Rattle.voice_records.proofs.VoiceRecord.Laws as T′
 use Rattle.crossing_voices.proofs.record_at.Key.{name as #crossing_voices·record-at}
 use Rattle.crossing_voices.proofs.record_at as f
 use Rattle.crossing_voices.proofs.record_at.Statement as stated

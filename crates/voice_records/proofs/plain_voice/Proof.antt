@@ -1,8 +1,8 @@
 -- `plain_voice` meets its contract. Assumes nothing.
 use borrow.Author.Needs.{needs}
-use Rattle.crossing_scenes.specs.Scenes.{plainVoice}
-use Rattle.crossing_scenes.proofs.plain_voice.Statement.{statement}
-use Rattle.crossing_scenes.proofs.plain_voice.Tie as tie
+use Rattle.voice_records.specs.VoiceRecords.{plainVoice}
+use Rattle.voice_records.proofs.plain_voice.Statement.{statement}
+use Rattle.voice_records.proofs.plain_voice.Tie as tie
 
 form-of-requires : tie.Need-form-of-requires
 form-of-requires c κs = search needs

@@ -1,9 +1,9 @@
--- The voices that a caller in C passes, each as a record of plain numbers. Assumes nothing.
+-- A voice as a record of plain numbers, and the record of a voice. Assumes nothing.
 use mathlib.Core.List.{List, map}
 use lib.Ieee.{nan}
 use Rattle.scene.specs.declared.MaskVoice.{MaskVoice}
-use Rattle.scene.specs.PitchNumbers.{NOTE-FORM, pitchOf}
-use Rattle.crossing_voices.specs.declared.VoiceRecord.{VoiceRecord}
+use Rattle.scene.specs.PitchNumbers.{NOTE-FORM, pitchOf, formOf, noteOf, numberOf}
+use Rattle.voice_records.specs.declared.VoiceRecord.{VoiceRecord}
 
 unfoldable pub voiceOf : VoiceRecord → MaskVoice
 voiceOf given =
@@ -15,6 +15,21 @@ voiceOf given =
       «volume_gain» = given .«volume_gain»;
       «expression_gain» = given .«expression_gain»;
       pan = given .pan;
+    }
+
+-- by hertz the note is 0
+unfoldable pub plainVoice : MaskVoice → VoiceRecord
+plainVoice voice =
+    record {
+      «pitch_form» = formOf (voice .pitch);
+      note = noteOf (voice .pitch);
+      «semitones_or_hertz» = numberOf (voice .pitch);
+      level = voice .level;
+      pressure = voice .pressure;
+      timbre = voice .timbre;
+      «volume_gain» = voice .«volume_gain»;
+      «expression_gain» = voice .«expression_gain»;
+      pan = voice .pan;
     }
 
 abbrev pub recordVoices : List VoiceRecord → List MaskVoice

@@ -6,11 +6,10 @@ use lib.ListN.{length, set}
 use borrow.Author.Needs.{needs}
 use Rattle.scene.specs.Gathered.{gatheredTo}
 use Rattle.scene.proofs.Gathered.{gathered-none, gathered-more}
-use Rattle.crossing_voices.specs.VoiceRecords.{recordVoices}
-use Rattle.crossing_voices.proofs.RecordVoices.{length-voices, voice-at}
-use Rattle.crossing_scenes.proofs.Crossed.{all-filled}
-use Rattle.crossing_scenes.proofs.voices_of.Statement.{statement}
-use Rattle.crossing_scenes.proofs.voices_of.Tie as tie
+use Rattle.voice_records.specs.VoiceRecords.{recordVoices}
+use Rattle.voice_records.proofs.RecordVoices.{length-voices, voice-at, all-filled}
+use Rattle.voice_records.proofs.voices_of.Statement.{statement}
+use Rattle.voice_records.proofs.voices_of.Tie as tie
 
 abbrev Inv-loop : tie.InvT-loop
 Inv-loop records voices₀ i₀ voices i = (i ≤ 128) × (voices ≡ gatheredTo i (recordVoices records))

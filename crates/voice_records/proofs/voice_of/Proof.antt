@@ -1,9 +1,9 @@
--- `crossing_voices::voice_of` meets its contract: the pitch is the one of its three numbers, and
+-- `voice_records::voice_of` meets its contract: the pitch is the one of its three numbers, and
 -- every other field is the record's own. Assumes nothing.
 use borrow.Author.Needs.{needs}
-use Rattle.crossing_voices.specs.VoiceRecords.{voiceOf}
-use Rattle.crossing_voices.proofs.voice_of.Statement.{statement}
-use Rattle.crossing_voices.proofs.voice_of.Tie as tie
+use Rattle.voice_records.specs.VoiceRecords.{voiceOf}
+use Rattle.voice_records.proofs.voice_of.Statement.{statement}
+use Rattle.voice_records.proofs.voice_of.Tie as tie
 
 pitch-of-requires : tie.Need-pitch-of-requires
 pitch-of-requires c κs = search needs

@@ -1,0 +1,79 @@
+-- The premises of the promise can be met: a chord played from the bottom up, and the same chord
+-- from the top down with a note that goes again, a voice twice and a refused call. However the two
+-- banks are then read, they sound the same. Assumes nothing.
+use mathlib.Core.Path.{_≡_, refl, sym, subst}
+use mathlib.Core.List.{List, [], _∷_}
+use Prim.Native.Nat.{ℕ, zero, suc}
+use native.Mathlib.Omega.{arith}
+use lib.Dec.{T, lit<}
+use lib.Count.{trailingZeros}
+use lib.Ieee.{eq, lt, le, ofBits, ofFields, odd, fits}
+use Rattle.float32.specs.Order.{finite, within}
+use Rattle.scene.specs.declared.MaskVoice.{MaskVoice}
+use Rattle.scene.specs.Accepted.{voiceAccepted, pitchAccepted}
+use Rattle.voice_bank.specs.Banks.{empty}
+use Rattle.chord_law.specs.Curves.{NoNan}
+use Rattle.chord_law.proofs.Instances.{C, E, G}
+use Rattle.bank_law.specs.Calls.{Reading, Call, add, remove, change, read}
+use Rattle.bank_law.specs.Present.{has, takenOut, replyBy, presentFrom, present}
+use Rattle.bank_law.specs.Banks.{answerOf, run}
+use Rattle.bank_law.specs.Promises.{SameVoice, Among, AllAmong, SameVoices}
+use Rattle.bank_law.specs.Promises.{OneReading, SameSound, F32Reading}
+use Rattle.bank_law.proofs.Audible.{order-not-audible}
+
+abbrev pub bottom-up : List Call
+bottom-up = add 0 C ∷ add 1 E ∷ []
+
+-- the last is refused, since the id is taken
+abbrev pub top-down : List Call
+top-down = add 7 E ∷ add 3 G ∷ add 5 C ∷ remove 3 ∷ add 9 C ∷ add 5 G ∷ []
+
+pub bottom-up-present : present bottom-up ≡ C ∷ E ∷ []
+unfolding presentFrom replyBy has takenOut voiceAccepted pitchAccepted finite within ofBits ofFields
+    odd trailingZeros eq lt le
+bottom-up-present = refl
+
+pub top-down-present : present top-down ≡ E ∷ C ∷ C ∷ []
+unfolding presentFrom replyBy has takenOut voiceAccepted pitchAccepted finite within ofBits ofFields
+    odd trailingZeros eq lt le
+top-down-present = refl
+
+C-itself : SameVoice C C
+unfolding ofBits ofFields odd trailingZeros eq
+C-itself =
+    record {
+      pitch = record { note = refl; tuning = tt };
+      level = tt;
+      pressure = tt;
+      timbre = tt;
+      volume = tt;
+      expression = tt;
+      pan = tt;
+    }
+
+E-itself : SameVoice E E
+unfolding ofBits ofFields odd trailingZeros eq
+E-itself =
+    record {
+      pitch = tt;
+      level = tt;
+      pressure = tt;
+      timbre = tt;
+      volume = tt;
+      expression = tt;
+      pan = tt;
+    }
+
+there : AllAmong (C ∷ E ∷ []) (E ∷ C ∷ C ∷ [])
+there zero l = record { place = 1; there = lit< tt; same = C-itself }
+there (suc zero) l = record { place = 0; there = lit< tt; same = E-itself }
+there (suc (suc i)) l = absurd (omega arith)
+
+back : AllAmong (E ∷ C ∷ C ∷ []) (C ∷ E ∷ [])
+back zero l = record { place = 1; there = lit< tt; same = E-itself }
+back (suc zero) l = record { place = 0; there = lit< tt; same = C-itself }
+back (suc (suc zero)) l = record { place = 0; there = lit< tt; same = C-itself }
+back (suc (suc (suc i))) l = absurd (omega arith)
+
+pub same-voices : SameVoices (present bottom-up) (present top-down)
+same-voices = rw (bottom-up-present, top-down-present) (there, back)

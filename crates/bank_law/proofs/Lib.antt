@@ -1,0 +1,5 @@
+pub mod Entries
+pub mod Reads
+pub mod Runs
+pub mod Audible
+pub mod Instances

@@ -1,0 +1,4 @@
+pub mod Calls
+pub mod Present
+pub mod Banks
+pub mod Promises

@@ -1,0 +1,71 @@
+-- `remove_voice` meets its contract: the place is found, then both arrays are closed. Assumes nothing.
+use mathlib.Core.Path.{_≡_, sym, ap, _∙_}
+use native.Mathlib.Omega.{arith}
+use Rattle.voice_bank.proofs.Answers.{places-most, remove-missing, remove-done}
+use borrow.Author.Needs.{needs}
+use Rattle.voice_bank.proofs.remove_voice.Statement.{statement}
+use Rattle.voice_bank.proofs.remove_voice.Tie as tie
+
+held-requires : tie.Need-held-requires
+held-requires c κs = search needs
+
+place-in-requires : tie.Need-place-in-requires
+place-in-requires c κs =
+    let h = c .before in
+    places-most (h .before .args .bank .count) (h .held .ensures)
+
+refused-requires : tie.Need-refused-requires
+refused-requires c κs = search needs
+
+returns : tie.Need-returns
+returns c =
+    let found = c .before .before in
+    let h = found .before .before in
+    let e =
+    remove-missing _ _ (h .held .ensures) (found .place-in .ensures) (c .before .if1 .taken) in
+    (c .refused .ensures .0 ∙ sym e, simp (c .refused .ensures .1, e))
+
+sub-ids-closed : tie.Need-sub-ids-closed
+sub-ids-closed c = search needs
+
+ids-closed-requires : tie.Need-ids-closed-requires
+ids-closed-requires c κs =
+    let test = c .before in
+    let h = test .before .before .before in
+    (omega (arith, test .if1 .left), omega (arith, places-most (h .before .args .bank .count) (h .held .ensures), test .if1 .left))
+
+sub-voices-closed : tie.Need-sub-voices-closed
+sub-voices-closed c = search needs
+
+voices-closed-requires : tie.Need-voices-closed-requires
+voices-closed-requires c κs =
+    let test = c .before .before in
+    let h = test .before .before .before in
+    (omega (arith, test .if1 .left), omega (arith, places-most (h .before .args .bank .count) (h .held .ensures), test .if1 .left))
+
+sub-t11 : tie.Need-sub-t11
+sub-t11 c = search needs
+
+returns-2 : tie.Need-returns-2
+returns-2 c =
+    let test = c .before .before .before in
+    let found = test .before in
+    let h = found .before .before in
+    let e =
+    remove-done _ _ (h .held .ensures) (found .place-in .ensures) (test .if1 .left) in
+    (sym e, simp (c .before .ids-closed .ensures, c .voices-closed .ensures, ← h .held .ensures, ← found .place-in .ensures, e))
+
+pub remove-voice-spec : {M : Type 1} → statement M
+remove-voice-spec =
+    tie.close
+    (tie.spec
+    held-requires
+    place-in-requires
+    refused-requires
+    returns
+    sub-ids-closed
+    ids-closed-requires
+    sub-voices-closed
+    voices-closed-requires
+    sub-t11
+    returns-2)
