@@ -43,7 +43,7 @@ use Rattle.bank_law.specs.Promises.{Holds, SameVoice, AllAmong, SameVoic
 use Rattle.bank_law.specs.Promises.{OneReading, SameSound, F32Call, F32Reading}
 use Rattle.bank_law.specs.Promises.{NotAudible, OrderNotAudible}
 use Rattle.bank_law.proofs.Entries.{ids, map-append, taken-out, changed-at, all-set}
-use Rattle.bank_law.proofs.Reads.{lentAnswer, read-answer, reply-without-voices}
+use Rattle.bank_law.proofs.Reading.{lentAnswer, read-answer, reply-without-voices}
 use Rattle.bank_law.proofs.Runs.{holds-the-present}
 
 -- ---- of two equal numbers neither is lower
@@ -60,6 +60,9 @@ not-lower x y p q e = go (lt y x) refl
 
 same-real : (x y : Float) → T (real binary32 x) → T (real binary32 y) → T (eq x y) → NoLower x y
 same-real x y p q e = not-lower x y (real-number binary32 x p) (real-number binary32 y q) e
+
+same-itself : (x : Float) → T (real binary32 x) → T (eq x x)
+same-itself x p = eq-refl-f binary32 x (real-number binary32 x p)
 
 -- ---- the same voice matches
 same-matched : (a b : MaskVoice) → RealVoice a → RealVoice b → SameVoice a b → Matched a b
@@ -149,13 +152,13 @@ module _ (m n : ℕ) (curve : List Float) (config : MaskConfig) (table : List Fl
             width = eq-refl-f binary32 _ (numbers.width-number config p q s);
             partials = refl;
             rolloff =
-                eq-refl-f binary32 _ (real-number binary32 _ (numbers.rolloff-real config p q s));
+                same-itself (config .«harmonic_rolloff_db_per_octave») (numbers.rolloff-real config p q s);
             motion =
                 record {
                   shape = refl;
                   depth =
-                      eq-refl-f binary32 _
-                      (real-number binary32 _ (numbers.motion-depth-real config p q s));
+                      same-itself (config .motion .«depth_db»)
+                      (numbers.motion-depth-real config p q s);
                   phase = eq-refl-f binary32 _ (numbers.phase-number config p q s);
                   size = eq-refl-f binary32 _ (numbers.motion-size-number config p q s);
                 };

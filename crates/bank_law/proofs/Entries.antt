@@ -3,7 +3,7 @@
 use mathlib.Core.Path.{_≡_, refl, sym, ap, _∙_}
 use mathlib.Core.Bool.{Bool, true, false, cond, not, _||_}
 use mathlib.Core.List.{List, [], _∷_, _++_, map}
-use Prim.Native.Nat.{ℕ, zero, suc, _+_, _<_}
+use Prim.Native.Nat.{ℕ, zero, suc, compare·suc-suc}
 use native.Mathlib.Omega.{arith}
 use lib.Dec.{eqb, ltb}
 use lib.ListN.{length, take, drop, set}
@@ -98,7 +98,7 @@ has-place id (e ∷ es) = rw (place-next id (e .id) (ids es)) (go (eqb (e .id) i
     go : (b : Bool) → has id es ≡ ltb p (length es)
         → (b || has id es) ≡ ltb (cond b 0 (suc p)) (suc (length es))
     go true r = sym (lt-ltb 0 (suc (length es)) (omega arith))
-    go false r = r
+    go false r = r ∙ sym (simp compare·suc-suc)
 
 -- ---- both lists lose the entry at the id's place
 pub record TakenOut (id : ℕ) (es : List Entry) : Type 0 where

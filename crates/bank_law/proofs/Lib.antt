@@ -1,5 +1,5 @@
 pub mod Entries
-pub mod Reads
+pub mod Reading
 pub mod Runs
 pub mod Audible
 pub mod Instances

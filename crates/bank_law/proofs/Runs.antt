@@ -36,7 +36,7 @@ use Rattle.bank_law.specs.Promises.{Holds, HoldsThePresent, AnswersByThe
 use Rattle.bank_law.proofs.Entries.{ids, has-place, taken-out, changed-at}
 use Rattle.bank_law.proofs.Entries.{map-length, map-append, map-take, map-without, map-set}
 use Rattle.bank_law.proofs.Entries.{all-set}
-use Rattle.bank_law.proofs.Reads.{read-answer}
+use Rattle.bank_law.proofs.Reading.{read-answer}
 
 abbrev Within : List MaskVoice → Type 0
 Within voices = All (λ v. T (voiceAccepted v)) voices
@@ -86,7 +86,7 @@ module _ (bank : Bank) (es : List Entry) (f : Fit bank es) where
   unfolding changeReply replyBy
   same-change id v = rw (same-holds id) refl
 
-  pub holds-entries : Holds bank (voices es)
+  holds-entries : Holds bank (voices es)
   holds-entries =
       let n = map-length (λ (e : Entry). e .voice) es in
       record {
