@@ -279,8 +279,10 @@ pub reads-sound :
 reads-sound a-calls b-calls fa fb a b f same one no-nan =
     let p = holds-the-present a-calls in
     let q = holds-the-present b-calls in
-    rw (read-answer (run empty a-calls) (present a-calls) a p,
-    read-answer (run empty b-calls) (present b-calls) b q)
+    rw (
+      read-answer (run empty a-calls) (present a-calls) a p,
+      read-answer (run empty b-calls) (present b-calls) b q,
+    )
     (sounds (present a-calls) (present b-calls) (hears p fa) (hears q fb) a b f same one no-nan)
 
 pub order-not-audible : OrderNotAudible

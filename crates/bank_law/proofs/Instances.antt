@@ -11,6 +11,7 @@ use lib.Ieee.{eq, lt, le, ofBits, ofFields, odd, fits}
 use Rattle.float32.specs.Order.{finite, within}
 use Rattle.scene.specs.declared.MaskVoice.{MaskVoice}
 use Rattle.scene.specs.Accepted.{voiceAccepted, pitchAccepted}
+use Rattle.scene.specs.F32.{F32Voice}
 use Rattle.voice_bank.specs.Banks.{empty}
 use Rattle.chord_law.specs.Curves.{NoNan}
 use Rattle.chord_law.proofs.Instances.{C, E, G}
@@ -77,3 +78,50 @@ back (suc (suc (suc i))) l = absurd (omega arith)
 
 pub same-voices : SameVoices (present bottom-up) (present top-down)
 same-voices = rw (bottom-up-present, top-down-present) (there, back)
+
+-- ---- the promise at the two lists
+C-f32 : F32Voice C
+unfolding ofBits ofFields odd trailingZeros fits
+C-f32 =
+    record {
+      pitch = tt;
+      level = tt;
+      pressure = tt;
+      timbre = tt;
+      volume = tt;
+      expression = tt;
+      pan = tt;
+    }
+
+E-f32 : F32Voice E
+unfolding ofBits ofFields odd trailingZeros fits
+E-f32 =
+    record {
+      pitch = tt;
+      level = tt;
+      pressure = tt;
+      timbre = tt;
+      volume = tt;
+      expression = tt;
+      pan = tt;
+    }
+
+G-f32 : F32Voice G
+unfolding ofBits ofFields odd trailingZeros fits
+G-f32 =
+    record {
+      pitch = tt;
+      level = tt;
+      pressure = tt;
+      timbre = tt;
+      volume = tt;
+      expression = tt;
+      pan = tt;
+    }
+
+pub both-ways-sound-the-same :
+    (a b : Reading) → F32Reading a → OneReading a b → NoNan (a .curve)
+    → SameSound (answerOf (run empty bottom-up) (read a)) (answerOf (run empty top-down) (read b))
+both-ways-sound-the-same a b f one no-nan =
+    order-not-audible bottom-up top-down (C-f32, (E-f32, tt))
+    (E-f32, (G-f32, (C-f32, (tt, (C-f32, (G-f32, tt)))))) a b f same-voices one no-nan

@@ -78,8 +78,11 @@ pub read-answer :
     (bank : Bank) (voices : List MaskVoice) (reading : Reading) → Holds bank voices
     → answerOf bank (read reading) ≡ lentAnswer voices reading
 read-answer bank voices reading h =
-    rw (read-reply (length (reading .left)) (length (reading .right)) (reading .curve)
-    (reading .config) (reading .table) bank voices h, h .are) refl
+    rw (
+      read-reply (length (reading .left)) (length (reading .right)) (reading .curve)
+          (reading .config) (reading .table) bank voices h,
+      h .are,
+    ) refl
 
 -- ---- voices that are all accepted
 module _ (voices : List MaskVoice) (few : length voices ≤ MOST-VOICES)
@@ -95,8 +98,11 @@ module _ (voices : List MaskVoice) (few : length voices ≤ MOST-VOICES)
       → voicesReply voices (length voices) lengths ≡ cond (not lengths) (refused LENGTH 0) (done [])
   unfolding voicesReply
   all-accepted lengths =
-      rw (none-outside, le-ltb MOST-VOICES (length voices) few,
-      le-ltb (length voices) (length voices) (le-refl (length voices))) refl
+      rw (
+        none-outside,
+        le-ltb MOST-VOICES (length voices) few,
+        le-ltb (length voices) (length voices) (le-refl (length voices)),
+      ) refl
 
   pub reply-without-voices :
       (m n : ℕ) (curve : List Float) (config : MaskConfig) (table : List Float)

@@ -18,6 +18,10 @@ pub record Reading : Type 0 where
   pub config : MaskConfig
   pub table : List Float
 
+abbrev pub readingOf : List Float → List Float → List Float → MaskConfig → List Float → Reading
+readingOf l r curve config table =
+    record { left = l; right = r; curve = curve; config = config; table = table }
+
 -- "calls to add one, take one out, change one, and read the two masks"
 pub data Call : Type 0 where
   add : ℕ → MaskVoice → Call
@@ -31,15 +35,15 @@ pub record Answer : Type 0 where
   pub left : List Float
   pub right : List Float
 
+abbrev pub answerWith : Reply → List Float → List Float → Answer
+answerWith reply l r = record { reply = reply; left = l; right = r }
+
 -- of a call that writes no slice
 abbrev pub told : Reply → Answer
-told reply = record { reply = reply; left = []; right = [] }
+told reply = answerWith reply [] []
 
 -- of a read that is to write these masks
 abbrev pub heard : Reading → Reply → (Side → List Float) → Answer
 heard reading reply mask =
-    record {
-      reply = reply;
-      left = written reply (mask left) (reading .left);
-      right = written reply (mask right) (reading .right);
-    }
+    answerWith reply (written reply (mask left) (reading .left))
+    (written reply (mask right) (reading .right))

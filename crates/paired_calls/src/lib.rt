@@ -1,5 +1,6 @@
 // Two calls made one after the other on lent buffers, with a law on the two as the contract: the
-// chord law, and that a prepared block gives the stereo call the prepared table.
+// chord law, that the order of arrival in a bank of voices is not audible, and that a prepared block
+// gives the stereo call the prepared table.
 ghost use mathlib.Core.Path.{_≡_};
 ghost use lib.ListN.{length};
 ghost use Rattle.answer.specs.Reply.{ofOutcome, ofPrepared};
@@ -7,16 +8,21 @@ ghost use Rattle.prepared_law.specs.Calls.{newOf, stereoOf, builtOf, newReply};
 ghost use Rattle.prepared_law.specs.Law.{BuiltByBlock};
 ghost use Rattle.chord_law.specs.Calls.{callOf, replyTo, wholeWith};
 ghost use Rattle.chord_law.specs.Law.{LawHolds};
+ghost use Rattle.bank_masks.specs.Reading.{readReply};
+ghost use Rattle.bank_law.specs.Calls.{readingOf, answerWith};
+ghost use Rattle.bank_law.specs.Promises.{BanksNotAudible};
 use answer::Outcome;
 use answer::Prepared;
+use bank_masks::read_masks;
 use limits::lengths::MOST_VOICES;
 use mask_calls::build_stereo_masks_with_prepared_spectrum;
 use mask_calls::build_stereo_masks_with_voices_precomputed;
 use processing_calls::PreparedSpectrum;
 use scene::MaskConfig;
 use scene::MaskVoice;
+use voice_bank::Bank;
 
-// What two stereo calls answer.
+// What two calls answer.
 pub struct Outcomes {
     pub a: Outcome,
     pub b: Outcome,
@@ -70,6 +76,37 @@ pub fn two_stereo_calls(
         b_config,
         b_table,
     );
+    Outcomes { a: a, b: b }
+}
+
+// Reads the masks of two banks with one curve, the same settings and one table.
+pub fn read_two_banks(
+    a_left: &mut [f32],
+    a_right: &mut [f32],
+    a_bank: Bank,
+    b_left: &mut [f32],
+    b_right: &mut [f32],
+    b_bank: Bank,
+    curve: &[f32],
+    config: MaskConfig,
+    table: &[f32],
+) -> Outcomes
+    ensures { λ r. ⌜ ofOutcome (r .a) ≡ readReply (length (now («a_left» .entry)))
+        (length (now («a_right» .entry))) (now (curve .entry)) «a_bank» config
+        (now (table .entry)) ⌝ }
+    ensures { λ r. ⌜ ofOutcome (r .b) ≡ readReply (length (now («b_left» .entry)))
+        (length (now («b_right» .entry))) (now (curve .entry)) «b_bank» config
+        (now (table .entry)) ⌝ }
+    ensures { λ r. ⌜ BanksNotAudible «a_bank» «b_bank»
+        (readingOf (now («a_left» .entry)) (now («a_right» .entry)) (now (curve .entry)) config
+        (now (table .entry)))
+        (readingOf (now («b_left» .entry)) (now («b_right» .entry)) (now (curve .entry)) config
+        (now (table .entry)))
+        (answerWith (ofOutcome (r .a)) (now («a_left» .exit)) (now («a_right» .exit)))
+        (answerWith (ofOutcome (r .b)) (now («b_left» .exit)) (now («b_right» .exit))) ⌝ }
+{
+    let a = read_masks(a_left, a_right, curve, a_bank, config, table);
+    let b = read_masks(b_left, b_right, curve, b_bank, config, table);
     Outcomes { a: a, b: b }
 }
 

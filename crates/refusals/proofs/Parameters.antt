@@ -28,7 +28,7 @@ use Rattle.scene.proofs.MaskConfig as config-type
 use Rattle.scene.proofs.Scene as scene-type
 use Rattle.scene.specs.F32.{F32Pitch, F32Voice, F32Settings, F32Voices}
 
-held : {b : Bool} → b ≡ true → T b
+pub held : {b : Bool} → b ≡ true → T b
 held e = subst T (sym e) tt
 
 each-at : (d : Type 0) (f : d → List Val → Fml) (xs : List d) (us : List Val) → shadow (each d f xs us) → (i : ℕ) (e : d) → i < length xs → (u : Val) × shadow (f (getD xs i e) (u ∷ []))
@@ -63,7 +63,7 @@ voices-f32 n voices vs told i h =
 
 -- the same of an array that is a field of a struct, where each voice stands as the tuple of its
 -- fields
-each-into : (d e : Type 0) (g : d → e) (f : e → List Val → Fml) (xs : List d) (us : List Val) → shadow (each e f (map g xs) us) → (i : ℕ) (x : d) → i < length xs → (u : Val) × shadow (f (g (getD xs i x)) (u ∷ []))
+pub each-into : (d e : Type 0) (g : d → e) (f : e → List Val → Fml) (xs : List d) (us : List Val) → shadow (each e f (map g xs) us) → (i : ℕ) (x : d) → i < length xs → (u : Val) × shadow (f (g (getD xs i x)) (u ∷ []))
 each-into d e g f [] us s i z h = absurd (not-suc-le-zero h)
 each-into d e g f (x ∷ xs) [] s i z h = absurd s
 each-into d e g f (x ∷ xs) (u ∷ us) s zero z h = (u, s .0)
