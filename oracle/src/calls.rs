@@ -2,12 +2,13 @@
 //! what the Rust does, or what its change request says where the Rust has no such call. A refused
 //! call changes nothing.
 
-use crate::refusals::{self as refuse, Outcome, Refusal, within};
+use crate::refusals::{self as refuse, MAX_VOICES, Outcome, Refusal, within};
 use crate::scene_records::{self, StoredScene};
 use crate::spectral_dsp::{
     self as dsp, MANUAL_MASK_POINTS, MIDI_NOTES, MaskConfig, MaskVoice, MaskWorkspace,
     MotionConfig, processing,
 };
+use crate::voice_bank::{Bank, place_of};
 
 /// What a call for a single number answers.
 pub type Answer = Result<f32, Refusal>;
@@ -297,4 +298,62 @@ pub fn read_scene(record: &[u8]) -> (Outcome, StoredScene) {
         Ok(scene) => (Ok(()), scene),
         Err(refusal) => (Err(refusal), StoredScene::blank()),
     }
+}
+
+/// The bank goes in by value and comes back beside the outcome, as it came where the call is
+/// refused. The voice joins at the end.
+pub fn add_voice<V>(mut bank: Bank<V>, id: u16, voice: V) -> (Outcome, Bank<V>)
+where
+    V: Copy + Into<MaskVoice>,
+{
+    let tests = || {
+        refuse::room(bank.len())?;
+        refuse::voices(&[voice.into()])?;
+        refuse::new_id(place_of(&bank, id))
+    };
+    let outcome = tests();
+    if outcome.is_ok() {
+        bank.push((id, voice));
+    }
+    (outcome, bank)
+}
+
+/// Takes a voice out; the others keep their order.
+pub fn remove_voice<V>(mut bank: Bank<V>, id: u16) -> (Outcome, Bank<V>) {
+    let place = refuse::present_id(place_of(&bank, id));
+    if let Ok(place) = place {
+        bank.truncate(MAX_VOICES);
+        bank.remove(place);
+    }
+    (place.map(|_| ()), bank)
+}
+
+/// Puts another voice in the place of the one with this id.
+pub fn change_voice<V>(mut bank: Bank<V>, id: u16, voice: V) -> (Outcome, Bank<V>)
+where
+    V: Copy + Into<MaskVoice>,
+{
+    let tests = || {
+        refuse::voices(&[voice.into()])?;
+        refuse::present_id(place_of(&bank, id))
+    };
+    let place = tests();
+    if let Ok(place) = place {
+        bank.truncate(MAX_VOICES);
+        bank[place].1 = voice;
+    }
+    (place.map(|_| ()), bank)
+}
+
+/// The stereo call on the voices of a bank.
+pub fn read_masks<V: Copy + Into<MaskVoice>>(
+    left: &mut [f32],
+    right: &mut [f32],
+    manual_mask_db: &[f32],
+    bank: &[(u16, V)],
+    config: MaskConfig,
+    table: &[f32],
+) -> Outcome {
+    let voices: Vec<MaskVoice> = bank.iter().map(|&(_, voice)| voice.into()).collect();
+    build_stereo_masks_with_voices_precomputed(left, right, manual_mask_db, &voices, config, table)
 }

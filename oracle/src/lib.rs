@@ -4,6 +4,7 @@
 
 #![forbid(unsafe_code)]
 
+pub mod bank_calls;
 pub mod bignum;
 pub mod builders;
 pub mod calls;
@@ -21,6 +22,7 @@ pub mod refusals;
 pub mod scene_records;
 pub mod scenes;
 pub mod tables;
+pub mod voice_bank;
 
 #[path = "oiko_dsp/lib.rs"]
 pub mod oiko_dsp;

@@ -165,7 +165,8 @@ fn odd_pitch(random: &mut Random) -> Pitch {
     }
 }
 
-fn odd_voice(random: &mut Random, voice: &mut MaskVoice) {
+/// Brings a number of a voice to its limits or past them.
+pub fn odd_voice(random: &mut Random, voice: &mut MaskVoice) {
     let free = |random: &mut Random| match random.once_in(2) {
         true => random.float(),
         false => random.pick(&around_finite()),

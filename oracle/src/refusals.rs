@@ -95,6 +95,11 @@ pub fn count(voices: &[MaskVoice]) -> Outcome {
     require(voices.len() <= MAX_VOICES, 3)
 }
 
+/// 3: whether one more voice has room beside this many.
+pub fn room(voices: usize) -> Outcome {
+    require(voices < MAX_VOICES, 3)
+}
+
 /// 4
 pub fn length(holds: bool) -> Outcome {
     require(holds, 4)
@@ -155,6 +160,19 @@ pub fn overlap(overlap: usize, length: usize) -> Outcome {
 pub fn record<T>(read: Option<T>) -> Result<T, Refusal> {
     read.ok_or(Refusal {
         number: 9,
+        place: 0,
+    })
+}
+
+/// 10: an id that is added has no place yet.
+pub fn new_id(place: Option<usize>) -> Outcome {
+    require(place.is_none(), 10)
+}
+
+/// 10: the place of an id that is taken out or changed.
+pub fn present_id(place: Option<usize>) -> Result<usize, Refusal> {
+    place.ok_or(Refusal {
+        number: 10,
         place: 0,
     })
 }
