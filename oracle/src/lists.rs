@@ -10,6 +10,7 @@ mod processing;
 mod scene_records;
 pub mod slices;
 mod spectral_dsp;
+mod voice_banks;
 
 use crate::calls::Answer;
 use crate::edges::{around_finite, around_limits};
@@ -129,6 +130,7 @@ pub const PROGRAMS: [Program; 3] = [
             Named::new("masks", masks::list),
             Named::new("mask_refusals", masks::refusals),
             Named::new("scene_records", scene_records::list),
+            Named::new("voice_banks", voice_banks::list),
         ],
     },
     Program {

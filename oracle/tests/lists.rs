@@ -102,6 +102,17 @@ fn both_calls_on_scene_records_and_their_refusals_show_twenty_times() {
     shows("scene_records", &rows);
 }
 
+#[test]
+fn the_calls_on_a_bank_and_their_refusals_show_twenty_times() {
+    let rows: [(&str, &[u32]); 4] = [
+        ("add_voice", &[0, 3, 5, 10]),
+        ("remove_voice", &[0, 10]),
+        ("change_voice", &[0, 5, 10]),
+        ("read_masks", &[0, 1, 2, 3, 4, 5, 6]),
+    ];
+    shows("voice_banks", &rows);
+}
+
 /// The forms of the stored voices of each record, in the format that README.md states.
 fn forms(calls: &[u8]) -> Vec<Vec<u32>> {
     let words = calls

@@ -34,7 +34,7 @@ fn call_words(list: &mut List, call: &Call, builder: Builder) {
 }
 
 /// A mask's hash and, where it has two bins, four of them.
-fn mask_text(mask: &[f32]) -> String {
+pub fn mask_text(mask: &[f32]) -> String {
     let n = mask.len();
     let bins = match n {
         0 | 1 => &[][..],
