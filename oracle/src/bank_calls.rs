@@ -5,7 +5,7 @@ use crate::calls;
 use crate::mask_calls::odd_voice;
 use crate::random::Random;
 use crate::record_calls::scene;
-use crate::refusals::{self as refuse, Outcome};
+use crate::refusals::{self as refuse, MAX_VOICES, Outcome};
 use crate::spectral_dsp::MaskVoice;
 use crate::voice_bank::Bank;
 
@@ -82,7 +82,13 @@ pub fn ids(random: &mut Random, count: usize) -> Vec<u16> {
     (0..count).map(id).collect()
 }
 
-/// A call with one of these ids: of few, so that each is often present and often missing.
+/// So few that each is often present and often missing.
+pub fn few_ids(random: &mut Random) -> Vec<u16> {
+    let count = 1 + random.below(6);
+    ids(random, count)
+}
+
+/// A call with one of these ids.
 pub fn step(random: &mut Random, ids: &[u16]) -> Step {
     let id = random.pick(ids);
     match random.below(5) {
@@ -96,4 +102,83 @@ pub fn step(random: &mut Random, ids: &[u16]) -> Step {
 pub fn filling(random: &mut Random, ids: &[u16]) -> Vec<Step> {
     let add = |&id| Step::Add(id, good_voice(random));
     ids.iter().map(add).collect()
+}
+
+/// A list of calls: with few ids, or with so many that the bank comes to be full and stays nearly
+/// so.
+pub fn steps(random: &mut Random) -> Vec<Step> {
+    let many = random.once_in(8);
+    let ids = match many {
+        true => ids(random, 300),
+        false => few_ids(random),
+    };
+    let mut steps = match many {
+        true => filling(random, &ids[..MAX_VOICES - 2]),
+        false => Vec::new(),
+    };
+    let more = 10 + random.below(50);
+    steps.extend((0..more).map(|_| step(random, &ids)));
+    steps
+}
+
+/// In any order.
+fn shuffle<T>(random: &mut Random, all: &mut [T]) {
+    for end in (2..=all.len()).rev() {
+        all.swap(end - 1, random.below(end));
+    }
+}
+
+/// These voices in another order, some of them several times, but at most 120 in all.
+fn repeated(random: &mut Random, voices: &[MaskVoice]) -> Vec<MaskVoice> {
+    let mut all = voices.to_vec();
+    if !voices.is_empty() {
+        let most = 120_usize.saturating_sub(all.len());
+        let again = random.below(8).min(most);
+        all.extend((0..again).map(|_| random.pick(voices)));
+    }
+    shuffle(random, &mut all);
+    all
+}
+
+/// Calls that bring a voice under an id, past the two ids that are never present after them.
+fn arrival(
+    random: &mut Random,
+    id: u16,
+    voice: MaskVoice,
+    [spare, missing]: [u16; 2],
+) -> Vec<Step> {
+    let (good, bad) = (good_voice(random), bad_voice(random));
+    let mut steps = match random.below(4) {
+        0 => vec![Step::Add(id, good), Step::Change(id, voice)],
+        1 => vec![Step::Add(id, good), Step::Remove(id), Step::Add(id, voice)],
+        2 => vec![
+            Step::Add(spare, good),
+            Step::Add(id, voice),
+            Step::Remove(spare),
+        ],
+        _ => vec![Step::Add(id, voice)],
+    };
+    let refused = [
+        Step::Add(id, good),
+        Step::Add(missing, bad),
+        Step::Change(id, bad),
+        Step::Change(missing, good),
+        Step::Remove(missing),
+    ];
+    if random.once_in(2) {
+        steps.push(random.pick(&refused));
+    }
+    steps
+}
+
+/// A list of calls, refused ones among them, after which an empty bank has these voices and no
+/// others: in another order each time, and some of them under several ids.
+pub fn reaching(random: &mut Random, voices: &[MaskVoice]) -> Vec<Step> {
+    let all = repeated(random, voices);
+    let ids = ids(random, all.len() + 2);
+    let (others, ids) = ids.split_at(2);
+    let others = [others[0], others[1]];
+    let each = ids.iter().zip(all);
+    each.flat_map(|(&id, voice)| arrival(random, id, voice, others))
+        .collect()
 }

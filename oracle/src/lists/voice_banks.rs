@@ -31,7 +31,7 @@
 use super::masks::mask_text;
 use super::slices::byte_hash;
 use super::{List, outcome_text};
-use crate::bank_calls::{Step, bad_voice, filling, good_voice, ids, step};
+use crate::bank_calls::{Step, bad_voice, few_ids, filling, good_voice, ids, step};
 use crate::calls;
 use crate::mask_calls::{Call, chord, fault, other_table};
 use crate::numbers::bits_of;
@@ -207,8 +207,7 @@ fn accepted(random: &mut Random) -> Call {
 
 /// Few ids, and readings after some of the calls.
 fn few(replay: &mut Replay, random: &mut Random) {
-    let count = 1 + random.below(6);
-    let ids = ids(random, count);
+    let ids = few_ids(random);
     replay.new_bank();
     for _ in 0..10 + random.below(30) {
         let step = step(random, &ids);
