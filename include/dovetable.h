@@ -4,11 +4,12 @@
  *
  * An open call returns 0 when it is done, else the number of a refusal (DovetableRefusal). When
  * done it writes its results and leaves *place alone; when refused it writes *place and nothing
- * else: an index where the refusal has one, else 0. dovetable_read_scene writes nothing and returns
- * the number, the place and its result in one struct. The comment of a call lists its tests under
- * the number of the refusal that a failed test gives. They run in the order of the numbers, but 9
- * runs first, and of several bad entries the lowest is named. NaN is outside every limit; the ends
- * of a limit are inside.
+ * else: an index where the refusal has one, else 0. dovetable_read_scene and the three calls that
+ * change a bank of voices write nothing and return the number, the place and their result in one
+ * struct; dovetable_new_bank returns its result and is never refused. The comment of a call lists
+ * its tests under the number of the refusal that a failed test gives. They run in the order of the
+ * numbers, but 9 runs first, and of several bad entries the lowest is named. NaN is outside every
+ * limit; the ends of a limit are inside.
  *
  * A slice is passed as a pointer and the number of its entries, all of which must exist. A null
  * pointer with 0 entries is an empty slice. Memory that a call writes must not overlap anything
@@ -32,7 +33,7 @@ enum DovetableRefusal {
     DOVETABLE_REFUSED_SIZE_OR_RATE = 1,
     /* a setting or lone number outside its limits */
     DOVETABLE_REFUSED_SETTING = 2,
-    /* over 128 voices */
+    /* over 128 voices, or a voice added to a bank of 128 */
     DOVETABLE_REFUSED_VOICE_COUNT = 3,
     /* a slice of the wrong length */
     DOVETABLE_REFUSED_LENGTH = 4,
@@ -45,7 +46,9 @@ enum DovetableRefusal {
     /* overlap not in 1..16 or not dividing the length */
     DOVETABLE_REFUSED_OVERLAP = 8,
     /* a record of the wrong length, or with a forbidden bit set */
-    DOVETABLE_REFUSED_RECORD = 9
+    DOVETABLE_REFUSED_RECORD = 9,
+    /* an id that is in the bank already, or is not in it */
+    DOVETABLE_REFUSED_ID = 10
 };
 
 enum {
@@ -119,6 +122,23 @@ struct DovetableSceneRead {
     uint32_t number; /* 0, or a DovetableRefusal */
     size_t place;
     struct DovetableScene scene;
+};
+
+/* A bank of voices: a block of fixed size that the caller owns. It may be copied and kept, but its
+ * fields are the calls' own and are not to be written: dovetable_new_bank gives the first bank, and
+ * each other one is handed back by a call. */
+struct DovetableBank {
+    uint16_t ids[DOVETABLE_MOST_VOICES];
+    struct DovetableVoice voices[DOVETABLE_MOST_VOICES]; /* the note of a voice by hertz is 0 */
+    size_t count; /* of the places in use, from the first, in the order of arrival */
+};
+
+/* What the calls that change a bank return. When done: 0 and the changed bank. When refused: the
+ * number and the bank as it came. The place is always 0. */
+struct DovetableBanked {
+    uint32_t number; /* 0, or a DovetableRefusal */
+    size_t place;
+    struct DovetableBank bank;
 };
 
 /* ---- Single numbers: when done, each writes its value. ---- */
@@ -262,6 +282,42 @@ uint32_t dovetable_write_scene(uint8_t *record, size_t bytes, struct DovetableSc
  * 3 bits zero, and the note bits zero in every voice by hertz; then, on the fields, 1, size, rate;
  * 2, every other setting; 3, at most 128 voices; 5, the voices. */
 struct DovetableSceneRead dovetable_read_scene(const uint8_t *record, size_t bytes);
+
+/* ---- A bank of voices: notes that come and go ----
+ *
+ * A bank holds up to 128 voices, each under an id of its own, which may be any uint16_t. It goes in
+ * by value and is handed back, as it came where the call is refused: 'bank = banked.bank' is right
+ * after every call. Voices stand in the order in which they were added. The order is not audible:
+ * two banks of the same voices, under whatever ids and however often, give equal masks with the
+ * same settings and table and the same curve without NaN.
+ *
+ * Whatever a bank holds, no call reads or writes outside it. Where its count is above 128, adding
+ * and reading are refused under 3; taking out and changing look at the first 128 voices, keep no
+ * others when done, and count them anew. Where an id stands several times, the first is meant.
+ */
+
+/* The empty bank: 0 in every field. */
+struct DovetableBank dovetable_new_bank(void);
+
+/* Adds a voice behind the others. Tests: 3, under 128 voices in the bank; 5, the voice; 10, an id
+ * that is not in the bank. */
+struct DovetableBanked dovetable_add_voice(struct DovetableBank bank, uint16_t id,
+                                           struct DovetableVoice voice);
+
+/* Takes a voice out; the others keep their order. Tests: 10, an id that is in the bank. */
+struct DovetableBanked dovetable_remove_voice(struct DovetableBank bank, uint16_t id);
+
+/* Puts another voice in the place of the one with this id. Tests: 5, the voice; 10, an id that is
+ * in the bank. */
+struct DovetableBanked dovetable_change_voice(struct DovetableBank bank, uint16_t id,
+                                              struct DovetableVoice voice);
+
+/* The masks of the bank's voices: dovetable_build_stereo_masks_with_voices_precomputed on them,
+ * with its tests, 1 to 6, and its places. Writes: every entry of each mask. */
+uint32_t dovetable_read_masks(float *left, size_t left_bins, float *right, size_t right_bins,
+                              const float *manual_mask_db, size_t points,
+                              struct DovetableBank bank, struct DovetableSettings settings,
+                              const float *table, size_t entries, size_t *place);
 
 /* ---- The functions below the calls: defined for every argument, never refused ---- */
 

@@ -1,12 +1,13 @@
 /*
- * A chord, its fifth by hertz, stored as a record, read again and built as stereo masks; and a
- * refusal. From the repository's root, once the library is there:
+ * A chord, its fifth by hertz, stored as a record, read again and built as stereo masks; a bank of
+ * voices that come and go; and refusals. From the repository's root, once the library is there:
  *
  *     cc -std=c11 -I include bindings/c/example.c \
  *         target/staticlib/libspectral_dsp_c.a -o target/example
  *
- * Prints a line for each of a few bins: the bin, its left and its right gain, with the nine digits
- * that identify a float. Exits 1 if a call does not answer as it should.
+ * Prints a line for each of a few bins, of the chord and then of the bank: the bin, its left and
+ * its right gain, with the nine digits that identify a float. Exits 1 if a call does not answer as
+ * it should.
  */
 #include "dovetable.h"
 
@@ -54,9 +55,30 @@ static uint32_t masks_of(const struct DovetableVoice *chord, struct DovetableSet
         BINS, place);
 }
 
-int main(void) {
-    /* The bins that are closest to the three voices, one between them, and the last. */
+/* A bank after two voices came, the first was changed to the third, and the second went; the number
+ * is that of the call that refuses, if any. */
+static struct DovetableBanked played(const struct DovetableVoice *chord) {
+    struct DovetableBanked banked = dovetable_add_voice(dovetable_new_bank(), 1, chord[0]);
+    if (!banked.number) {
+        banked = dovetable_add_voice(banked.bank, 2, chord[1]);
+    }
+    if (!banked.number) {
+        banked = dovetable_change_voice(banked.bank, 1, chord[2]);
+    }
+    return banked.number ? banked : dovetable_remove_voice(banked.bank, 2);
+}
+
+/* Prints the gains of the bins that are closest to the three voices, of one between them, and of
+ * the last. */
+static void print_gains(void) {
     static const size_t shown[] = {45, 50, 56, 67, BINS - 1};
+    for (size_t i = 0; i < sizeof shown / sizeof shown[0]; i++) {
+        size_t bin = shown[i];
+        printf("%4zu  %.9g  %.9g\n", bin, left[bin], right[bin]);
+    }
+}
+
+int main(void) {
     struct DovetableSettings settings = {
         .sample_rate = 48000.0f, .fft_size = SIZE, .note_depth_db = 48.0f,
         .note_layer_enabled = true, .width_cents = 50.0f, .partials = 8,
@@ -76,13 +98,21 @@ int main(void) {
         masks_of(read.scene.voices, read.scene.settings, &place) != DOVETABLE_DONE) {
         return 1;
     }
-    for (size_t i = 0; i < sizeof shown / sizeof shown[0]; i++) {
-        size_t bin = shown[i];
-        printf("%4zu  %.9g  %.9g\n", bin, left[bin], right[bin]);
-    }
+    print_gains();
 
+    struct DovetableBanked banked = played(chord);
+    if (banked.number != DOVETABLE_DONE ||
+        dovetable_read_masks(left, BINS, right, BINS, curve, DOVETABLE_CURVE_POINTS, banked.bank,
+                             settings, table, BINS, &place) != DOVETABLE_DONE) {
+        return 1;
+    }
+    print_gains();
+
+    banked = dovetable_remove_voice(banked.bank, 2);
+    printf("refused: %u at %zu, %zu left\n", (unsigned)banked.number, banked.place,
+           banked.bank.count);
     chord[2].semitones_or_hertz = 20001.0f;
     uint32_t number = masks_of(chord, settings, &place);
     printf("refused: %u at %zu\n", (unsigned)number, place);
-    return number == DOVETABLE_REFUSED_VOICE ? 0 : 1;
+    return number == DOVETABLE_REFUSED_VOICE && banked.number == DOVETABLE_REFUSED_ID ? 0 : 1;
 }

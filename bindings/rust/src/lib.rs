@@ -30,6 +30,7 @@
 //!
 //! The audio thread may make every call but [`processing::PreparedSpectrum::new`], which allocates.
 
+mod bank;
 mod calls;
 mod masks;
 pub mod processing;
@@ -38,6 +39,7 @@ mod refused;
 mod scene;
 pub mod sys;
 
+pub use bank::Bank;
 pub use calls::*;
 pub use masks::*;
 pub use records::*;

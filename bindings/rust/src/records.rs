@@ -1,7 +1,7 @@
 //! Scene records: settings and voices as bytes, to store them. docs/CARD.md has the layout.
 //! In each unsafe block a pointer and a length are those of one slice.
 
-use crate::refused::{Refused, outcome};
+use crate::refused::{Refused, answered, outcome};
 use crate::scene::{MOST_VOICES, MaskConfig, MaskVoice, MotionConfig, MotionShape, Pitch};
 use crate::sys;
 
@@ -142,12 +142,7 @@ pub fn write_scene(record: &mut [u8], scene: &Scene) -> Result<(), Refused> {
 /// [`write_scene`].
 pub fn read_scene(record: &[u8]) -> Result<Scene, Refused> {
     let read = unsafe { sys::dovetable_read_scene(record.as_ptr(), record.len()) };
-    if read.number != 0 {
-        return Err(Refused {
-            number: read.number,
-            place: read.place,
-        });
-    }
+    answered(read.number, read.place)?;
     Ok(Scene {
         config: config_of(&read.scene.settings),
         voices: read.scene.voices.each_ref().map(voice_of),

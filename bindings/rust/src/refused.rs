@@ -5,7 +5,7 @@ use std::fmt;
 /// A refusal: document 01's number and a place. A refused call has changed nothing.
 #[derive(Clone, Copy, Debug, Eq, PartialEq)]
 pub struct Refused {
-    /// 1 to 9.
+    /// 1 to 10.
     pub number: u32,
     /// The index of the voice (5) or entry (6, 7) that is outside its limits, else 0.
     pub place: usize,
@@ -23,6 +23,7 @@ impl Refused {
             7 => "a level, gain or window value outside its limits",
             8 => "overlap not in 1..16 or not dividing the length",
             9 => "a record of the wrong length, or with a forbidden bit set",
+            10 => "an id that is in the bank already, or is not in it",
             _ => "no refusal of document 01",
         }
     }
@@ -41,13 +42,19 @@ impl fmt::Display for Refused {
 
 impl std::error::Error for Refused {}
 
-/// Makes a call that takes a place.
-pub(crate) fn outcome(call: impl FnOnce(&mut usize) -> u32) -> Result<(), Refused> {
-    let mut place = 0;
-    match call(&mut place) {
+/// What a number and a place say.
+pub(crate) fn answered(number: u32, place: usize) -> Result<(), Refused> {
+    match number {
         0 => Ok(()),
         number => Err(Refused { number, place }),
     }
+}
+
+/// Makes a call that takes a place.
+pub(crate) fn outcome(call: impl FnOnce(&mut usize) -> u32) -> Result<(), Refused> {
+    let mut place = 0;
+    let number = call(&mut place);
+    answered(number, place)
 }
 
 /// Makes a call that takes a value and a place.

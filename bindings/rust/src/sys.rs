@@ -57,6 +57,26 @@ pub struct SceneRead {
     pub scene: Scene,
 }
 
+/// A bank of voices as it is passed. The count may be any number, and an id may stand several
+/// times; the calls look at no more than the 128 places.
+#[repr(C)]
+#[derive(Clone, Copy, Debug)]
+pub struct Bank {
+    pub ids: [u16; MOST_VOICES],
+    pub voices: [VoiceRecord; MOST_VOICES],
+    pub count: usize,
+}
+
+/// What a call that changes a bank answers: 0 and the changed bank, or a refusal with its place and
+/// the bank as it came.
+#[repr(C)]
+#[derive(Clone, Copy, Debug)]
+pub struct Banked {
+    pub number: u32,
+    pub place: usize,
+    pub bank: Bank,
+}
+
 unsafe extern "C" {
     pub fn dovetable_exp2_all(xs: *mut f32, n: usize);
     pub fn dovetable_log2_all(xs: *mut f32, n: usize);
@@ -256,4 +276,22 @@ unsafe extern "C" {
         place: &mut usize,
     ) -> u32;
     pub fn dovetable_read_scene(record: *const u8, bytes: usize) -> SceneRead;
+
+    pub safe fn dovetable_new_bank() -> Bank;
+    pub safe fn dovetable_add_voice(bank: Bank, id: u16, voice: VoiceRecord) -> Banked;
+    pub safe fn dovetable_remove_voice(bank: Bank, id: u16) -> Banked;
+    pub safe fn dovetable_change_voice(bank: Bank, id: u16, voice: VoiceRecord) -> Banked;
+    pub fn dovetable_read_masks(
+        left: *mut f32,
+        left_bins: usize,
+        right: *mut f32,
+        right_bins: usize,
+        manual_mask_db: *const f32,
+        points: usize,
+        bank: Bank,
+        settings: Settings,
+        table: *const f32,
+        entries: usize,
+        place: &mut usize,
+    ) -> u32;
 }

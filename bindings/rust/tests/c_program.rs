@@ -48,8 +48,8 @@ fn chord() -> [MaskVoice; 3] {
     ]
 }
 
-/// The masks of the C program's scene.
-fn masks() -> [Vec<f32>; 2] {
+/// The masks of some voices at the C program's settings and curve.
+fn masks(voices: &[MaskVoice]) -> [Vec<f32>; 2] {
     let config = MaskConfig {
         note_depth_db: 48.0,
         width_cents: 50.0,
@@ -69,9 +69,21 @@ fn masks() -> [Vec<f32>; 2] {
     MaskWorkspace::prepare(&mut table, config.sample_rate, config.fft_size).unwrap();
     let mut masks = [table.clone(), table.clone()];
     let [left, right] = &mut masks;
-    build_stereo_masks_with_voices_precomputed(left, right, &curve, &chord(), config, &table)
+    build_stereo_masks_with_voices_precomputed(left, right, &curve, voices, config, &table)
         .unwrap();
     masks
+}
+
+/// The lines are bins, each with the gains that these voices give it.
+fn are_gains(lines: &[&str], voices: &[MaskVoice]) {
+    let [left, right] = masks(voices);
+    for line in lines {
+        let words: Vec<&str> = line.split_whitespace().collect();
+        let bin: usize = words[0].parse().unwrap();
+        let printed: [f32; 2] = [words[1].parse().unwrap(), words[2].parse().unwrap()];
+        let bits = |gains: [f32; 2]| gains.map(f32::to_bits);
+        assert_eq!(bits(printed), bits([left[bin], right[bin]]), "{line}");
+    }
 }
 
 #[test]
@@ -87,17 +99,14 @@ fn the_example_prints_what_the_safe_calls_give() {
     let run = Command::new(&program).output().unwrap();
     assert!(run.status.success());
     let text = String::from_utf8(run.stdout).unwrap();
-    let (bins, refusal) = text.trim_end().rsplit_once('\n').unwrap();
-    assert_eq!(refusal, "refused: 5 at 2");
-    let [left, right] = masks();
-    for line in bins.lines() {
-        let words: Vec<&str> = line.split_whitespace().collect();
-        let bin: usize = words[0].parse().unwrap();
-        let printed: [f32; 2] = [words[1].parse().unwrap(), words[2].parse().unwrap()];
-        let bits = |gains: [f32; 2]| gains.map(f32::to_bits);
-        assert_eq!(bits(printed), bits([left[bin], right[bin]]), "{line}");
-    }
-    assert_eq!(bins.lines().count(), 5);
+    let lines: Vec<&str> = text.lines().collect();
+    assert_eq!(lines.len(), 12);
+    let (chord_bins, bank_bins) = lines[..10].split_at(5);
+    are_gains(chord_bins, &chord());
+    // Of the bank the third voice is left.
+    are_gains(bank_bins, &chord()[2..]);
+    assert_ne!(chord_bins, bank_bins);
+    assert_eq!(lines[10..], ["refused: 10 at 0, 1 left", "refused: 5 at 2"]);
 }
 
 #[test]

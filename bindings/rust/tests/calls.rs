@@ -282,6 +282,10 @@ fn a_refusal_says_its_condition() {
         shown(9, 0),
         "refusal 9: a record of the wrong length, or with a forbidden bit set"
     );
+    assert_eq!(
+        shown(10, 0),
+        "refusal 10: an id that is in the bank already, or is not in it"
+    );
     let error: Box<dyn std::error::Error> = Box::new(refused(6, 4));
     assert!(error.to_string().ends_with("-2..17 (entry 4)"));
 }

@@ -11,11 +11,12 @@ type Named = Vec<(String, String)>;
 type Functions = BTreeMap<String, (Named, String)>;
 
 /// A Rattle type, as it is written in C and in Rust.
-const TYPES: [(&str, &str, &str); 14] = [
+const TYPES: [(&str, &str, &str); 16] = [
     ("", "void", ""),
     ("bool", "bool", "bool"),
     ("f32", "float", "f32"),
     ("u8", "uint8_t", "u8"),
+    ("u16", "uint16_t", "u16"),
     ("u32", "uint32_t", "u32"),
     ("usize", "size_t", "usize"),
     ("&mut f32", "float *", "&mut f32"),
@@ -30,6 +31,11 @@ const TYPES: [(&str, &str, &str); 14] = [
         "*const VoiceRecord",
     ),
     (
+        "[u16; MOST_VOICES]",
+        "uint16_t[DOVETABLE_MOST_VOICES]",
+        "[u16; MOST_VOICES]",
+    ),
+    (
         "[VoiceRecord; MOST_VOICES]",
         "struct DovetableVoice[DOVETABLE_MOST_VOICES]",
         "[VoiceRecord; MOST_VOICES]",
@@ -37,11 +43,13 @@ const TYPES: [(&str, &str, &str); 14] = [
 ];
 
 /// A Rattle record, as it is named in C and in Rust.
-const RECORDS: [(&str, &str, &str); 4] = [
+const RECORDS: [(&str, &str, &str); 6] = [
     ("VoiceRecord", "struct DovetableVoice", "VoiceRecord"),
     ("Settings", "struct DovetableSettings", "Settings"),
     ("PlainScene", "struct DovetableScene", "Scene"),
     ("PlainSceneRead", "struct DovetableSceneRead", "SceneRead"),
+    ("Bank", "struct DovetableBank", "Bank"),
+    ("PlainBanked", "struct DovetableBanked", "Banked"),
 ];
 
 #[derive(Clone, Copy, PartialEq)]
@@ -88,7 +96,7 @@ fn colon_names(text: &str) -> Named {
     parts.map(pair).collect()
 }
 
-/// `type name` or `type name[length]` for each part.
+/// `type name` or `type name[length]` for each part; `void` stands for no parameters.
 fn c_names<'a>(parts: impl Iterator<Item = &'a str>) -> Named {
     let pair = |part: String| {
         let (part, length) = part.split_at(part.find('[').unwrap_or(part.len()));
@@ -96,8 +104,9 @@ fn c_names<'a>(parts: impl Iterator<Item = &'a str>) -> Named {
         let kind = part[..start].trim_end();
         (part[start..].into(), format!("{kind}{length}"))
     };
-    let parts = parts.map(one_space).filter(|part| !part.is_empty());
-    parts.map(pair).collect()
+    let parts = parts.map(one_space);
+    let named = parts.filter(|part| !part.is_empty() && part != "void");
+    named.map(pair).collect()
 }
 
 /// The text between a beginning and the next end.
@@ -205,11 +214,14 @@ fn every_function() {
     }
 }
 
-/// The crates that have the records.
-fn crossing_crates() -> String {
+/// The crates that have the records, by the start of their names.
+const HOMES: [&str; 3] = ["crossing", "voice_bank", "voice_records"];
+
+/// The text of these crates.
+fn homes() -> String {
     let crates = fs::read_dir(root().join("crates")).unwrap();
     let names = crates.map(|one| one.unwrap().file_name().into_string().unwrap());
-    let named = names.filter(|name| name.starts_with("crossing"));
+    let named = names.filter(|name| HOMES.iter().any(|home| name.starts_with(home)));
     named.map(|name| rattle(&name)).collect()
 }
 
@@ -219,7 +231,7 @@ fn every_record() {
         c_code(&read("include/dovetable.h")),
         code(&read("bindings/rust/src/sys.rs")),
     );
-    let rattle = crossing_crates();
+    let rattle = homes();
     let fields =
         |text: &str, name| colon_names(between(text, &format!("pub struct {name} {{"), "}"));
     for (name, c_name, rust_name) in RECORDS {

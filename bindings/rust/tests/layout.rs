@@ -1,7 +1,7 @@
 //! A voice lies in memory as the record that is passed, and as the header's: a slice of voices is
 //! passed without copying. The other records lie in memory as the header's.
 
-use dovetable::sys::{Scene, SceneRead, Settings, VoiceRecord};
+use dovetable::sys::{Bank, Banked, Scene, SceneRead, Settings, VoiceRecord};
 use dovetable::{MaskVoice, Pitch};
 use std::mem::{align_of, offset_of, size_of};
 use std::path::Path;
@@ -120,4 +120,13 @@ fn the_headers_scene_and_its_answer_have_the_records_offsets() {
     let fields = offsets!(SceneRead: number, place, scene);
     let read = asserts("DovetableSceneRead", size_of::<SceneRead>(), &fields);
     hold("scene.c", &(scene + &read));
+}
+
+#[test]
+fn the_headers_bank_and_its_answer_have_the_records_offsets() {
+    let fields = offsets!(Bank: ids, voices, count);
+    let bank = asserts("DovetableBank", size_of::<Bank>(), &fields);
+    let fields = offsets!(Banked: number, place, bank);
+    let banked = asserts("DovetableBanked", size_of::<Banked>(), &fields);
+    hold("bank.c", &(bank + &banked));
 }
