@@ -17,7 +17,7 @@ pub enum Step<V = MaskVoice> {
     Change(u16, V),
 }
 
-impl<V: Copy + Into<MaskVoice>> Step<V> {
+impl<V> Step<V> {
     pub fn name(&self) -> &'static str {
         match self {
             Self::Add(..) => "add_voice",
@@ -26,22 +26,28 @@ impl<V: Copy + Into<MaskVoice>> Step<V> {
         }
     }
 
+    pub fn id(&self) -> u16 {
+        match *self {
+            Self::Add(id, _) | Self::Remove(id) | Self::Change(id, _) => id,
+        }
+    }
+
+    /// The same with the voice in another form.
+    pub fn map<W>(self, form: impl FnOnce(V) -> W) -> Step<W> {
+        match self {
+            Self::Add(id, voice) => Step::Add(id, form(voice)),
+            Self::Remove(id) => Step::Remove(id),
+            Self::Change(id, voice) => Step::Change(id, form(voice)),
+        }
+    }
+}
+
+impl<V: Copy + Into<MaskVoice>> Step<V> {
     pub fn on(self, bank: Bank<V>) -> (Outcome, Bank<V>) {
         match self {
             Self::Add(id, voice) => calls::add_voice(bank, id, voice),
             Self::Remove(id) => calls::remove_voice(bank, id),
             Self::Change(id, voice) => calls::change_voice(bank, id, voice),
-        }
-    }
-}
-
-impl Step {
-    /// The same with the voice in another form.
-    pub fn map<V>(self, form: impl FnOnce(MaskVoice) -> V) -> Step<V> {
-        match self {
-            Self::Add(id, voice) => Step::Add(id, form(voice)),
-            Self::Remove(id) => Step::Remove(id),
-            Self::Change(id, voice) => Step::Change(id, form(voice)),
         }
     }
 }

@@ -2,9 +2,10 @@
 //! those of one slice.
 
 use crate::*;
+use oracle::bank_calls::Step;
 use oracle::builders::{Builder, Lent, Masks};
 use oracle::config_in;
-use oracle::plain_pitch::{pitch_of, plain};
+use oracle::plain_pitch::{HERTZ, pitch_of, plain};
 use oracle::plain_words::{SETTINGS_WORDS, VOICE_WORDS};
 use oracle::scene_records::{SILENT, StoredScene};
 use oracle::spectral_dsp::{MaskVoice, MotionConfig};
@@ -120,7 +121,7 @@ pub fn prepare(table: &mut [f32], rate: f32, size: usize) -> Given {
     outcome(|place| unsafe { dovetable_prepare(entries, n, rate, size, place) })
 }
 
-fn record_of(voice: &MaskVoice) -> VoiceRecord {
+pub fn record_of(voice: &MaskVoice) -> VoiceRecord {
     let (pitch_form, note, semitones_or_hertz) = plain(voice.pitch);
     VoiceRecord {
         pitch_form,
@@ -301,7 +302,7 @@ fn settings_words(settings: &Settings) -> [u32; SETTINGS_WORDS] {
     ]
 }
 
-fn voice_words(voice: &VoiceRecord) -> [u32; VOICE_WORDS] {
+pub fn voice_words(voice: &VoiceRecord) -> [u32; VOICE_WORDS] {
     [
         u32::from(voice.pitch_form) * 256 + u32::from(voice.note),
         voice.semitones_or_hertz.to_bits(),
@@ -329,4 +330,66 @@ pub fn write_scene(record: &mut [u8], scene: Scene) -> Given {
 
 pub fn read_scene(record: &[u8]) -> SceneRead {
     unsafe { dovetable_read_scene(record.as_ptr(), record.len()) }
+}
+
+/// A voice as a bank holds it, for a bank of the oracle's.
+#[derive(Clone, Copy, Debug)]
+pub struct Held(pub VoiceRecord);
+
+impl Held {
+    /// A voice that is passed: by hertz its note is stored as 0.
+    pub fn stored(mut voice: VoiceRecord) -> Self {
+        if voice.pitch_form == HERTZ {
+            voice.note = 0;
+        }
+        Self(voice)
+    }
+}
+
+impl From<Held> for MaskVoice {
+    fn from(held: Held) -> Self {
+        voice_of(&held.0)
+    }
+}
+
+/// A bank with these ids and voices in its first places, and nothing past them.
+pub fn bank_of(held: impl IntoIterator<Item = (u16, VoiceRecord)>) -> Bank {
+    let mut bank = dovetable_new_bank();
+    for (id, voice) in held {
+        bank.ids[bank.count] = id;
+        bank.voices[bank.count] = voice;
+        bank.count += 1;
+    }
+    bank
+}
+
+/// Whether a bank counts these voices, and has them in their places.
+pub fn holds(bank: &Bank, present: &[(u16, Held)]) -> bool {
+    let places = bank.ids.iter().zip(&bank.voices);
+    let same = |((id, voice), other): ((&u16, &VoiceRecord), &(u16, Held))| {
+        *id == other.0 && voice_words(voice) == voice_words(&other.1.0)
+    };
+    bank.count == present.len() && places.zip(present).all(same)
+}
+
+/// A call that may change a bank.
+pub fn change(bank: Bank, step: Step<VoiceRecord>) -> Banked {
+    match step {
+        Step::Add(id, voice) => dovetable_add_voice(bank, id, voice),
+        Step::Remove(id) => dovetable_remove_voice(bank, id),
+        Step::Change(id, voice) => dovetable_change_voice(bank, id, voice),
+    }
+}
+
+/// Reads the masks of a bank, with what a mask builder is lent beside its voices.
+pub fn read_masks(bank: Bank, lent: &Lent, settings: Settings, [left, right]: &mut Masks) -> Given {
+    let (curve, points) = (lent.curve.as_ptr(), lent.curve.len());
+    let (table, entries) = (lent.table.as_ptr(), lent.table.len());
+    let (left, bins) = (left.as_mut_ptr(), left.len());
+    let (right, right_bins) = (right.as_mut_ptr(), right.len());
+    outcome(|place| unsafe {
+        dovetable_read_masks(
+            left, bins, right, right_bins, curve, points, bank, settings, table, entries, place,
+        )
+    })
 }

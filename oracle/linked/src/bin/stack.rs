@@ -1,17 +1,18 @@
-//! How many bytes of stack each mask builder and each call on scene records uses, the most over
-//! random scenes.
+//! How many bytes of stack each mask builder, each call on scene records and each on a bank of
+//! voices uses, the most over random scenes.
 //!
 //!     stack SEED SCENES
 //!
 //! A call runs on a stack of its own that is filled with one byte before; what still holds it was
 //! not used. The frames of the Rust functions that make the call are counted with it, and in them a
-//! scene that is passed or answered by value.
+//! scene or a bank that is passed or answered by value.
 
-use linked::calls::{self as port, Crossing};
-use oracle::builders::Builder;
+use linked::calls::{self as port, Crossing, bank_of};
+use linked::{dovetable_add_voice, dovetable_change_voice, dovetable_remove_voice};
+use oracle::builders::{Builder, Lent, Masks};
 use oracle::mask_calls::{Call, any_scene};
 use oracle::random::Random;
-use oracle::scene_records::{StoredScene, length_of};
+use oracle::scene_records::{SILENT, StoredScene, length_of};
 use std::arch::asm;
 use std::process::ExitCode;
 
@@ -58,10 +59,36 @@ fn used(stack: &mut [Sixteen], work: Work) -> usize {
     BYTES - 16 * stack.iter().take_while(untouched).count()
 }
 
-/// The mask builders, then writing and reading a scene.
+/// The mask builders, then writing and reading a scene, then the calls on a bank.
 fn names() -> Vec<&'static str> {
     let builders = Builder::ALL.iter().map(|one| one.name());
-    builders.chain(["write_scene", "read_scene"]).collect()
+    let records = ["write_scene", "read_scene"];
+    let banks = ["add_voice", "remove_voice", "change_voice", "read_masks"];
+    builders.chain(records).chain(banks).collect()
+}
+
+/// What the calls on a bank use: one of the scene's voices, with one more that is added, changed
+/// and taken out.
+fn used_on_bank(
+    stack: &mut [Sixteen],
+    lent: &Lent,
+    crossing: &Crossing,
+    masks: &mut Masks,
+) -> [usize; 4] {
+    let (id, voice) = (1_000, port::record_of(&SILENT));
+    let (voices, settings) = (&crossing.voices, crossing.settings);
+    let bank = bank_of((0..).zip(voices.iter().copied()));
+    let more = dovetable_add_voice(bank, id, voice).bank;
+    [
+        used(stack, &mut || dovetable_add_voice(bank, id, voice).number),
+        used(stack, &mut || dovetable_remove_voice(more, id).number),
+        used(stack, &mut || {
+            dovetable_change_voice(more, id, voice).number
+        }),
+        used(stack, &mut || {
+            port::read_masks(more, lent, settings, masks).number
+        }),
+    ]
 }
 
 /// What each call uses on a scene, in the order of the names.
@@ -84,6 +111,7 @@ fn used_on(stack: &mut [Sixteen], drawn: &Call) -> Vec<usize> {
         port::write_scene(&mut record, passed).number
     }));
     all.push(used(stack, &mut || port::read_scene(&record).number));
+    all.extend(used_on_bank(stack, &lent, &crossing, &mut masks));
     all
 }
 

@@ -13,6 +13,7 @@ mod numbers;
 mod open_calls;
 mod scene_records;
 mod single_numbers;
+mod voice_banks;
 
 use std::process::ExitCode;
 
@@ -49,6 +50,8 @@ fn call_tables() {
     open_calls::table();
     println!();
     scene_records::table();
+    println!();
+    voice_banks::table();
 }
 
 fn main() -> ExitCode {

@@ -12,7 +12,7 @@ use oracle::spectral_dsp::{MaskConfig, MaskVoice, Pitch};
 use std::hint::black_box;
 
 /// A scene of as many voices as there can be, every second one by hertz.
-fn full_scene() -> StoredScene {
+pub fn full_scene() -> StoredScene {
     let mut random = Random::new(1);
     let voice = |index: usize| {
         let voice = scenes::voice_by_note(&mut random);

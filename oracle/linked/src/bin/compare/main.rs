@@ -5,8 +5,8 @@
 //! COUNT is the number of calls of each function, SCENES that of the whole scenes that go through
 //! each mask builder, COUNT/100 where it is left out. With NAME only the function of that name is
 //! called. Two NaNs count as equal; any other difference in bits is a failure: of an answer, a
-//! place, a value, a field of a scene, and of each entry of a slice that the call may write. Exits
-//! 1 where there is one.
+//! place, a value, a field of a scene, a place of a bank, and of each entry of a slice that the
+//! call may write. Exits 1 where there is one.
 
 mod draw;
 mod envelopes;
@@ -16,6 +16,7 @@ mod open_calls;
 mod run;
 mod scene_records;
 mod tally;
+mod voice_banks;
 
 use run::Run;
 use std::process::ExitCode;
@@ -48,6 +49,7 @@ fn main() -> ExitCode {
     numbers::compare(&mut run);
     open_calls::compare(&mut run);
     scene_records::compare(&mut run);
+    voice_banks::compare(&mut run);
     masks::compare(&mut run);
     if run.kinds == 0 {
         eprintln!("no function has that name");

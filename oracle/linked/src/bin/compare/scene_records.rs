@@ -31,7 +31,7 @@ fn faults(random: &mut Random, scene: &mut StoredScene) {
 }
 
 /// Records of voices past the count, which count for nothing.
-fn unused(random: &mut Random, records: &mut [VoiceRecord]) {
+pub fn unused(random: &mut Random, records: &mut [VoiceRecord]) {
     let float = random.float();
     records.fill(VoiceRecord {
         pitch_form: random.word() as u8,

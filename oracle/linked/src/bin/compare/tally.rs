@@ -3,7 +3,7 @@
 /// The differences that are printed of a kind of call.
 const SHOWN: u64 = 5;
 /// Document 01's numbers: done, and the refusals.
-const NUMBERS: usize = 10;
+const NUMBERS: usize = 11;
 
 pub struct Tally {
     name: &'static str,
