@@ -126,6 +126,27 @@ fn each_voice_is_heard() {
     }
 }
 
+/// A full bank of which one voice sounds, at its first place, in the middle or at its last.
+#[test]
+fn each_place_of_a_full_bank_is_read() {
+    let silent = MaskVoice {
+        level: 0.0,
+        ..voice(64, 0.0)
+    };
+    for place in [0, 63, 126, 127] {
+        let mut voices = [silent; MOST_VOICES];
+        voices[place] = voice(60, 0.5);
+        let mut bank = Bank::new();
+        for (id, voice) in (0..).zip(&voices) {
+            bank.add(id, voice).unwrap();
+        }
+        let masks = read(&bank, config(), &table()).unwrap();
+        assert_eq!(masks, stereo(&voices));
+        assert_eq!(masks, stereo(&[voice(60, 0.5)]));
+        assert_ne!(masks, stereo(&[silent]));
+    }
+}
+
 #[test]
 fn adding_tests_3_5_10() {
     let mut full = bank_of(128);

@@ -10,7 +10,7 @@ use crate::scene_records::unused;
 use crate::tally::Tally;
 use linked::calls::{self as port, Held, holds, record_of, voice_words};
 use linked::{Bank, Settings, VoiceRecord, dovetable_new_bank};
-use oracle::bank_calls::{Step, bad_voice, good_voice, reaching, steps};
+use oracle::bank_calls::{Step, bad_voice, good_voice, ids, reaching, steps};
 use oracle::builders::{Lent, Masks};
 use oracle::calls;
 use oracle::config_in;
@@ -106,16 +106,42 @@ fn any_count(random: &mut Random) -> usize {
     }
 }
 
-/// A voice that may be any record: mostly one that would be let in.
-fn any_record(random: &mut Random) -> VoiceRecord {
-    let mut record = match random.below(16) {
-        0 => record_of(&bad_voice(random)),
-        _ => record_of(&good_voice(random)),
+/// Ids for all places: these in turn or by chance, many times each, or others that all differ with
+/// each of these at a place.
+fn any_ids(random: &mut Random, these: &[u16]) -> [u16; MAX_VOICES] {
+    let all = match random.below(3) {
+        0 => these.iter().copied().cycle().take(MAX_VOICES).collect(),
+        1 => (0..MAX_VOICES).map(|_| random.pick(these)).collect(),
+        _ => {
+            let mut all = ids(random, MAX_VOICES);
+            these
+                .iter()
+                .for_each(|&id| all[random.below(MAX_VOICES)] = id);
+            all
+        }
     };
-    if random.once_in(64) {
-        unused(random, std::slice::from_mut(&mut record));
-    }
-    record
+    all.try_into().expect("an id for each place")
+}
+
+/// Records for all places, now and then with some that no call would let in. In many banks most
+/// are silent, but for the last that counts, so that each of the others is heard.
+fn any_records(random: &mut Random, count: usize) -> [VoiceRecord; MAX_VOICES] {
+    let (silent, damaged) = (random.once_in(2), random.once_in(4));
+    let last = count.clamp(1, MAX_VOICES) - 1;
+    std::array::from_fn(|place| {
+        let mut voice = good_voice(random);
+        if silent && place != last && !random.once_in(32) {
+            voice.level = 0.0;
+        }
+        let mut record = record_of(&voice);
+        if damaged && random.once_in(64) {
+            record = record_of(&bad_voice(random));
+        }
+        if damaged && random.once_in(64) {
+            unused(random, std::slice::from_mut(&mut record));
+        }
+        record
+    })
 }
 
 impl Banks {
@@ -126,23 +152,18 @@ impl Banks {
         }
     }
 
-    /// A bank that a caller has written, with these ids at any of its places, all of them or many
-    /// times each.
+    /// A bank that a caller has written, with these ids among others.
     fn forged(random: &mut Random, ids: &[u16]) -> Self {
-        let mut block = dovetable_new_bank();
-        let in_turn = random.once_in(2);
-        for place in 0..MAX_VOICES {
-            block.ids[place] = match in_turn {
-                true => ids[place % ids.len()],
-                false => random.pick(ids),
-            };
-            block.voices[place] = any_record(random);
-        }
-        block.count = any_count(random);
+        let count = any_count(random);
+        let block = Bank {
+            ids: any_ids(random, ids),
+            voices: any_records(random, count),
+            count,
+        };
         let places = block.ids.iter().zip(&block.voices);
         let held = places.map(|(&id, &voice)| (id, Held(voice)));
-        let mut present: Present = held.take(block.count).collect();
-        if block.count > MAX_VOICES {
+        let mut present: Present = held.take(count).collect();
+        if count > MAX_VOICES {
             // However many more are counted, the oracle is told of one.
             present.push(present[0]);
         }
@@ -256,18 +277,14 @@ struct Tallies {
 }
 
 impl Tallies {
-    /// One list of calls, from an empty bank or from one that a caller has written. It ends at a
-    /// difference, since every later call would differ too.
-    fn list(&mut self, random: &mut Random) {
-        let steps = steps(random);
-        let mut banks = match random.once_in(4) {
-            true => {
-                let ids: Vec<u16> = steps.iter().map(Step::id).collect();
-                Banks::forged(random, &ids)
-            }
-            false => Banks::empty(),
-        };
-        for step in steps {
+    fn read(&mut self, random: &mut Random, banks: &Banks) {
+        self.reached.reading(&banks.present);
+        Reading::any(random).compare(banks, &mut self.read);
+    }
+
+    /// Makes calls until there is a difference, since every later call would differ too.
+    fn make(&mut self, random: &mut Random, mut banks: Banks, steps: &[Step]) {
+        for &step in steps {
             let step = passed(random, step);
             self.reached.change(&banks.present, step.id());
             let (number, difference) = banks.make(step);
@@ -279,19 +296,31 @@ impl Tallies {
                 return;
             }
             if random.once_in(32) {
-                self.reached.reading(&banks.present);
-                Reading::any(random).compare(&banks, &mut self.read);
+                self.read(random, &banks);
             }
         }
+    }
+
+    /// A list of calls from an empty bank, or a few from one that a caller has written, which soon
+    /// is one that calls make. Of the ids some are not in it.
+    fn list(&mut self, random: &mut Random) {
+        let steps = steps(random);
+        if random.once_in(2) {
+            return self.make(random, Banks::empty(), &steps);
+        }
+        let last = &steps[steps.len() - 1 - random.below(8)..];
+        let ids: Vec<u16> = last.iter().map(Step::id).collect();
+        let banks = Banks::forged(random, &ids[ids.len() / 2..]);
+        if random.once_in(4) {
+            self.read(random, &banks);
+        }
+        self.make(random, banks, last);
     }
 }
 
 fn lists(run: &mut Run) {
-    if ![&CHANGES[..], &[READ]]
-        .concat()
-        .iter()
-        .any(|name| run.takes(name))
-    {
+    let mut names = CHANGES.into_iter().chain([READ]);
+    if !names.any(|name| run.takes(name)) {
         return;
     }
     let mut random = Random::new(run.seed);
