@@ -146,7 +146,8 @@ fn repeated(random: &mut Random, voices: &[MaskVoice]) -> Vec<MaskVoice> {
     all
 }
 
-/// Calls that bring a voice under an id, past the two ids that are never present after them.
+/// Calls after which a voice is present under an id, and nothing under the two others. One of them
+/// may be refused.
 fn arrival(
     random: &mut Random,
     id: u16,

@@ -1,6 +1,6 @@
 //! The calls on a bank of voices: those that change it, which the Rust does not have, beside the
-//! oracle's, and reading beside the port's stereo call on the same voices. The goal is 1 us for
-//! each change, and for reading the stereo call's time.
+//! oracle's, and reading beside the port's stereo call on the same voices. The goal of each change
+//! is a microsecond, that of reading is the stereo call's time.
 
 use crate::open_calls::{SHORT, heading, row};
 use crate::scene_records::full_scene;

@@ -17,11 +17,13 @@ use oracle::config_in;
 use oracle::mask_calls::{Call, fault, other_table};
 use oracle::random::Random;
 use oracle::refusals::{self as refuse, MAX_VOICES, Outcome};
+use oracle::scene_records::SILENT;
 use oracle::scenes::{self, SHAPES};
 use oracle::spectral_dsp::{MaskConfig, MaskVoice};
 use oracle::voice_bank::{self, place_of};
 
-/// The calls that may change a bank, by `Step::name`, and reading.
+/// The empty bank, the calls that may change one, by `Step::name`, and reading.
+const NEW: &str = "new_bank";
 const CHANGES: [&str; 3] = ["add_voice", "remove_voice", "change_voice"];
 const READ: &str = "read_masks";
 const ORDER: &str = "read_masks, in another order";
@@ -271,12 +273,25 @@ fn passed(random: &mut Random, step: Step) -> Step<VoiceRecord> {
 
 /// The lines of the calls, and what they have reached.
 struct Tallies {
+    new: Tally,
     changes: [Tally; CHANGES.len()],
     read: Tally,
     reached: Reached,
 }
 
 impl Tallies {
+    fn empty(&mut self) -> Banks {
+        let banks = Banks::empty();
+        let blank = Bank {
+            ids: [0; MAX_VOICES],
+            voices: [record_of(&SILENT); MAX_VOICES],
+            count: 0,
+        };
+        let same = is_unchanged(&banks.block, &blank);
+        self.new.note(0, same, || format!("{:?}", banks.block));
+        banks
+    }
+
     fn read(&mut self, random: &mut Random, banks: &Banks) {
         self.reached.reading(&banks.present);
         Reading::any(random).compare(banks, &mut self.read);
@@ -306,7 +321,8 @@ impl Tallies {
     fn list(&mut self, random: &mut Random) {
         let steps = steps(random);
         if random.once_in(2) {
-            return self.make(random, Banks::empty(), &steps);
+            let banks = self.empty();
+            return self.make(random, banks, &steps);
         }
         let last = &steps[steps.len() - 1 - random.below(8)..];
         let ids: Vec<u16> = last.iter().map(Step::id).collect();
@@ -319,12 +335,13 @@ impl Tallies {
 }
 
 fn lists(run: &mut Run) {
-    let mut names = CHANGES.into_iter().chain([READ]);
-    if !names.any(|name| run.takes(name)) {
+    let names = [&[NEW], &CHANGES[..], &[READ]].concat();
+    if !names.iter().any(|name| run.takes(name)) {
         return;
     }
     let mut random = Random::new(run.seed);
     let mut tallies = Tallies {
+        new: Tally::new(NEW),
         changes: CHANGES.map(Tally::new),
         read: Tally::new(READ),
         reached: Reached::default(),
@@ -332,9 +349,8 @@ fn lists(run: &mut Run) {
     while tallies.changes.iter().any(|tally| tally.calls < run.count) {
         tallies.list(&mut random);
     }
-    let names = CHANGES.into_iter().chain([READ]);
-    let lines = tallies.changes.into_iter().chain([tallies.read]);
-    for (name, tally) in names.zip(lines) {
+    let lines = [tallies.new].into_iter().chain(tallies.changes);
+    for (name, tally) in names.into_iter().zip(lines.chain([tallies.read])) {
         if run.takes(name) {
             run.close(tally);
         }
