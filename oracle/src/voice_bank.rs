@@ -10,6 +10,6 @@ pub type Bank<V = MaskVoice> = Vec<(u16, V)>;
 /// Where the bank has the id. The calls never make a bank of more than 128 voices; of one that a
 /// caller has made so, the first 128 are looked at, and the first of several with the id is taken.
 pub fn place_of<V>(bank: &[(u16, V)], id: u16) -> Option<usize> {
-    let looked_at = bank.iter().take(MAX_VOICES);
-    looked_at.into_iter().position(|&(other, _)| other == id)
+    let mut looked_at = bank.iter().take(MAX_VOICES);
+    looked_at.position(|entry| entry.0 == id)
 }
