@@ -14,7 +14,7 @@ use Rattle.float_laws.specs.Units.{number, real, real-number, key, lt→key, eq
 use Rattle.float_laws.specs.Order.{eq-refl-f, fits-number}
 use Rattle.answer.specs.Reply.{Reply, done, refused}
 use Rattle.answer.specs.Written.{written}
-use Rattle.limits.specs.Lengths.{MOST-VOICES, MANUAL-MASK-POINTS}
+use Rattle.limits.specs.Lengths.{MOST-VOICES}
 use Rattle.scene.specs.declared.MaskVoice.{MaskVoice}
 use Rattle.scene.specs.declared.MaskConfig.{MaskConfig}
 use Rattle.scene.specs.Accepted.{voiceAccepted, noVoice}
@@ -30,7 +30,6 @@ use Rattle.chord_law.specs.Calls as chord
 use Rattle.chord_law.specs.Voices.{NoLower, Matched, MatchedIn}
 use Rattle.chord_law.specs.Curves.{NoNan, NowhereAbove}
 use Rattle.chord_law.specs.Masks.{EqualMasks, MasksEqual}
-use Rattle.chord_law.specs.Premises.{Comparable, Beneath}
 use Rattle.chord_law.specs.Settings.{SameSettings, SameEntries}
 use Rattle.chord_law.proofs.Acceptance.{size-accepted, settings-accepted, curve-length}
 use Rattle.chord_law.proofs.Acceptance.{entry-number}
@@ -152,7 +151,8 @@ module _ (m n : ℕ) (curve : List Float) (config : MaskConfig) (table : List Fl
             width = eq-refl-f binary32 _ (numbers.width-number config p q s);
             partials = refl;
             rolloff =
-                same-itself (config .«harmonic_rolloff_db_per_octave») (numbers.rolloff-real config p q s);
+                same-itself (config .«harmonic_rolloff_db_per_octave»)
+                (numbers.rolloff-real config p q s);
             motion =
                 record {
                   shape = refl;
@@ -245,7 +245,9 @@ either P (refused number place) new old p q = q
 abbrev F32Entries : List Entry → Type 0
 F32Entries es = All F32Voice (voices es)
 
-f32-step : (es : List Entry) (call : Call) → F32Call call → F32Entries es → F32Entries (entered es call)
+f32-step :
+    (es : List Entry) (call : Call) → F32Call call → F32Entries es
+    → F32Entries (entered es call)
 f32-step es (add id v) f h =
     either F32Entries (replyBy es (add id v)) (es ++ entry id v ∷ []) es
     (rw (map-append (λ (e : Entry). e .voice) es (entry id v ∷ []))
@@ -268,7 +270,8 @@ f32-run es (call ∷ calls) f h =
     f32-run (entered es call) calls (f .1) (f32-step es call (f .0) h)
 
 -- ---- two lists of calls
-hears : {bank : Bank} {voices : List MaskVoice} → Holds bank voices → F32Voices voices → Heard voices
+hears :
+    {bank : Bank} {voices : List MaskVoice} → Holds bank voices → F32Voices voices → Heard voices
 hears h f = record { few = h .room; within = h .within; f32 = f }
 
 pub reads-sound :

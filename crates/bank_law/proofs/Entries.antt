@@ -111,7 +111,8 @@ taken-out id [] = record { of-ids = refl; of-voices = refl }
 taken-out id (e ∷ es) =
     let t = taken-out id es in
     let r = go (eqb (e .id) id) (t .of-ids) (t .of-voices) in
-    record { of-ids = rw (place-next id (e .id) (ids es)) (r .0); of-voices = rw (place-next id (e .id) (ids es)) (r .1) }
+    let next = place-next id (e .id) (ids es) in
+    record { of-ids = rw next (r .0); of-voices = rw next (r .1) }
   where
     p : ℕ
     p = placeIn id (ids es)

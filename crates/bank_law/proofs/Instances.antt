@@ -1,24 +1,23 @@
 -- The premises of the promise can be met: a chord played from the bottom up, and the same chord
 -- from the top down with a note that goes again, a voice twice and a refused call. However the two
 -- banks are then read, they sound the same. Assumes nothing.
-use mathlib.Core.Path.{_≡_, refl, sym, subst}
+use mathlib.Core.Path.{_≡_, refl}
 use mathlib.Core.List.{List, [], _∷_}
-use Prim.Native.Nat.{ℕ, zero, suc}
+use Prim.Native.Nat.{zero, suc}
 use native.Mathlib.Omega.{arith}
-use lib.Dec.{T, lit<}
+use lib.Dec.{lit<}
 use lib.Count.{trailingZeros}
 use lib.Ieee.{eq, lt, le, ofBits, ofFields, odd, fits}
 use Rattle.float32.specs.Order.{finite, within}
-use Rattle.scene.specs.declared.MaskVoice.{MaskVoice}
 use Rattle.scene.specs.Accepted.{voiceAccepted, pitchAccepted}
 use Rattle.scene.specs.F32.{F32Voice}
 use Rattle.voice_bank.specs.Banks.{empty}
 use Rattle.chord_law.specs.Curves.{NoNan}
 use Rattle.chord_law.proofs.Instances.{C, E, G}
-use Rattle.bank_law.specs.Calls.{Reading, Call, add, remove, change, read}
+use Rattle.bank_law.specs.Calls.{Reading, Call, add, remove, read}
 use Rattle.bank_law.specs.Present.{has, takenOut, replyBy, presentFrom, present}
 use Rattle.bank_law.specs.Banks.{answerOf, run}
-use Rattle.bank_law.specs.Promises.{SameVoice, Among, AllAmong, SameVoices}
+use Rattle.bank_law.specs.Promises.{SameVoice, AllAmong, SameVoices}
 use Rattle.bank_law.specs.Promises.{OneReading, SameSound, F32Reading}
 use Rattle.bank_law.proofs.Audible.{order-not-audible}
 

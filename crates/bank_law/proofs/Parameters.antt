@@ -1,12 +1,11 @@
 -- What a function is told of a bank that it is passed (`c .good`): the floats of each voice of its
 -- array are f32s. Assumes nothing.
-use mathlib.Core.Path.{_≡_, subst}
 use mathlib.Core.Bool.{Bool, true, false, cond}
 use mathlib.Core.List.{List, [], _∷_, map}
 use Prim.Native.Nat.{ℕ, _<_}
 use native.Mathlib.Omega.{arith}
 use lib.Count.{trailingZeros}
-use lib.Dec.{T, eqb}
+use lib.Dec.{eqb}
 use lib.ListN.{length, getD, take, length-take}
 use lib.Seq.{getD-take}
 use lib.Ieee.{Float, fits, ofBits, ofFields, odd}
@@ -17,7 +16,6 @@ use denote.Struct.Declared.{row}
 use denote.Struct.Field.{array-field}
 use Rattle.float32.specs.Remainder.{zero}
 use Rattle.scene.specs.declared.MaskVoice.{MaskVoice}
-use Rattle.scene.specs.declared.Pitch.{Pitch}
 use Rattle.scene.specs.declared.Pitch.the-variants.{Note, Hertz}
 use Rattle.scene.specs.Accepted.{noVoice}
 use Rattle.scene.specs.F32.{F32, F32Pitch, F32Voice, F32Voices}
@@ -61,7 +59,8 @@ voice-f32 given vs told =
 
 voices-f32 :
     (n : ℕ) (records : List VoiceRecord) (vs : List Val)
-    → shadow (array-field record-type.the-field n .row .own (map (record-type.the-field .into) records) vs)
+    → shadow
+    (array-field record-type.the-field n .row .own (map (record-type.the-field .into) records) vs)
     → F32Voices (recordVoices records)
 voices-f32 n records vs told i h =
     let l : i < length records = omega (arith, length-voices records) in

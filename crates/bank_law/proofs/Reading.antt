@@ -1,10 +1,10 @@
 -- A read of a bank that holds a list of voices is the stereo call on the list. Where all of them
 -- are accepted and at most 128, what it answers does not depend on them. Assumes nothing.
-use mathlib.Core.Path.{_≡_, refl, sym, ap, _∙_, subst}
-use mathlib.Core.Bool.{Bool, true, false, cond, not, _&&_}
+use mathlib.Core.Path.{_≡_, refl, sym, ap, _∙_}
+use mathlib.Core.Bool.{Bool, cond, not, _&&_}
 use mathlib.Core.List.{List, []}
-use Prim.Native.Nat.{ℕ, _≤_, _<_}
-use lib.Dec.{T, eqb, ltb}
+use Prim.Native.Nat.{ℕ, _≤_}
+use lib.Dec.{T, eqb}
 use lib.ListN.{length, take}
 use lib.Seq.{take-length}
 use lib.Ieee.{Float}
@@ -20,11 +20,9 @@ use Rattle.scene.specs.declared.MaskConfig.{MaskConfig}
 use Rattle.scene.specs.Accepted.{voiceAccepted, noVoice}
 use Rattle.voice_records.specs.VoiceRecords.{recordVoices}
 use Rattle.voice_bank.specs.declared.Bank.{Bank}
-use Rattle.bank_masks.specs.Reading.{voicesIn, readReply}
+use Rattle.bank_masks.specs.Reading.{readReply}
 use Rattle.mask_calls.specs.LentStereo.{lentReply, lentMask}
-use Rattle.lobes.specs.Distance.{lent}
 use Rattle.lobes.specs.Pan.{left, right}
-use Rattle.mask_builder.specs.Mask.{maskOf}
 use Rattle.refusals.specs.Masks.{voicesReply, stereoReply, settingsReply, tableReply, first, bins}
 use Rattle.bank_law.specs.Calls.{Reading, read, Answer, heard}
 use Rattle.bank_law.specs.Banks.{answerOf}
@@ -87,7 +85,8 @@ read-answer bank voices reading h =
 -- ---- voices that are all accepted
 module _ (voices : List MaskVoice) (few : length voices ≤ MOST-VOICES)
     (within : All (λ v. T (voiceAccepted v)) voices) where
-  none-outside : firstBad (λ index voice. voiceAccepted voice) (take (length voices) voices) ≡ length voices
+  none-outside :
+      firstBad (λ index voice. voiceAccepted voice) (take (length voices) voices) ≡ length voices
   none-outside =
       ap (firstBad (λ index voice. voiceAccepted voice)) (take-length voices)
       ∙ bad-none noVoice (λ index voice. voiceAccepted voice) voices

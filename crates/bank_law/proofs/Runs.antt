@@ -4,8 +4,8 @@
 -- nothing.
 use mathlib.Core.Path.{_≡_, refl, sym, ap, _∙_, subst}
 use mathlib.Core.Bool.{Bool, true, false, cond, not}
-use mathlib.Core.List.{List, [], _∷_, _++_, map}
-use Prim.Native.Nat.{ℕ, suc, _+_, _-_, _≤_, _<_}
+use mathlib.Core.List.{List, [], _∷_, _++_}
+use Prim.Native.Nat.{ℕ, _+_, _-_, _≤_, _<_}
 use native.Mathlib.Numerals.{add-one}
 use native.Mathlib.Omega.{arith}
 use lib.Dec.{T, leb, ltb}
@@ -14,9 +14,9 @@ use lib.Seq.{take-suc-set, take-set-lt}
 use borrow.Author.Tests.{leb-false, ltb-true, le-ltb}
 use Rattle.lists.specs.Totals.{All, all-append}
 use Rattle.lists.specs.Maps.{length-mapRange}
-use Rattle.lists.specs.Closing.{closed, without, take-closed, length-without, all-without}
+use Rattle.lists.specs.Closing.{without, take-closed, length-without, all-without}
 use Rattle.answer.specs.Refusal.{VOICE-COUNT, VOICE, ID}
-use Rattle.answer.specs.Reply.{Reply, done, refused}
+use Rattle.answer.specs.Reply.{done, refused}
 use Rattle.answer.specs.Written.{written}
 use Rattle.scene.specs.declared.MaskVoice.{MaskVoice}
 use Rattle.scene.specs.Accepted.{voiceAccepted}
@@ -27,7 +27,6 @@ use Rattle.voice_bank.specs.Banks.{empty, heldIn, placeIn, placeOf, holds}
 use Rattle.voice_bank.specs.Banks.{addReply, withVoice, bankAdded}
 use Rattle.voice_bank.specs.Banks.{removeReply, withoutPlace, bankRemoved}
 use Rattle.voice_bank.specs.Banks.{changeReply, withChanged, bankChanged}
-use Rattle.bank_masks.specs.Reading.{voicesIn}
 use Rattle.bank_law.specs.Calls.{Call, add, remove, change, read, Answer, told}
 use Rattle.bank_law.specs.Present.{Entry, entry, voices, has, takenOut, changed}
 use Rattle.bank_law.specs.Present.{replyBy, answerBy, entered, presentFrom, answersFrom}

@@ -1,7 +1,7 @@
 -- The promise of what two reads leave in lent slices. Assumes nothing.
 use mathlib.Core.Path.{_≡_, sym, ap, _∙_, subst}
 use mathlib.Core.List.{List}
-use lib.ListN.{length, take}
+use lib.ListN.{length}
 use lib.Ieee.{Float}
 use Rattle.answer.specs.Reply.{Reply}
 use Rattle.answer.specs.Written.{written}
@@ -15,7 +15,7 @@ use Rattle.lobes.specs.Pan.{left, right}
 use Rattle.bank_law.specs.Calls.{Reading, Call, read, Answer, answerWith}
 use Rattle.bank_law.specs.Present.{present}
 use Rattle.bank_law.specs.Banks.{answerOf, run}
-use Rattle.bank_law.specs.Promises.{F32Reading, NotAudible, BanksNotAudible}
+use Rattle.bank_law.specs.Promises.{F32Reading, BanksNotAudible}
 use Rattle.bank_law.proofs.Parameters.{counted-f32}
 use Rattle.bank_law.proofs.Runs.{holds-the-present}
 use Rattle.bank_law.proofs.Audible.{reads-sound}

@@ -6,7 +6,7 @@ use Rattle.voice_bank.specs.declared.Bank.{Bank}
 use Rattle.voice_bank.specs.Banks.{addReply, bankAdded, removeReply, bankRemoved}
 use Rattle.voice_bank.specs.Banks.{changeReply, bankChanged}
 use Rattle.bank_masks.specs.Reading.{readReply, readMask}
-use Rattle.bank_law.specs.Calls.{Reading, Call, add, remove, change, read}
+use Rattle.bank_law.specs.Calls.{Call, add, remove, change, read}
 use Rattle.bank_law.specs.Calls.{Answer, told, heard}
 
 -- what `add_voice`, `remove_voice`, `change_voice` and `read_masks` answer

@@ -12,7 +12,7 @@ use Rattle.limits.specs.Lengths.{MOST-VOICES}
 use Rattle.scene.specs.declared.MaskVoice.{MaskVoice}
 use Rattle.scene.specs.Accepted.{voiceAccepted}
 use Rattle.mask_calls.specs.LentStereo.{lentReply, lentMask}
-use Rattle.bank_law.specs.Calls.{Reading, Call, add, remove, change, read}
+use Rattle.bank_law.specs.Calls.{Call, add, remove, change, read}
 use Rattle.bank_law.specs.Calls.{Answer, told, heard}
 
 -- a voice that is present, with its id

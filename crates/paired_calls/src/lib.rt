@@ -1,6 +1,6 @@
 // Two calls made one after the other on lent buffers, with a law on the two as the contract: the
-// chord law, that the order of arrival in a bank of voices is not audible, and that a prepared block
-// gives the stereo call the prepared table.
+// chord law, that the order of arrival in a bank of voices is not audible, and that a prepared
+// block gives the stereo call the prepared table.
 ghost use mathlib.Core.Path.{_≡_};
 ghost use lib.ListN.{length};
 ghost use Rattle.answer.specs.Reply.{ofOutcome, ofPrepared};

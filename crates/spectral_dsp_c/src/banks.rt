@@ -67,13 +67,5 @@ pub extern "C" fn dovetable_read_masks(
         bank config (now (table .entry)))) (readMask side.right (now («manual_mask_db» .entry)) bank
         (configOf settings) (now (table .entry))) (now (right .entry)) ⌝ }
 {
-    crossing_banks::read(
-        left,
-        right,
-        manual_mask_db,
-        bank,
-        settings,
-        table,
-        place,
-    )
+    crossing_banks::read(left, right, manual_mask_db, bank, settings, table, place)
 }

@@ -170,13 +170,14 @@ pub fn remove_voice(bank: Bank, id: u16) -> Banked
     if count <= place {
         return refused(bank, refusal::ID);
     }
+    let last = count - 1;
     let voices = bank.voices;
-    let fewer_ids = ids_closed(ids, place, count - 1);
-    let fewer_voices = voices_closed(voices, place, count - 1);
+    let fewer_ids = ids_closed(ids, place, last);
+    let fewer_voices = voices_closed(voices, place, last);
     let after = Bank {
         ids: fewer_ids,
         voices: fewer_voices,
-        count: count - 1,
+        count: last,
     };
     Banked {
         outcome: Outcome::Done,

@@ -1,6 +1,6 @@
 -- `add_voice` meets its contract: its tests in the order of the reply, then the two stores. Assumes
 -- nothing.
-use mathlib.Core.Path.{_≡_, sym, ap, _∙_}
+use mathlib.Core.Path.{sym, _∙_}
 use Rattle.voice_bank.proofs.Answers.{add-full, add-outside, add-again, add-done}
 use borrow.Author.Needs.{needs}
 use borrow.Author.Tests.{not-true, not-false}
@@ -42,7 +42,8 @@ returns-3 c =
     let accepted = passed .before in
     let e =
     add-again _ _ _ (accepted .before .if1 .left)
-    (sym (accepted .voice-accepted .ensures) ∙ not-false _ (passed .if2 .left)) (found .place-in .ensures)
+    (sym (accepted .voice-accepted .ensures) ∙ not-false _ (passed .if2 .left))
+    (found .place-in .ensures)
     (c .before .if3 .taken) in
     (c .refused3 .ensures .0 ∙ sym e, simp (c .refused3 .ensures .1, e))
 
@@ -66,7 +67,8 @@ returns-4 c =
     let accepted = passed .before in
     let e =
     add-done _ _ _ (accepted .before .if1 .left)
-    (sym (accepted .voice-accepted .ensures) ∙ not-false _ (passed .if2 .left)) (found .place-in .ensures)
+    (sym (accepted .voice-accepted .ensures) ∙ not-false _ (passed .if2 .left))
+    (found .place-in .ensures)
     (missing .if3 .left) in
     (sym e, simp (c .voice-put .ensures, e))
 

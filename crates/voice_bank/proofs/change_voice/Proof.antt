@@ -1,8 +1,9 @@
 -- `change_voice` meets its contract: the voice is tested, the place found, then one store. Assumes
 -- nothing.
-use mathlib.Core.Path.{_≡_, sym, ap, _∙_}
+use mathlib.Core.Path.{sym, _∙_}
 use native.Mathlib.Omega.{arith}
-use Rattle.voice_bank.proofs.Answers.{places-most, change-outside, change-missing, change-done}
+use Rattle.voice_bank.proofs.Answers.{places-most, change-outside, change-missing}
+use Rattle.voice_bank.proofs.Answers.{change-done}
 use borrow.Author.Needs.{needs}
 use borrow.Author.Tests.{not-true, not-false}
 use Rattle.voice_bank.proofs.change_voice.Statement.{statement}
@@ -16,7 +17,8 @@ refused-requires c κs = search needs
 
 returns : tie.Need-returns
 returns c =
-    let e = change-outside _ _ _ (sym (c .before .before .voice-accepted .ensures) ∙ not-true _ (c .before .if1 .taken)) in
+    let accepted = c .before .before .voice-accepted in
+    let e = change-outside _ _ _ (sym (accepted .ensures) ∙ not-true _ (c .before .if1 .taken)) in
     (c .refused .ensures .0 ∙ sym e, simp (c .refused .ensures .1, e))
 
 held-requires : tie.Need-held-requires
@@ -37,14 +39,16 @@ returns-2 c =
     let passed = h .before in
     let e =
     change-missing _ _ (h .held .ensures) (found .place-in .ensures) _
-    (sym (passed .before .voice-accepted .ensures) ∙ not-false _ (passed .if1 .left)) (c .before .if2 .taken) in
+    (sym (passed .before .voice-accepted .ensures) ∙ not-false _ (passed .if1 .left))
+    (c .before .if2 .taken) in
     (c .refused2 .ensures .0 ∙ sym e, simp (c .refused2 .ensures .1, e))
 
 voice-put-requires : tie.Need-voice-put-requires
 voice-put-requires c κs =
     let test = c .before in
     let h = test .before .before .before in
-    omega (arith, places-most (h .before .before .before .args .bank .count) (h .held .ensures), test .if2 .left)
+    let most = places-most (h .before .before .before .args .bank .count) (h .held .ensures) in
+    omega (arith, most, test .if2 .left)
 
 returns-3 : tie.Need-returns-3
 returns-3 c =
@@ -54,7 +58,8 @@ returns-3 c =
     let passed = h .before in
     let e =
     change-done _ _ (h .held .ensures) (found .place-in .ensures) _
-    (sym (passed .before .voice-accepted .ensures) ∙ not-false _ (passed .if1 .left)) (test .if2 .left) in
+    (sym (passed .before .voice-accepted .ensures) ∙ not-false _ (passed .if1 .left))
+    (test .if2 .left) in
     (sym e, simp (c .voice-put .ensures, ← h .held .ensures, ← found .place-in .ensures, e))
 
 pub change-voice-spec : {M : Type 1} → statement M

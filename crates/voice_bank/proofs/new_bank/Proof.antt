@@ -1,4 +1,5 @@
--- `new_bank` meets its contract: the record of a silent voice has 0 in every field. Assumes nothing.
+-- `new_bank` meets its contract: the record of a silent voice has 0 in every field. Assumes
+-- nothing.
 use mathlib.Core.Path.{refl}
 use Rattle.scene.specs.PitchNumbers.{formOf, noteOf, numberOf}
 use Rattle.voice_records.specs.VoiceRecords.{plainVoice}

@@ -1,5 +1,6 @@
--- `remove_voice` meets its contract: the place is found, then both arrays are closed. Assumes nothing.
-use mathlib.Core.Path.{_≡_, sym, ap, _∙_}
+-- `remove_voice` meets its contract: the place is found, then both arrays are closed. Assumes
+-- nothing.
+use mathlib.Core.Path.{sym, _∙_}
 use native.Mathlib.Omega.{arith}
 use Rattle.voice_bank.proofs.Answers.{places-most, remove-missing, remove-done}
 use borrow.Author.Needs.{needs}
@@ -25,26 +26,22 @@ returns c =
     remove-missing _ _ (h .held .ensures) (found .place-in .ensures) (c .before .if1 .taken) in
     (c .refused .ensures .0 ∙ sym e, simp (c .refused .ensures .1, e))
 
-sub-ids-closed : tie.Need-sub-ids-closed
-sub-ids-closed c = search needs
+sub-last : tie.Need-sub-last
+sub-last c = search needs
 
 ids-closed-requires : tie.Need-ids-closed-requires
 ids-closed-requires c κs =
     let test = c .before in
     let h = test .before .before .before in
-    (omega (arith, test .if1 .left), omega (arith, places-most (h .before .args .bank .count) (h .held .ensures), test .if1 .left))
-
-sub-voices-closed : tie.Need-sub-voices-closed
-sub-voices-closed c = search needs
+    let most = places-most (h .before .args .bank .count) (h .held .ensures) in
+    (omega (arith, test .if1 .left), omega (arith, most, test .if1 .left))
 
 voices-closed-requires : tie.Need-voices-closed-requires
 voices-closed-requires c κs =
     let test = c .before .before in
     let h = test .before .before .before in
-    (omega (arith, test .if1 .left), omega (arith, places-most (h .before .args .bank .count) (h .held .ensures), test .if1 .left))
-
-sub-t11 : tie.Need-sub-t11
-sub-t11 c = search needs
+    let most = places-most (h .before .args .bank .count) (h .held .ensures) in
+    (omega (arith, test .if1 .left), omega (arith, most, test .if1 .left))
 
 returns-2 : tie.Need-returns-2
 returns-2 c =
@@ -52,8 +49,16 @@ returns-2 c =
     let found = test .before in
     let h = found .before .before in
     let e =
-    remove-done _ _ (h .held .ensures) (found .place-in .ensures) (test .if1 .left) in
-    (sym e, simp (c .before .ids-closed .ensures, c .voices-closed .ensures, ← h .held .ensures, ← found .place-in .ensures, e))
+    remove-done _ _ (h .held .ensures) (found .place-in .ensures) (test .if1 .left) in (
+      sym e,
+      simp (
+        c .before .ids-closed .ensures,
+        c .voices-closed .ensures,
+        ← h .held .ensures,
+        ← found .place-in .ensures,
+        e,
+      ),
+    )
 
 pub remove-voice-spec : {M : Type 1} → statement M
 remove-voice-spec =
@@ -63,9 +68,7 @@ remove-voice-spec =
     place-in-requires
     refused-requires
     returns
-    sub-ids-closed
+    sub-last
     ids-closed-requires
-    sub-voices-closed
     voices-closed-requires
-    sub-t11
     returns-2)
