@@ -8,7 +8,8 @@ use native.Mathlib.Nat.{lt-irrefl}
 use lib.Dec.{T}
 use lib.ListN.{length, getD}
 use lib.Ieee.{Float, nan, binary32, eq, lt}
-use Rattle.lists.specs.Totals.{All, all-at, all-append}
+use Rattle.lists.specs.Totals.{All, all-at, all-append, all-set}
+use Rattle.lists.specs.Mapped.{map-append}
 use Rattle.lists.specs.Closing.{all-without}
 use Rattle.float_laws.specs.Units.{number, real, real-number, key, lt→key, eq→key}
 use Rattle.float_laws.specs.Order.{eq-refl-f, fits-number}
@@ -41,7 +42,7 @@ use Rattle.bank_law.specs.Banks.{answerOf, run}
 use Rattle.bank_law.specs.Promises.{Holds, SameVoice, AllAmong, SameVoices}
 use Rattle.bank_law.specs.Promises.{OneReading, SameSound, F32Call, F32Reading}
 use Rattle.bank_law.specs.Promises.{NotAudible, OrderNotAudible}
-use Rattle.bank_law.proofs.Entries.{ids, map-append, taken-out, changed-at, all-set}
+use Rattle.bank_law.proofs.Entries.{ids, taken-out, changed-at}
 use Rattle.bank_law.proofs.Reading.{lentAnswer, read-answer, reply-without-voices}
 use Rattle.bank_law.proofs.Runs.{holds-the-present}
 

@@ -2,15 +2,14 @@
 -- whether an id is there, taking an entry out and changing one. Assumes nothing.
 use mathlib.Core.Path.{_≡_, refl, sym, ap, _∙_}
 use mathlib.Core.Bool.{Bool, true, false, cond, not, _||_}
-use mathlib.Core.List.{List, [], _∷_, _++_, map}
+use mathlib.Core.List.{List, [], _∷_, map}
 use Prim.Native.Nat.{ℕ, zero, suc, compare·suc-suc}
 use native.Mathlib.Omega.{arith}
 use lib.Dec.{eqb, ltb}
-use lib.ListN.{length, take, drop, set}
+use lib.ListN.{length, set}
 use borrow.Author.Tests.{lt-ltb}
-use Rattle.lists.specs.Folds.{firstBadFrom}
+use Rattle.lists.specs.Folds.{firstBadFrom, bad-later}
 use Rattle.lists.specs.Closing.{without}
-use Rattle.lists.specs.Totals.{All}
 use Rattle.scene.specs.declared.MaskVoice.{MaskVoice}
 use Rattle.voice_bank.specs.Banks.{placeIn}
 use Rattle.bank_law.specs.Present.{Entry, entry, voices, has, takenOut, changed}
@@ -18,61 +17,7 @@ use Rattle.bank_law.specs.Present.{Entry, entry, voices, has, takenOut, 
 abbrev pub ids : List Entry → List ℕ
 ids entries = map (λ e. e .id) entries
 
--- ---- maps of lists that are cut, joined and changed
-module _ {A B : Type 0} (g : A → B) where
-  pub map-length : (xs : List A) → length (map g xs) ≡ length xs
-  map-length [] = refl
-  map-length (x ∷ xs) = ap suc (map-length xs)
-
-  pub map-append : (xs ys : List A) → map g (xs ++ ys) ≡ map g xs ++ map g ys
-  map-append [] ys = refl
-  map-append (x ∷ xs) ys = ap (λ l. g x ∷ l) (map-append xs ys)
-
-  pub map-take : (n : ℕ) (xs : List A) → map g (take n xs) ≡ take n (map g xs)
-  map-take zero xs = refl
-  map-take (suc n) [] = refl
-  map-take (suc n) (x ∷ xs) = ap (λ l. g x ∷ l) (map-take n xs)
-
-  map-drop : (n : ℕ) (xs : List A) → map g (drop n xs) ≡ drop n (map g xs)
-  map-drop zero xs = refl
-  map-drop (suc n) [] = refl
-  map-drop (suc n) (x ∷ xs) = map-drop n xs
-
-  pub map-without : (p : ℕ) (xs : List A) → map g (without p xs) ≡ without p (map g xs)
-  unfolding without
-  map-without p xs =
-      map-append (take p xs) (drop (suc p) xs)
-      ∙ ap (λ l. l ++ map g (drop (suc p) xs)) (map-take p xs)
-      ∙ ap (λ l. take p (map g xs) ++ l) (map-drop (suc p) xs)
-
-  pub map-set : (xs : List A) (p : ℕ) (x : A) → map g (set xs p x) ≡ set (map g xs) p (g x)
-  map-set [] p x = refl
-  map-set (y ∷ ys) zero x = refl
-  map-set (y ∷ ys) (suc p) x = ap (λ l. g y ∷ l) (map-set ys p x)
-
-pub all-set :
-    {A : Type 0} (P : A → Type 0) (xs : List A) (p : ℕ) (x : A) → All P xs → P x
-    → All P (set xs p x)
-all-set P [] p x a h = tt
-all-set P (y ∷ ys) zero x a h = (h, a .1)
-all-set P (y ∷ ys) (suc p) x a h = (a .0, all-set P ys p x (a .1) h)
-
 -- ---- the place of an id in a list of them
-later :
-    (ok : ℕ → Bool) (i : ℕ) (xs : List ℕ)
-    → firstBadFrom (λ k x. ok x) (suc i) xs ≡ suc (firstBadFrom (λ k x. ok x) i xs)
-unfolding firstBadFrom
-later ok i [] = refl
-later ok i (x ∷ xs) = go (ok x) (later ok (suc i) xs)
-  where
-    go : (b : Bool)
-        → firstBadFrom (λ k x. ok x) (suc (suc i)) xs
-        ≡ suc (firstBadFrom (λ k x. ok x) (suc i) xs)
-        → cond b (firstBadFrom (λ k x. ok x) (suc (suc i)) xs) (suc i)
-        ≡ suc (cond b (firstBadFrom (λ k x. ok x) (suc i) xs) i)
-    go true r = r
-    go false r = refl
-
 place-next :
     (id x : ℕ) (xs : List ℕ)
     → placeIn id (x ∷ xs) ≡ cond (eqb x id) 0 (suc (placeIn id xs))
@@ -83,7 +28,7 @@ place-next id x xs = go (eqb x id)
         → cond (not b) (firstBadFrom (λ k y. not (eqb y id)) 1 xs) 0
         ≡ cond b 0 (suc (placeIn id xs))
     go true = refl
-    go false = later (λ y. not (eqb y id)) 0 xs
+    go false = bad-later (λ y. not (eqb y id)) 0 xs
 
 -- ---- whether an id is there
 pub has-place :

@@ -9,12 +9,14 @@ use Prim.Native.Nat.{ℕ, _+_, _-_, _≤_, _<_}
 use native.Mathlib.Numerals.{add-one}
 use native.Mathlib.Omega.{arith}
 use lib.Dec.{T, leb, ltb}
-use lib.ListN.{length, take, set, length-set, length-append}
+use lib.ListN.{length, take, set, length-set, length-append, length-map}
 use lib.Seq.{take-suc-set, take-set-lt}
 use borrow.Author.Tests.{leb-false, ltb-true, le-ltb}
-use Rattle.lists.specs.Totals.{All, all-append}
+use Rattle.lists.specs.Totals.{All, all-append, all-set}
 use Rattle.lists.specs.Maps.{length-mapRange}
+use Rattle.lists.specs.Mapped.{map-append, map-take, map-set}
 use Rattle.lists.specs.Closing.{without, take-closed, length-without, all-without}
+use Rattle.lists.specs.Closing.{map-without}
 use Rattle.answer.specs.Refusal.{VOICE-COUNT, VOICE, ID}
 use Rattle.answer.specs.Reply.{done, refused}
 use Rattle.answer.specs.Written.{written}
@@ -33,8 +35,6 @@ use Rattle.bank_law.specs.Present.{replyBy, answerBy, entered, presentFr
 use Rattle.bank_law.specs.Banks.{answerOf, stepped, run, answers}
 use Rattle.bank_law.specs.Promises.{Holds, HoldsThePresent, AnswersByThePresent}
 use Rattle.bank_law.proofs.Entries.{ids, has-place, taken-out, changed-at}
-use Rattle.bank_law.proofs.Entries.{map-length, map-append, map-take, map-without, map-set}
-use Rattle.bank_law.proofs.Entries.{all-set}
 use Rattle.bank_law.proofs.Reading.{read-answer}
 
 abbrev Within : List MaskVoice → Type 0
@@ -87,7 +87,7 @@ module _ (bank : Bank) (es : List Entry) (f : Fit bank es) where
 
   holds-entries : Holds bank (voices es)
   holds-entries =
-      let n = map-length (λ (e : Entry). e .voice) es in
+      let n = length-map es (λ (e : Entry). e .voice) in
       record {
         are = sym (map-take voiceOf (bank .count) (bank .voices)) ∙ f .voices-are;
         count = f .count ∙ sym n;
@@ -174,10 +174,10 @@ module _ (bank : Bank) (es : List Entry) (f : Fit bank es) where
       take-closed noRecord (bank .voices) p n (omega (arith, f .count))
       (omega (arith, f .voices-whole, f .count, f .room)) in
       let fewer : length (takenOut id es) ≡ length es - 1 =
-      sym (map-length (λ (e : Entry). e .id) (takenOut id es))
+      sym (length-map (takenOut id es) (λ (e : Entry). e .id))
       ∙ ap length (e .of-ids)
-      ∙ length-without p (ids es) (omega (arith, map-length (λ (e : Entry). e .id) es))
-      ∙ ap (λ k. k - 1) (map-length (λ (e : Entry). e .id) es) in
+      ∙ length-without p (ids es) (omega (arith, length-map es (λ (e : Entry). e .id)))
+      ∙ ap (λ k. k - 1) (length-map es (λ (e : Entry). e .id)) in
       rw h
       (record {
         ids-whole = length-mapRange _ p (n - 1) (bank .ids) ∙ f .ids-whole;
@@ -219,9 +219,9 @@ module _ (bank : Bank) (es : List Entry) (f : Fit bank es) where
       let h : heldIn bank ≡ n = all-count in
       let e = changed-at id v es in
       let same : length (changed id v es) ≡ length es =
-      sym (map-length (λ (e : Entry). e .id) (changed id v es))
+      sym (length-map (changed id v es) (λ (e : Entry). e .id))
       ∙ ap length (e .of-ids)
-      ∙ map-length (λ (e : Entry). e .id) es in
+      ∙ length-map es (λ (e : Entry). e .id) in
       rw h
       (record {
         ids-whole = f .ids-whole;

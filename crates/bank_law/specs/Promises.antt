@@ -78,7 +78,8 @@ pub record SameSound (a b : Answer) : Type 0 where
   pub left-masks : a .reply ≡ done [] → EqualMasks (a .left) (b .left)
   pub right-masks : a .reply ≡ done [] → EqualMasks (a .right) (b .right)
 
--- every number that a call is given is an f32, which is what the types of its parameters say
+-- every number of a voice that a call is given is an f32, which is what the type says, and so is
+-- every number that a read is given
 abbrev pub F32Call : Call → Type 0
 F32Call (add id voice) = F32Voice voice
 F32Call (remove id) = Unit

@@ -2,7 +2,7 @@
 -- takes its follower's, so that the first n - 1 are then the others in their order. Assumes
 -- nothing.
 use mathlib.Core.Path.{_≡_, sym, ap, _∙_}
-use mathlib.Core.List.{List, [], _∷_, _++_, append-nil}
+use mathlib.Core.List.{List, [], _∷_, _++_, map, append-nil}
 use Prim.Native.Nat.{ℕ, zero, suc, _+_, _-_, _≤_, _<_}
 use native.Mathlib.Decide.{decLt}
 use native.Mathlib.Omega.{arith}
@@ -12,6 +12,7 @@ use lib.Seq.{length-take-le, getD-take, getD-drop, getD-append-add, ext-getD, ta
 use Rattle.lists.specs.Maps.{mapRange, between-in, between-low, length-mapRange}
 use Rattle.lists.specs.Maps.{getD-mapRange}
 use Rattle.lists.specs.Totals.{All}
+use Rattle.lists.specs.Mapped.{map-append, map-take, map-drop}
 
 module _ {A : Type 0} where
   -- each entry from p on and below n takes its follower's place; d stands past the list's end, and
@@ -91,3 +92,11 @@ module _ {A : Type 0} where
         ext-getD d (take (n - 1) (closed d p (n - 1) xs)) (without p first) (fits ∙ sym other)
         (λ k h. getD-take (n - 1) (closed d p (n - 1) xs) k d (omega (arith, fits))
         ∙ entry k (omega (arith, fits)) (decLt k p))
+
+pub map-without :
+    {A B : Type 0} (g : A → B) (p : ℕ) (xs : List A) → map g (without p xs) ≡ without p (map g xs)
+unfolding without
+map-without g p xs =
+    map-append g (take p xs) (drop (suc p) xs)
+    ∙ ap (λ l. l ++ map g (drop (suc p) xs)) (map-take g p xs)
+    ∙ ap (λ l. take p (map g xs) ++ l) (map-drop g (suc p) xs)

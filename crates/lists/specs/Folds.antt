@@ -110,6 +110,23 @@ module _ {A : Type 0} where
   unfolding firstBadFrom
   bad-end ok i e = ap (firstBadFrom ok i) e
 
+  -- of a test that does not look at the place, counted from one place later
+  pub bad-later :
+      (ok : A → Bool) (i : ℕ) (xs : List A)
+      → firstBadFrom (λ k x. ok x) (suc i) xs ≡ suc (firstBadFrom (λ k x. ok x) i xs)
+  unfolding firstBadFrom
+  bad-later ok i [] = refl
+  bad-later ok i (x ∷ xs) = go (ok x) (bad-later ok (suc i) xs)
+    where
+      go :
+          (b : Bool)
+          → firstBadFrom (λ k x. ok x) (suc (suc i)) xs
+          ≡ suc (firstBadFrom (λ k x. ok x) (suc i) xs)
+          → cond b (firstBadFrom (λ k x. ok x) (suc (suc i)) xs) (suc i)
+          ≡ suc (cond b (firstBadFrom (λ k x. ok x) (suc i) xs) i)
+      go true r = r
+      go false r = refl
+
   -- what the place says: it is at most the length; every entry before it passes; the entry at it,
   -- if there is one, fails
   bad-bounds : (ok : ℕ → A → Bool) (i : ℕ) (xs : List A) → (i ≤ firstBadFrom ok i xs) × (firstBadFrom ok i xs ≤ i + length xs)

@@ -12,4 +12,5 @@ pub mod Stages
 pub mod Bytes
 pub mod Stores
 pub mod Pieces
+pub mod Mapped
 pub mod Closing

@@ -9,7 +9,7 @@ use native.Mathlib.Numerals.{add-one}
 use native.Mathlib.Omega.{arith}
 use lib.Arith.{digits-mod}
 use lib.Dec.{T, eqb, eqb→eq, eqb-refl}
-use lib.ListN.{length, getD, take, drop}
+use lib.ListN.{length, getD, take, drop, set}
 use Rattle.lists.specs.Maps.{tabFrom, tabulate-self}
 use Rattle.lists.specs.Folds.{range}
 
@@ -40,6 +40,12 @@ module _ {A : Type 0} where
   all-drop P zero xs h = h
   all-drop P (suc n) [] h = tt
   all-drop P (suc n) (x ∷ xs) h = all-drop P n xs (h .1)
+
+  pub all-set :
+      (P : A → Type 0) (xs : List A) (k : ℕ) (x : A) → All P xs → P x → All P (set xs k x)
+  all-set P [] k x h p = tt
+  all-set P (y ∷ ys) zero x h p = (p, h .1)
+  all-set P (y ∷ ys) (suc k) x h p = (h .0, all-set P ys k x (h .1) p)
 
   pub all-at : (P : A → Type 0) (xs : List A) (k : ℕ) (d : A) → All P xs → k < length xs → P (getD xs k d)
   all-at P [] k d h l = absurd (not-suc-le-zero l)

@@ -1,6 +1,6 @@
 // The open calls of spectral-dsp, under the Rust's names and paths, and those on scene records and
-// on a bank of voices, which the Rust does not have. Each is defined, with its contract, its tests
-// and its one call of the core, in the crate of its kind.
+// on a bank of voices, which the Rust does not have. Each is defined, with its contract and its
+// tests, in the crate of its kind.
 pub mod processing;
 
 pub use bank_masks::read_masks;

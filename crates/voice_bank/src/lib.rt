@@ -11,6 +11,7 @@ ghost use Rattle.voice_records.specs.VoiceRecords.{noRecord, plainVoice};
 ghost use Rattle.voice_bank.specs.Banks.{empty, placeIn, addReply, bankAdded};
 ghost use Rattle.voice_bank.specs.Banks.{removeReply, bankRemoved};
 ghost use Rattle.voice_bank.specs.Banks.{changeReply, bankChanged};
+ghost use Rattle.voice_bank.specs.Premises.{Gap};
 use answer::Outcome;
 use answer::refusal;
 use limits::lengths::MOST_VOICES;
@@ -87,7 +88,7 @@ fn voice_put(
 
 // Each id after a place, up to the last, moves into the place before it.
 fn ids_closed(ids: [u16; MOST_VOICES], place: usize, last: usize) -> [u16; MOST_VOICES]
-    requires { ⌜ (place ≤ last) × (last < MOST-VOICES) ⌝ }
+    requires { ⌜ Gap place last ⌝ }
     ensures { λ r. ⌜ r ≡ closed 0 place last ids ⌝ }
 {
     let mut moved = ids;
@@ -105,7 +106,7 @@ fn voices_closed(
     place: usize,
     last: usize,
 ) -> [VoiceRecord; MOST_VOICES]
-    requires { ⌜ (place ≤ last) × (last < MOST-VOICES) ⌝ }
+    requires { ⌜ Gap place last ⌝ }
     ensures { λ r. ⌜ r ≡ closed noRecord place last voices ⌝ }
 {
     let mut moved = voices;

@@ -34,14 +34,14 @@ ids-closed-requires c κs =
     let test = c .before in
     let h = test .before .before .before in
     let most = places-most (h .before .args .bank .count) (h .held .ensures) in
-    (omega (arith, test .if1 .left), omega (arith, most, test .if1 .left))
+    record { inside = omega (arith, test .if1 .left); there = omega (arith, most, test .if1 .left) }
 
 voices-closed-requires : tie.Need-voices-closed-requires
 voices-closed-requires c κs =
     let test = c .before .before in
     let h = test .before .before .before in
     let most = places-most (h .before .args .bank .count) (h .held .ensures) in
-    (omega (arith, test .if1 .left), omega (arith, most, test .if1 .left))
+    record { inside = omega (arith, test .if1 .left); there = omega (arith, most, test .if1 .left) }
 
 returns-2 : tie.Need-returns-2
 returns-2 c =
