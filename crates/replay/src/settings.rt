@@ -7,11 +7,10 @@ use scene::MaskConfig;
 use scene::MaskVoice;
 use scene::MotionConfig;
 use scene::Pitch;
-use scene::pitches::form_of;
-use scene::pitches::note_of;
-use scene::pitches::number_of;
 use scene::pitches::pitch_of;
 use std::num::wrapping_add_usize;
+use voice_records::VoiceRecord;
+use voice_records::plain_voice;
 
 // The moving field's settings, from four words.
 pub fn motion_at(bytes: &[u8], at: usize, past: usize) -> MotionConfig {
@@ -92,7 +91,7 @@ fn pitch_at(bytes: &[u8], first: usize) -> Pitch {
     pitch_of(form, note, list::float(bytes, first, 1))
 }
 
-fn voice_at(bytes: &[u8], at: usize, past: usize) -> MaskVoice {
+pub fn voice_at(bytes: &[u8], at: usize, past: usize) -> MaskVoice {
     let first = wrapping_add_usize(at, past);
     let pitch = pitch_at(bytes, first);
     MaskVoice {
@@ -110,23 +109,26 @@ fn word_of_pitch(form: u8, note: u8) -> u32 {
     form as u32 * 256 + note as u32
 }
 
-// The eight words of a voice.
-pub fn words_of_voice(voice: MaskVoice) -> [u32; VOICE_WORDS] {
-    let pitch = voice.pitch;
+// The eight words of a voice's record.
+pub fn words_of_record(record: VoiceRecord) -> [u32; VOICE_WORDS] {
     [
-        word_of_pitch(form_of(pitch), note_of(pitch)),
-        bits_of(number_of(pitch)),
-        bits_of(voice.level),
-        bits_of(voice.pressure),
-        bits_of(voice.timbre),
-        bits_of(voice.volume_gain),
-        bits_of(voice.expression_gain),
-        bits_of(voice.pan),
+        word_of_pitch(record.pitch_form, record.note),
+        bits_of(record.semitones_or_hertz),
+        bits_of(record.level),
+        bits_of(record.pressure),
+        bits_of(record.timbre),
+        bits_of(record.volume_gain),
+        bits_of(record.expression_gain),
+        bits_of(record.pan),
     ]
 }
 
+pub fn words_of_voice(voice: MaskVoice) -> [u32; VOICE_WORDS] {
+    words_of_record(plain_voice(voice))
+}
+
 // The stored voice with this number, or a default one past them.
-fn voice_of(bytes: &[u8], first: usize, number: usize) -> MaskVoice
+pub fn voice_of(bytes: &[u8], first: usize, number: usize) -> MaskVoice
     requires { ⌜ number < 128 ⌝ }
 {
     if number < list::count(bytes, first, 1) {
