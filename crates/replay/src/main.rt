@@ -1,6 +1,8 @@
 // Replays the oracle's lists of calls, one after the other: makes each call and prints its answer.
 // The lists are in data/ and the oracle's answers in `stdout`. oracle/README.md states the formats.
-// A list has a module that reads its records, a name in `Calls`, and a line in `main`.
+// A list has a module that reads its records, a name in `Calls`, and a line in `main`. A list whose
+// records depend on those before them has no name: its module has the loop over them.
+mod banks;
 mod list;
 mod masks;
 mod numbers;
@@ -50,6 +52,12 @@ fn replay(path: &[u8], calls: Calls, bytes: &mut [u8]) {
     print_all(calls, &bytes[..n]);
 }
 
+// The same for the calls on a bank, which each record leaves to the next.
+fn replay_banks(path: &[u8], bytes: &mut [u8]) {
+    let n = list::read(path, bytes);
+    banks::print_all(&bytes[..n]);
+}
+
 fn main() {
     let mut bytes = io::large_buffer();
     replay(b"numbers.bin", Calls::Numbers, &mut bytes);
@@ -59,4 +67,5 @@ fn main() {
     replay(b"masks.bin", Calls::Masks, &mut bytes);
     replay(b"mask_refusals.bin", Calls::Masks, &mut bytes);
     replay(b"scene_records.bin", Calls::Records, &mut bytes);
+    replay_banks(b"voice_banks.bin", &mut bytes);
 }

@@ -4,6 +4,8 @@ use crate::list;
 use crate::settings;
 use crate::slice;
 use crate::text;
+use answer::Outcome;
+use spectral_dsp::Bank;
 use std::num::wrapping_add_usize;
 
 // What each entry of a mask holds before the call.
@@ -128,20 +130,24 @@ fn print_precomputed(bytes: &[u8], at: usize) {
     );
 }
 
-fn print_stereo_on(
+// Where the voices of a stereo call come from: its record, or a bank.
+pub enum Voices {
+    Stored,
+    Banked,
+}
+
+fn build_stereo(
     bytes: &[u8],
     at: usize,
     left: &mut [f32],
     right: &mut [f32],
-    curve: &mut [f32],
-    table: &mut [f32],
-) {
-    slice::fill(bytes, at, 14, curve);
-    fill_table(bytes, at, 22, table);
+    curve: &[f32],
+    table: &[f32],
+) -> Outcome {
     let config = settings::config_at(bytes, at, 1);
     let count = list::count(bytes, at, 31);
     let voices = settings::voices_at(bytes, at, 31);
-    text::print_outcome(spectral_dsp::build_stereo_masks_with_voices_precomputed(
+    spectral_dsp::build_stereo_masks_with_voices_precomputed(
         left,
         right,
         curve,
@@ -149,13 +155,46 @@ fn print_stereo_on(
         count,
         config,
         table,
-    ));
+    )
+}
+
+fn stereo_outcome(
+    bytes: &[u8],
+    at: usize,
+    voices: Voices,
+    bank: Bank,
+    left: &mut [f32],
+    right: &mut [f32],
+    curve: &[f32],
+    table: &[f32],
+) -> Outcome {
+    let config = settings::config_at(bytes, at, 1);
+    match voices {
+        Voices::Stored => build_stereo(bytes, at, left, right, curve, table),
+        Voices::Banked => spectral_dsp::read_masks(left, right, curve, bank, config, table),
+    }
+}
+
+fn print_stereo_on(
+    bytes: &[u8],
+    at: usize,
+    voices: Voices,
+    bank: Bank,
+    left: &mut [f32],
+    right: &mut [f32],
+    curve: &mut [f32],
+    table: &mut [f32],
+) {
+    slice::fill(bytes, at, 14, curve);
+    fill_table(bytes, at, 22, table);
+    text::print_outcome(stereo_outcome(bytes, at, voices, bank, left, right, curve, table));
     print_mask(left);
     print_mask(right);
 }
 
-fn print_stereo(bytes: &[u8], at: usize) {
-    text::print(b"build_stereo_masks_with_voices_precomputed");
+// Makes a stereo call, and prints its answer and both masks. The records of both such calls are the
+// same up to the voices. The bank is not read where the voices are stored.
+pub fn print_stereo_masks(bytes: &[u8], at: usize, voices: Voices, bank: Bank) {
     let mut left = [BEFORE; 8194];
     let mut right = [BEFORE; 8194];
     let mut curve = [0.0f32; 8194];
@@ -167,11 +206,18 @@ fn print_stereo(bytes: &[u8], at: usize) {
     print_stereo_on(
         bytes,
         at,
+        voices,
+        bank,
         &mut left[..n],
         &mut right[..m],
         &mut curve[..points],
         &mut table[..entries],
     );
+}
+
+fn print_stereo(bytes: &[u8], at: usize) {
+    text::print(b"build_stereo_masks_with_voices_precomputed");
+    print_stereo_masks(bytes, at, Voices::Stored, spectral_dsp::new_bank());
 }
 
 fn print_call(call: u32, bytes: &[u8], at: usize) {
