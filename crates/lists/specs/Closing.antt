@@ -1,21 +1,20 @@
--- Taking an entry out of the first n of a list that keeps its length: each entry from its place on
--- takes its follower's, so that the first n - 1 are then the others in their order. Assumes
+-- Taking an entry out of the first n of a list that keeps its length: from its place on each place
+-- gets the entry of the next, so that the first n - 1 are then the others in their order. Assumes
 -- nothing.
 use mathlib.Core.Path.{_≡_, sym, ap, _∙_}
-use mathlib.Core.List.{List, [], _∷_, _++_, map, append-nil}
+use mathlib.Core.List.{List, [], _∷_, _++_, map}
 use Prim.Native.Nat.{ℕ, zero, suc, _+_, _-_, _≤_, _<_}
 use native.Mathlib.Decide.{decLt}
 use native.Mathlib.Omega.{arith}
 use lib.ListN.{length, getD, take, drop, length-append, length-drop, List·getD-append}
-use lib.ListN.{drop-of-length-le}
-use lib.Seq.{length-take-le, getD-take, getD-drop, getD-append-add, ext-getD, take-all}
+use lib.Seq.{length-take-le, getD-take, getD-drop, getD-append-add, ext-getD}
 use Rattle.lists.specs.Maps.{mapRange, between-in, between-low, length-mapRange}
 use Rattle.lists.specs.Maps.{getD-mapRange}
 use Rattle.lists.specs.Totals.{All}
 use Rattle.lists.specs.Mapped.{map-append, map-take, map-drop}
 
 module _ {A : Type 0} where
-  -- each entry from p on and below n takes its follower's place; d stands past the list's end, and
+  -- each place from p on and below n gets the entry of the next; d stands past the list's end, and
   -- does not count where n is below its length
   abbrev pub closed : A → ℕ → ℕ → List A → List A
   closed d p n xs = mapRange (λ k x. getD xs (k + 1) d) p n xs
@@ -23,13 +22,6 @@ module _ {A : Type 0} where
   -- a list without its entry at p
   unfoldable pub without : ℕ → List A → List A
   without p xs = take p xs ++ drop (suc p) xs
-
-  pub without-none : (p : ℕ) (xs : List A) → length xs ≤ p → without p xs ≡ xs
-  unfolding without
-  without-none p xs h =
-      ap (λ s. s ++ drop (suc p) xs) (take-all p xs h)
-      ∙ ap (λ s. xs ++ s) (drop-of-length-le xs {i = suc p} (omega arith))
-      ∙ append-nil xs
 
   pub length-without : (p : ℕ) (xs : List A) → p < length xs → length (without p xs) ≡ length xs - 1
   unfolding without

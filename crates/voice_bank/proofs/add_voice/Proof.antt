@@ -2,6 +2,7 @@
 -- nothing.
 use mathlib.Core.Path.{sym, _∙_}
 use Rattle.voice_bank.proofs.Answers.{add-full, add-outside, add-again, add-done}
+use native.Mathlib.Omega.{arith}
 use borrow.Author.Needs.{needs}
 use borrow.Author.Tests.{not-true, not-false}
 use Rattle.voice_bank.proofs.add_voice.Statement.{statement}
@@ -12,7 +13,8 @@ refused-requires c κs = search needs
 
 returns : tie.Need-returns
 returns c =
-    let e = add-full _ _ _ (c .before .if1 .taken) in
+    let a = c .before .before .args in
+    let e = add-full (a .bank) (a .id) (a .voice) (omega (arith, c .before .if1 .taken)) in
     (c .refused .ensures .0 ∙ sym e, simp (c .refused .ensures .1, e))
 
 voice-accepted-requires : tie.Need-voice-accepted-requires
@@ -24,8 +26,9 @@ refused-requires-2 c κs = search needs
 returns-2 : tie.Need-returns-2
 returns-2 c =
     let accepted = c .before .before in
+    let a = accepted .before .before .args in
     let e =
-    add-outside _ _ _ (accepted .before .if1 .left)
+    add-outside (a .bank) (a .id) (a .voice) (omega (arith, accepted .before .if1 .left))
     (sym (accepted .voice-accepted .ensures) ∙ not-true _ (c .before .if2 .taken)) in
     (c .refused2 .ensures .0 ∙ sym e, simp (c .refused2 .ensures .1, e))
 
@@ -40,11 +43,12 @@ returns-3 c =
     let found = c .before .before in
     let passed = found .before .before in
     let accepted = passed .before in
+    let a = accepted .before .before .args in
     let e =
-    add-again _ _ _ (accepted .before .if1 .left)
+    add-again (a .bank) (a .id) (a .voice) (accepted .before .if1 .left)
     (sym (accepted .voice-accepted .ensures) ∙ not-false _ (passed .if2 .left))
     (found .place-in .ensures)
-    (c .before .if3 .taken) in
+    (omega (arith, c .before .if3 .taken)) in
     (c .refused3 .ensures .0 ∙ sym e, simp (c .refused3 .ensures .1, e))
 
 mul-more-ids : tie.Need-mul-more-ids
