@@ -9,11 +9,14 @@ use lib.Dec.{lit<}
 use lib.Count.{trailingZeros}
 use lib.Ieee.{eq, lt, le, ofBits, ofFields, odd, fits}
 use Rattle.float32.specs.Order.{finite, within}
+use Rattle.float32.specs.Remainder.{half}
+use Rattle.scene.specs.declared.Pitch.{Pitch}
 use Rattle.scene.specs.Accepted.{voiceAccepted, pitchAccepted}
-use Rattle.scene.specs.F32.{F32Voice}
+use Rattle.scene.specs.F32.{F32Pitch, F32Voice}
 use Rattle.voice_bank.specs.Banks.{empty}
 use Rattle.chord_law.specs.Curves.{NoNan}
-use Rattle.chord_law.proofs.Instances.{C, E, G}
+use Rattle.chord_law.specs.Voices.{SamePitch}
+use Rattle.chord_law.proofs.Instances.{voice, C, E, G}
 use Rattle.bank_law.specs.Calls.{Reading, Call, add, remove, read}
 use Rattle.bank_law.specs.Present.{has, takenOut, replyBy, presentFrom, present}
 use Rattle.bank_law.specs.Banks.{answerOf, run}
@@ -38,11 +41,12 @@ unfolding presentFrom replyBy has takenOut voiceAccepted pitchAccepted finite wi
     odd trailingZeros eq lt le
 top-down-present = refl
 
-C-itself : SameVoice C C
+-- ---- a voice of this kind is the same as itself, and its numbers are f32s
+itself : (pitch : Pitch) → SamePitch pitch pitch → SameVoice (voice pitch half) (voice pitch half)
 unfolding ofBits ofFields odd trailingZeros eq
-C-itself =
+itself pitch same =
     record {
-      pitch = record { note = refl; tuning = tt };
+      pitch = same;
       level = tt;
       pressure = tt;
       timbre = tt;
@@ -51,11 +55,11 @@ C-itself =
       pan = tt;
     }
 
-E-itself : SameVoice E E
-unfolding ofBits ofFields odd trailingZeros eq
-E-itself =
+voice-f32 : (pitch : Pitch) → F32Pitch pitch → F32Voice (voice pitch half)
+unfolding ofBits ofFields odd trailingZeros fits
+voice-f32 pitch f =
     record {
-      pitch = tt;
+      pitch = f;
       level = tt;
       pressure = tt;
       timbre = tt;
@@ -63,6 +67,14 @@ E-itself =
       expression = tt;
       pan = tt;
     }
+
+C-itself : SameVoice C C
+unfolding ofBits ofFields odd trailingZeros eq
+C-itself = itself (C .pitch) (record { note = refl; tuning = tt })
+
+E-itself : SameVoice E E
+unfolding ofBits ofFields odd trailingZeros eq
+E-itself = itself (E .pitch) tt
 
 there : AllAmong (C ∷ E ∷ []) (E ∷ C ∷ C ∷ [])
 there zero l = record { place = 1; there = lit< tt; same = C-itself }
@@ -81,42 +93,15 @@ same-voices = rw (bottom-up-present, top-down-present) (there, back)
 -- ---- the promise at the two lists
 C-f32 : F32Voice C
 unfolding ofBits ofFields odd trailingZeros fits
-C-f32 =
-    record {
-      pitch = tt;
-      level = tt;
-      pressure = tt;
-      timbre = tt;
-      volume = tt;
-      expression = tt;
-      pan = tt;
-    }
+C-f32 = voice-f32 (C .pitch) tt
 
 E-f32 : F32Voice E
 unfolding ofBits ofFields odd trailingZeros fits
-E-f32 =
-    record {
-      pitch = tt;
-      level = tt;
-      pressure = tt;
-      timbre = tt;
-      volume = tt;
-      expression = tt;
-      pan = tt;
-    }
+E-f32 = voice-f32 (E .pitch) tt
 
 G-f32 : F32Voice G
 unfolding ofBits ofFields odd trailingZeros fits
-G-f32 =
-    record {
-      pitch = tt;
-      level = tt;
-      pressure = tt;
-      timbre = tt;
-      volume = tt;
-      expression = tt;
-      pan = tt;
-    }
+G-f32 = voice-f32 (G .pitch) tt
 
 pub both-ways-sound-the-same :
     (a b : Reading) → F32Reading a → OneReading a b → NoNan (a .curve)

@@ -119,7 +119,7 @@ fn voices_closed(
 }
 
 // The answer of a refused call.
-fn refused(bank: Bank, number: u8) -> Banked
+fn refuse(bank: Bank, number: u8) -> Banked
     ensures { λ r. ⌜ (ofOutcome (r .outcome) ≡ refused number 0) × (r .bank ≡ bank) ⌝ }
 {
     Banked {
@@ -135,15 +135,15 @@ pub fn add_voice(bank: Bank, id: u16, voice: MaskVoice) -> Banked
 {
     let count = bank.count;
     if MOST_VOICES <= count {
-        return refused(bank, refusal::VOICE_COUNT);
+        return refuse(bank, refusal::VOICE_COUNT);
     }
     if !voice_accepted(voice) {
-        return refused(bank, refusal::VOICE);
+        return refuse(bank, refusal::VOICE);
     }
     let ids = bank.ids;
     let place = place_in(ids, count, id);
     if place < count {
-        return refused(bank, refusal::ID);
+        return refuse(bank, refusal::ID);
     }
     let mut more_ids = ids;
     more_ids[count] = id;
@@ -169,7 +169,7 @@ pub fn remove_voice(bank: Bank, id: u16) -> Banked
     let ids = bank.ids;
     let place = place_in(ids, count, id);
     if count <= place {
-        return refused(bank, refusal::ID);
+        return refuse(bank, refusal::ID);
     }
     let last = count - 1;
     let voices = bank.voices;
@@ -192,13 +192,13 @@ pub fn change_voice(bank: Bank, id: u16, voice: MaskVoice) -> Banked
     ensures { λ r. ⌜ r .bank ≡ bankChanged bank id voice ⌝ }
 {
     if !voice_accepted(voice) {
-        return refused(bank, refusal::VOICE);
+        return refuse(bank, refusal::VOICE);
     }
     let count = held(bank.count);
     let ids = bank.ids;
     let place = place_in(ids, count, id);
     if count <= place {
-        return refused(bank, refusal::ID);
+        return refuse(bank, refusal::ID);
     }
     let voices = bank.voices;
     let changed = voice_put(voices, place, voice);

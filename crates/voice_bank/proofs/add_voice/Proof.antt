@@ -8,20 +8,20 @@ use borrow.Author.Tests.{not-true, not-false}
 use Rattle.voice_bank.proofs.add_voice.Statement.{statement}
 use Rattle.voice_bank.proofs.add_voice.Tie as tie
 
-refused-requires : tie.Need-refused-requires
-refused-requires c κs = search needs
+refuse-requires : tie.Need-refuse-requires
+refuse-requires c κs = search needs
 
 returns : tie.Need-returns
 returns c =
     let a = c .before .before .args in
     let e = add-full (a .bank) (a .id) (a .voice) (omega (arith, c .before .if1 .taken)) in
-    (c .refused .ensures .0 ∙ sym e, simp (c .refused .ensures .1, e))
+    (c .refuse .ensures .0 ∙ sym e, simp (c .refuse .ensures .1, e))
 
 voice-accepted-requires : tie.Need-voice-accepted-requires
 voice-accepted-requires c κs = search needs
 
-refused-requires-2 : tie.Need-refused-requires-2
-refused-requires-2 c κs = search needs
+refuse-requires-2 : tie.Need-refuse-requires-2
+refuse-requires-2 c κs = search needs
 
 returns-2 : tie.Need-returns-2
 returns-2 c =
@@ -30,13 +30,13 @@ returns-2 c =
     let e =
     add-outside (a .bank) (a .id) (a .voice) (omega (arith, accepted .before .if1 .left))
     (sym (accepted .voice-accepted .ensures) ∙ not-true _ (c .before .if2 .taken)) in
-    (c .refused2 .ensures .0 ∙ sym e, simp (c .refused2 .ensures .1, e))
+    (c .refuse2 .ensures .0 ∙ sym e, simp (c .refuse2 .ensures .1, e))
 
 place-in-requires : tie.Need-place-in-requires
 place-in-requires c κs = search needs
 
-refused-requires-3 : tie.Need-refused-requires-3
-refused-requires-3 c κs = search needs
+refuse-requires-3 : tie.Need-refuse-requires-3
+refuse-requires-3 c κs = search needs
 
 returns-3 : tie.Need-returns-3
 returns-3 c =
@@ -49,7 +49,7 @@ returns-3 c =
     (sym (accepted .voice-accepted .ensures) ∙ not-false _ (passed .if2 .left))
     (found .place-in .ensures)
     (omega (arith, c .before .if3 .taken)) in
-    (c .refused3 .ensures .0 ∙ sym e, simp (c .refused3 .ensures .1, e))
+    (c .refuse3 .ensures .0 ∙ sym e, simp (c .refuse3 .ensures .1, e))
 
 mul-more-ids : tie.Need-mul-more-ids
 mul-more-ids c = search needs
@@ -80,13 +80,13 @@ pub add-voice-spec : {M : Type 1} → statement M
 add-voice-spec =
     tie.close
     (tie.spec
-    refused-requires
+    refuse-requires
     returns
     voice-accepted-requires
-    refused-requires-2
+    refuse-requires-2
     returns-2
     place-in-requires
-    refused-requires-3
+    refuse-requires-3
     returns-3
     mul-more-ids
     array-write-more-ids

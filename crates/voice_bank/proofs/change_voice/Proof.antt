@@ -12,14 +12,14 @@ use Rattle.voice_bank.proofs.change_voice.Tie as tie
 voice-accepted-requires : tie.Need-voice-accepted-requires
 voice-accepted-requires c κs = search needs
 
-refused-requires : tie.Need-refused-requires
-refused-requires c κs = search needs
+refuse-requires : tie.Need-refuse-requires
+refuse-requires c κs = search needs
 
 returns : tie.Need-returns
 returns c =
     let accepted = c .before .before .voice-accepted in
     let e = change-outside _ _ _ (sym (accepted .ensures) ∙ not-true _ (c .before .if1 .taken)) in
-    (c .refused .ensures .0 ∙ sym e, simp (c .refused .ensures .1, e))
+    (c .refuse .ensures .0 ∙ sym e, simp (c .refuse .ensures .1, e))
 
 held-requires : tie.Need-held-requires
 held-requires c κs = search needs
@@ -29,8 +29,8 @@ place-in-requires c κs =
     let h = c .before in
     places-most (h .before .before .before .args .bank .count) (h .held .ensures)
 
-refused-requires-2 : tie.Need-refused-requires-2
-refused-requires-2 c κs = search needs
+refuse-requires-2 : tie.Need-refuse-requires-2
+refuse-requires-2 c κs = search needs
 
 returns-2 : tie.Need-returns-2
 returns-2 c =
@@ -41,7 +41,7 @@ returns-2 c =
     change-missing _ _ (h .held .ensures) (found .place-in .ensures) _
     (sym (passed .before .voice-accepted .ensures) ∙ not-false _ (passed .if1 .left))
     (c .before .if2 .taken) in
-    (c .refused2 .ensures .0 ∙ sym e, simp (c .refused2 .ensures .1, e))
+    (c .refuse2 .ensures .0 ∙ sym e, simp (c .refuse2 .ensures .1, e))
 
 voice-put-requires : tie.Need-voice-put-requires
 voice-put-requires c κs =
@@ -67,11 +67,11 @@ change-voice-spec =
     tie.close
     (tie.spec
     voice-accepted-requires
-    refused-requires
+    refuse-requires
     returns
     held-requires
     place-in-requires
-    refused-requires-2
+    refuse-requires-2
     returns-2
     voice-put-requires
     returns-3)

@@ -15,8 +15,8 @@ place-in-requires c κs =
     let h = c .before in
     places-most (h .before .args .bank .count) (h .held .ensures)
 
-refused-requires : tie.Need-refused-requires
-refused-requires c κs = search needs
+refuse-requires : tie.Need-refuse-requires
+refuse-requires c κs = search needs
 
 returns : tie.Need-returns
 returns c =
@@ -24,7 +24,7 @@ returns c =
     let h = found .before .before in
     let e =
     remove-missing _ _ (h .held .ensures) (found .place-in .ensures) (c .before .if1 .taken) in
-    (c .refused .ensures .0 ∙ sym e, simp (c .refused .ensures .1, e))
+    (c .refuse .ensures .0 ∙ sym e, simp (c .refuse .ensures .1, e))
 
 sub-last : tie.Need-sub-last
 sub-last c = search needs
@@ -66,7 +66,7 @@ remove-voice-spec =
     (tie.spec
     held-requires
     place-in-requires
-    refused-requires
+    refuse-requires
     returns
     sub-last
     ids-closed-requires
