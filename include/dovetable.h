@@ -292,8 +292,9 @@ struct DovetableSceneRead dovetable_read_scene(const uint8_t *record, size_t byt
  * same settings and table and the same curve without NaN.
  *
  * Whatever a bank holds, no call reads or writes outside it. Where its count is above 128, adding
- * and reading are refused under 3; taking out and changing look at the first 128 voices, keep no
- * others when done, and count them anew. Where an id stands several times, the first is meant.
+ * is refused under 3, and so is reading unless 1 or 2 comes first; taking out and changing look at
+ * the first 128 voices, keep no others when done, and count them anew. Where an id stands several
+ * times, the first is meant.
  */
 
 /* The empty bank: 0 in every field. */
