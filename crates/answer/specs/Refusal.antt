@@ -42,3 +42,7 @@ RECORD = 9
 -- request 105: "An id already present when added, or missing when taken out or changed"
 abbrev pub ID : ℕ
 ID = 10
+
+-- request 106: "A strip above 15"
+abbrev pub STRIP : ℕ
+STRIP = 11

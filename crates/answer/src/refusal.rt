@@ -30,3 +30,6 @@ pub const RECORD: u8 = 9;
 // An id is in the bank already where a voice is added, or is not in it where one is taken out or
 // changed.
 pub const ID: u8 = 10;
+
+// A strip is above 15.
+pub const STRIP: u8 = 11;
