@@ -39,7 +39,7 @@ pub struct PlainSceneRead {
     pub scene: PlainScene,
 }
 
-fn scene_of(plain: PlainScene) -> Scene
+pub fn scene_of(plain: PlainScene) -> Scene
     ensures { λ r. ⌜ r ≡ sceneOf plain ⌝ }
 {
     let settings = plain.settings;
