@@ -1,6 +1,6 @@
-// The open calls of spectral-dsp, under the Rust's names and paths, and those on scene records and
-// on a bank of voices, which the Rust does not have. Each is defined, with its contract and its
-// tests, in the crate of its kind.
+// The open calls of spectral-dsp, under the Rust's names and paths, and those on scene records, on a
+// bank of voices and on a mixer of strips, which the Rust does not have. Each is defined, with its
+// contract and its tests, in the crate of its kind.
 pub mod processing;
 
 pub use bank_masks::read_masks;
@@ -8,6 +8,15 @@ pub use list_calls::MaskWorkspace;
 pub use list_calls::advance_note_envelopes;
 pub use mask_calls::build_stereo_masks_with_prepared_spectrum;
 pub use mask_calls::build_stereo_masks_with_voices_precomputed;
+pub use mixer::Filed;
+pub use mixer::Mixer;
+pub use mixer::Named;
+pub use mixer::Turned;
+pub use mixer::new_mixer;
+pub use mixer::request;
+pub use mixer::turn;
+pub use mixer_masks::Served;
+pub use mixer_masks::serve;
 pub use mono_calls::build_mask;
 pub use mono_calls::build_mask_with_voices;
 pub use mono_calls::build_mask_with_voices_precomputed;
