@@ -1,0 +1,7 @@
+pub mod Counting
+pub mod Lines
+pub mod Entries
+pub mod Runs
+pub mod Named
+pub mod InTime
+pub mod Counted

@@ -1,0 +1,4 @@
+pub mod Calls
+pub mod Waits
+pub mod Mixers
+pub mod Promises
