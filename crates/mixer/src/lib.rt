@@ -157,6 +157,7 @@ pub fn turn(mixer: Mixer) -> Turned
         };
     }
     let last = count - 1;
+    let front: usize = 0;
     let strips = mixer.strips;
     let rest = moved_up(strips, last);
     let after = Mixer {
@@ -165,7 +166,7 @@ pub fn turn(mixer: Mixer) -> Turned
         served: one_more(mixer.served),
     };
     Turned {
-        named: Named::Strip(strips[0]),
+        named: Named::Strip(strips[front]),
         mixer: after,
     }
 }

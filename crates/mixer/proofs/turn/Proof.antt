@@ -28,8 +28,11 @@ moved-up-requires c κs = search needs
 one-more-requires : tie.Need-one-more-requires
 one-more-requires c κs = search needs
 
-array-read-t13 : tie.Need-array-read-t13
-array-read-t13 c = search needs
+mul-t12 : tie.Need-mul-t12
+mul-t12 c = search needs
+
+array-read-t15 : tie.Need-array-read-t15
+array-read-t15 c = search needs
 
 returns-2 : tie.Need-returns-2
 returns-2 c =
@@ -53,5 +56,6 @@ turn-spec =
     sub-last
     moved-up-requires
     one-more-requires
-    array-read-t13
+    mul-t12
+    array-read-t15
     returns-2)

@@ -1,0 +1,17 @@
+-- `one_more` meets its contract. Assumes nothing.
+use native.Mathlib.Omega.{arith}
+use borrow.Author.Needs.{needs}
+use Rattle.mixer.proofs.one_more.Statement.{statement}
+use Rattle.mixer.proofs.one_more.Tie as tie
+
+add-result : tie.Need-add-result
+add-result c = search needs
+
+returns : tie.Need-returns
+returns c = omega (arith, c .if1 .taken)
+
+returns-2 : tie.Need-returns-2
+returns-2 c = omega (arith, c .if1 .left)
+
+pub one-more-spec : {M : Type 1} → statement M
+one-more-spec = tie.close (tie.spec add-result returns returns-2)
