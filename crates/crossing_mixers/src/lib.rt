@@ -22,6 +22,7 @@ use mixer::STRIPS;
 use mixer::request;
 use mixer::turn;
 use mixer_masks::build_scene;
+use mixer_masks::scene_place;
 
 // What a request answers, with C's layout: a number, 0 when done, a place, and the mixer.
 #[repr(C)]
@@ -124,25 +125,24 @@ fn build_plain(
     build_scene(left, right, manual_mask_db, scene_of(plain), table)
 }
 
-// Builds the masks of the strip that a turn has named, if it has named one. Of the sixteen scenes
-// only that strip's is taken from its record.
+// Builds the masks of the scene of the strip that a turn has named, if it has named one.
 fn build_named(
     left: &mut [f32],
     right: &mut [f32],
     manual_mask_db: &[f32],
-    given: StripScenes,
+    plain: PlainScene,
     table: &[f32],
     named: Named,
 ) -> Outcome
     ensures { λ r. ⌜ ofOutcome r ≡ namedReply (λ strip. plainReply (length (now (left .entry)))
-        (length (now (right .entry))) (now («manual_mask_db» .entry)) (plainAt given strip)
-        (now (table .entry))) named ⌝ }
+        (length (now (right .entry))) (now («manual_mask_db» .entry)) plain (now (table .entry)))
+        named ⌝ }
     ensures { λ r. ⌜ now (left .exit) ≡ namedMask (λ strip. plainMask side.left
-        (now («manual_mask_db» .entry)) (plainAt given strip) (now (table .entry))) named
-        (ofOutcome r) (now (left .entry)) ⌝ }
+        (now («manual_mask_db» .entry)) plain (now (table .entry))) named (ofOutcome r)
+        (now (left .entry)) ⌝ }
     ensures { λ r. ⌜ now (right .exit) ≡ namedMask (λ strip. plainMask side.right
-        (now («manual_mask_db» .entry)) (plainAt given strip) (now (table .entry))) named
-        (ofOutcome r) (now (right .entry)) ⌝ }
+        (now («manual_mask_db» .entry)) plain (now (table .entry))) named (ofOutcome r)
+        (now (right .entry)) ⌝ }
 {
     match named {
         Named::Nobody => Outcome::Done,
@@ -150,14 +150,12 @@ fn build_named(
             if STRIPS <= strip {
                 return Outcome::Refused(refusal::STRIP, 0);
             }
-            let scenes = given.scenes;
-            let plain = scenes[strip];
             build_plain(left, right, manual_mask_db, plain, table)
         }
     }
 }
 
-// `serve`.
+// `serve`. Of the sixteen scenes only that of the strip that is named is taken from its record.
 pub fn serve(
     left: &mut [f32],
     right: &mut [f32],
@@ -183,7 +181,9 @@ pub fn serve(
     let turned = turn(mixer);
     let named = turned.named;
     let after = turned.mixer;
-    let outcome = build_named(left, right, manual_mask_db, given, table, named);
+    let scenes = given.scenes;
+    let plain = scenes[scene_place(named)];
+    let outcome = build_named(left, right, manual_mask_db, plain, table, named);
     PlainServed {
         number: outcome.number() as u32,
         place: outcome.place(),

@@ -56,6 +56,11 @@ sceneMask side curve scene table =
 
 -- ---- on the scene of the strip that a turn names
 
+-- where that scene stands; the first place where the turn names none of the sixteen strips
+abbrev pub scenePlace : Named → ℕ
+scenePlace (Strip strip) = cond (leb STRIPS strip) 0 strip
+scenePlace Nobody = 0
+
 -- the answer, given that to each strip's scene. "A strip above 15 is refusal 11, before all
 -- others", which no turn of a mixer that calls have made can name.
 abbrev pub namedReply : (ℕ → Reply) → Named → Reply

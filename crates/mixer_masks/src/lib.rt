@@ -1,13 +1,14 @@
 // The strips of a mixer and one mask builder: the open call that takes a turn and builds the masks
 // of the strip that it names.
 ghost use mathlib.Core.Path.{_≡_};
+ghost use Prim.Native.Nat.{_<_};
 ghost use lib.ListN.{length};
 ghost use Rattle.answer.specs.Reply.{ofOutcome};
 ghost use Rattle.answer.specs.Written.{written};
 ghost use Rattle.lobes.specs.Pan as side;
-ghost use Rattle.mixer.specs.Mixers.{turnNames, mixerTurned};
+ghost use Rattle.mixer.specs.Mixers.{STRIPS, turnNames, mixerTurned};
 ghost use Rattle.mixer_masks.specs.Serving.{sceneReply, sceneMask, sceneAt};
-ghost use Rattle.mixer_masks.specs.Serving.{namedReply, namedMask};
+ghost use Rattle.mixer_masks.specs.Serving.{scenePlace, namedReply, namedMask};
 use answer::Outcome;
 use answer::refusal;
 use mask_calls::build_stereo_masks_with_voices_precomputed;
@@ -54,24 +55,40 @@ pub fn build_scene(
     )
 }
 
-// Builds the masks of the strip that a turn has named, if it has named one.
+// Where the scene of the strip that a turn has named stands among the sixteen; the first place where
+// it has named none of them.
+pub fn scene_place(named: Named) -> usize
+    ensures { λ r. ⌜ (r ≡ scenePlace named) × (r < STRIPS) ⌝ }
+{
+    match named {
+        Named::Nobody => 0,
+        Named::Strip(strip) => {
+            if STRIPS <= strip {
+                return 0;
+            }
+            strip
+        }
+    }
+}
+
+// Builds the masks of the scene of the strip that a turn has named, if it has named one.
 fn build_named(
     left: &mut [f32],
     right: &mut [f32],
     manual_mask_db: &[f32],
-    scenes: [Scene; STRIPS],
+    scene: Scene,
     table: &[f32],
     named: Named,
 ) -> Outcome
     ensures { λ r. ⌜ ofOutcome r ≡ namedReply (λ strip. sceneReply (length (now (left .entry)))
-        (length (now (right .entry))) (now («manual_mask_db» .entry)) (sceneAt scenes strip)
-        (now (table .entry))) named ⌝ }
+        (length (now (right .entry))) (now («manual_mask_db» .entry)) scene (now (table .entry)))
+        named ⌝ }
     ensures { λ r. ⌜ now (left .exit) ≡ namedMask (λ strip. sceneMask side.left
-        (now («manual_mask_db» .entry)) (sceneAt scenes strip) (now (table .entry))) named
-        (ofOutcome r) (now (left .entry)) ⌝ }
+        (now («manual_mask_db» .entry)) scene (now (table .entry))) named (ofOutcome r)
+        (now (left .entry)) ⌝ }
     ensures { λ r. ⌜ now (right .exit) ≡ namedMask (λ strip. sceneMask side.right
-        (now («manual_mask_db» .entry)) (sceneAt scenes strip) (now (table .entry))) named
-        (ofOutcome r) (now (right .entry)) ⌝ }
+        (now («manual_mask_db» .entry)) scene (now (table .entry))) named (ofOutcome r)
+        (now (right .entry)) ⌝ }
 {
     match named {
         Named::Nobody => Outcome::Done,
@@ -79,14 +96,13 @@ fn build_named(
             if STRIPS <= strip {
                 return Outcome::Refused(refusal::STRIP, 0);
             }
-            let scene = scenes[strip];
             build_scene(left, right, manual_mask_db, scene, table)
         }
     }
 }
 
-// Takes a turn and builds both masks of the strip that it names, of whose scenes there is one for
-// each strip. The turn counts and takes the strip off also where its scene is refused.
+// Takes a turn and builds both masks of the strip that it names; each strip has a scene. The turn
+// counts and takes the strip off also where its scene is refused.
 pub fn serve(
     left: &mut [f32],
     right: &mut [f32],
@@ -110,7 +126,8 @@ pub fn serve(
     let turned = turn(mixer);
     let named = turned.named;
     let after = turned.mixer;
-    let outcome = build_named(left, right, manual_mask_db, scenes, table, named);
+    let scene = scenes[scene_place(named)];
+    let outcome = build_named(left, right, manual_mask_db, scene, table, named);
     Served {
         named: named,
         outcome: outcome,

@@ -16,12 +16,6 @@ returns c =
     let e = c .before .before .named .given .1 in
     (simp (e, le-leb _ _ (c .if1 .taken)), (simp e, simp e))
 
-mul-plain : tie.Need-mul-plain
-mul-plain c = search needs
-
-array-copy-out-plain : tie.Need-array-copy-out-plain
-array-copy-out-plain c = search needs
-
 build-plain-requires : tie.Need-build-plain-requires
 build-plain-requires c κs = search needs
 
@@ -41,7 +35,7 @@ same-length-2 c = search needs
 returns-3 : tie.Need-returns-3
 returns-3 c =
     let b = c .before .before .before .before in
-    let i = b .before .before .before .before .before in
+    let i = b .before .before .before in
     let e = i .before .before .named .given .1 in
     let built = b .build-plain .ensures in
     (
@@ -56,8 +50,6 @@ build-named-spec =
     enum-told
     enum-known-named
     returns
-    mul-plain
-    array-copy-out-plain
     build-plain-requires
     returns-2
     same-length

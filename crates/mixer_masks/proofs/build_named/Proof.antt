@@ -16,12 +16,6 @@ returns c =
     let e = c .before .before .named .given .1 in
     (simp (e, le-leb _ _ (c .if1 .taken)), (simp e, simp e))
 
-mul-scene : tie.Need-mul-scene
-mul-scene c = search needs
-
-array-copy-out-scene : tie.Need-array-copy-out-scene
-array-copy-out-scene c = search needs
-
 build-scene-requires : tie.Need-build-scene-requires
 build-scene-requires c κs = search needs
 
@@ -41,7 +35,7 @@ same-length-2 c = search needs
 returns-3 : tie.Need-returns-3
 returns-3 c =
     let b = c .before .before .before .before in
-    let i = b .before .before .before .before in
+    let i = b .before .before .before in
     let e = i .before .before .named .given .1 in
     let built = b .build-scene .ensures in
     (
@@ -56,8 +50,6 @@ build-named-spec =
     enum-told
     enum-known-named
     returns
-    mul-scene
-    array-copy-out-scene
     build-scene-requires
     returns-2
     same-length
