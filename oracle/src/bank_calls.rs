@@ -127,13 +127,6 @@ pub fn steps(random: &mut Random) -> Vec<Step> {
     steps
 }
 
-/// In any order.
-fn shuffle<T>(random: &mut Random, all: &mut [T]) {
-    for end in (2..=all.len()).rev() {
-        all.swap(end - 1, random.below(end));
-    }
-}
-
 /// These voices in another order, some of them several times, but at most 120 in all.
 fn repeated(random: &mut Random, voices: &[MaskVoice]) -> Vec<MaskVoice> {
     let mut all = voices.to_vec();
@@ -142,7 +135,7 @@ fn repeated(random: &mut Random, voices: &[MaskVoice]) -> Vec<MaskVoice> {
         let again = random.below(8).min(most);
         all.extend((0..again).map(|_| random.pick(voices)));
     }
-    shuffle(random, &mut all);
+    random.shuffle(&mut all);
     all
 }
 

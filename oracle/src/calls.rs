@@ -2,6 +2,7 @@
 //! what the Rust does, or what its change request says where the Rust has no such call. A refused
 //! call changes nothing.
 
+use crate::mixer::{Mixer, STRIPS, Served};
 use crate::refusals::{self as refuse, MAX_VOICES, Outcome, Refusal, within};
 use crate::scene_records::{self, StoredScene};
 use crate::spectral_dsp::{
@@ -356,4 +357,55 @@ pub fn read_masks<V: Copy + Into<MaskVoice>>(
 ) -> Outcome {
     let voices: Vec<MaskVoice> = bank.iter().map(|&(_, voice)| voice.into()).collect();
     build_stereo_masks_with_voices_precomputed(left, right, manual_mask_db, &voices, config, table)
+}
+
+/// Files a strip's request. The mixer goes in by value and comes back beside the outcome, as it
+/// came where the strip waits already. A full line without the strip is one that a caller has made,
+/// and it too comes back as it came.
+pub fn request(mut mixer: Mixer, strip: usize) -> (Outcome, Mixer) {
+    let outcome = refuse::strip(strip);
+    let waits = mixer.waiting.contains(&strip);
+    if outcome.is_ok() && !waits && mixer.waiting.len() < STRIPS {
+        mixer.waiting.push_back(strip);
+    }
+    (outcome, mixer)
+}
+
+/// Names the strip that has waited longest, takes it off and counts; none where nobody waits.
+pub fn turn(mut mixer: Mixer) -> (Option<usize>, Mixer) {
+    let named = mixer.waiting.pop_front();
+    if named.is_some() {
+        mixer.served = mixer.served.saturating_add(1);
+    }
+    (named, mixer)
+}
+
+/// A turn, and the stereo call on the scene of the strip that it names. The turn is taken also
+/// where the scene is refused. Where nobody is named, nothing is tested and nothing is written.
+pub fn serve(
+    left: &mut [f32],
+    right: &mut [f32],
+    manual_mask_db: &[f32],
+    scenes: &[StoredScene; STRIPS],
+    table: &[f32],
+    mixer: Mixer,
+) -> Served {
+    let (named, mixer) = turn(mixer);
+    let build = |strip| {
+        refuse::strip(strip)?;
+        let (voices, config) = (&scenes[strip].voices, scenes[strip].config);
+        build_stereo_masks_with_voices_precomputed(
+            left,
+            right,
+            manual_mask_db,
+            voices,
+            config,
+            table,
+        )
+    };
+    Served {
+        named,
+        outcome: named.map_or(Ok(()), build),
+        mixer,
+    }
 }

@@ -12,6 +12,8 @@ pub mod edges;
 pub mod functions;
 pub mod lists;
 pub mod mask_calls;
+pub mod mixer;
+pub mod mixer_calls;
 pub mod numbers;
 pub mod plain_pitch;
 pub mod plain_words;

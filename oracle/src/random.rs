@@ -69,6 +69,13 @@ impl Random {
         choices[self.below(choices.len())]
     }
 
+    /// Puts all into any order.
+    pub fn shuffle<T>(&mut self, all: &mut [T]) {
+        for end in (2..=all.len()).rev() {
+            all.swap(end - 1, self.below(end));
+        }
+    }
+
     /// A float from `low` to `high`, spread evenly.
     pub fn between(&mut self, low: f32, high: f32) -> f32 {
         let unit = (self.word() >> 40) as f32 / 16_777_216.0;

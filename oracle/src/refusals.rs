@@ -1,6 +1,7 @@
 //! Document 01's table of refusals, with the numbers that change requests add to it, and its
 //! limits, ends included. NaN lies outside every limit.
 
+use crate::mixer::STRIPS;
 use crate::spectral_dsp::{MaskConfig, MaskVoice, MotionConfig, Pitch};
 
 /// A refusal's number, and the index it names where its row names one, else 0.
@@ -175,4 +176,9 @@ pub fn present_id(place: Option<usize>) -> Result<usize, Refusal> {
         number: 10,
         place: 0,
     })
+}
+
+/// 11
+pub fn strip(strip: usize) -> Outcome {
+    require(strip < STRIPS, 11)
 }
