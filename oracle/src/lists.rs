@@ -2,6 +2,7 @@
 //! them. README.md states the formats.
 
 mod masks;
+mod mixers;
 mod notes;
 mod numbers;
 mod oiko_dsp;
@@ -131,6 +132,7 @@ pub const PROGRAMS: [Program; 3] = [
             Named::new("mask_refusals", masks::refusals),
             Named::new("scene_records", scene_records::list),
             Named::new("voice_banks", voice_banks::list),
+            Named::new("mixers", mixers::list),
         ],
     },
     Program {

@@ -113,6 +113,16 @@ fn the_calls_on_a_bank_and_their_refusals_show_twenty_times() {
     shows("voice_banks", &rows);
 }
 
+#[test]
+fn the_calls_on_a_mixer_and_their_refusals_show_twenty_times() {
+    let rows: [(&str, &[u32]); 3] = [
+        ("request", &[0, 11]),
+        ("turn", &[0]),
+        ("serve", &[0, 1, 2, 3, 4, 5, 6, 11]),
+    ];
+    shows("mixers", &rows);
+}
+
 /// The forms of the stored voices of each record, in the format that README.md states.
 fn forms(calls: &[u8]) -> Vec<Vec<u32>> {
     let words = calls
