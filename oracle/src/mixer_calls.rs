@@ -57,16 +57,19 @@ pub fn some_strips(random: &mut Random) -> Vec<usize> {
 }
 
 /// A request of one of these strips, now and then of a number that no strip has.
-pub fn request(random: &mut Random, strips: &[usize]) -> Step {
+fn request(random: &mut Random, strips: &[usize]) -> Step {
     match random.once_in(12) {
         true => Step::Request(no_strip(random)),
         false => Step::Request(random.pick(strips)),
     }
 }
 
-/// A stretch of calls: requests alone, turns alone, or some of both.
+/// A stretch of calls: each of the strips asks, or requests alone, turns alone, or some of both.
 fn stretch(random: &mut Random, strips: &[usize]) -> Vec<Step> {
-    let turns_of_eight = random.pick(&[0, 0, 1, 3, 4, 5, 8]);
+    if random.once_in(4) {
+        return strips.iter().map(|&strip| Step::Request(strip)).collect();
+    }
+    let turns_of_eight = random.pick(&[0, 1, 3, 4, 5, 8]);
     let length = 1 + random.below(24);
     let step = |_| match random.below(8) < turns_of_eight {
         true => Step::Turn,
