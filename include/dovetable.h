@@ -4,12 +4,14 @@
  *
  * An open call returns 0 when it is done, else the number of a refusal (DovetableRefusal). When
  * done it writes its results and leaves *place alone; when refused it writes *place and nothing
- * else: an index where the refusal has one, else 0. dovetable_read_scene and the three calls that
- * change a bank of voices write nothing and return the number, the place and their result in one
- * struct; dovetable_new_bank returns its result and is never refused. The comment of a call lists
- * its tests under the number of the refusal that a failed test gives. They run in the order of the
- * numbers, but 9 runs first, and of several bad entries the lowest is named. NaN is outside every
- * limit; the ends of a limit are inside.
+ * else: an index where the refusal has one, else 0. dovetable_read_scene, the three calls that
+ * change a bank of voices, dovetable_request and dovetable_serve return the number, the place and
+ * their result in one struct. They write nothing, but dovetable_serve writes its masks when it is
+ * done and has named a strip. dovetable_new_bank, dovetable_new_mixer and dovetable_turn write
+ * nothing, return their result and are never refused. The comment of a call lists its tests under
+ * the number of the refusal that a failed test gives. They run in the order of the numbers, but 9
+ * and 11 run before all others, and of several bad entries the lowest is named. NaN is outside
+ * every limit; the ends of a limit are inside.
  *
  * A slice is passed as a pointer and the number of its entries, all of which must exist. A null
  * pointer with 0 entries is an empty slice. Memory that a call writes must not overlap anything
@@ -48,7 +50,9 @@ enum DovetableRefusal {
     /* a record of the wrong length, or with a forbidden bit set */
     DOVETABLE_REFUSED_RECORD = 9,
     /* an id that is in the bank already, or is not in it */
-    DOVETABLE_REFUSED_ID = 10
+    DOVETABLE_REFUSED_ID = 10,
+    /* a strip above 15 */
+    DOVETABLE_REFUSED_STRIP = 11
 };
 
 enum {
@@ -56,8 +60,9 @@ enum {
     DOVETABLE_NOTES = 128,         /* of a bank of note levels */
     DOVETABLE_HELD_BYTES = 16,     /* of the held notes */
     DOVETABLE_MOST_VOICES = 128,
-    DOVETABLE_RECORD_HEAD_BYTES = 31, /* of a scene record, before its voices */
-    DOVETABLE_RECORD_VOICE_BYTES = 29 /* of each of its voices */
+    DOVETABLE_RECORD_HEAD_BYTES = 31,  /* of a scene record, before its voices */
+    DOVETABLE_RECORD_VOICE_BYTES = 29, /* of each of its voices */
+    DOVETABLE_STRIPS = 16              /* of a mixer */
 };
 
 /* The moving field's shapes. Any other number is refusal 2. */
@@ -139,6 +144,45 @@ struct DovetableBanked {
     uint32_t number; /* 0, or a DovetableRefusal */
     size_t place;
     struct DovetableBank bank;
+};
+
+/* A mixer: a block of fixed size that the caller owns. It may be copied, kept and read, but its
+ * fields are the calls' own and are not to be written: dovetable_new_mixer gives the first mixer,
+ * and each other one is handed back by a call. */
+struct DovetableMixer {
+    size_t strips[DOVETABLE_STRIPS]; /* the strips that wait, the longest wait first */
+    size_t count;                    /* of the places in use, from the first */
+    uint64_t served;                 /* the turns that found someone waiting */
+};
+
+/* What dovetable_request returns. When done: 0 and the mixer in which the strip waits. When
+ * refused: the number and the mixer as it came. The place is always 0. */
+struct DovetableFiled {
+    uint32_t number; /* 0, or a DovetableRefusal */
+    size_t place;
+    struct DovetableMixer mixer;
+};
+
+/* What dovetable_turn returns. Where nobody waits: no name and the mixer as it came. */
+struct DovetableTurned {
+    bool named;   /* whether someone waited */
+    size_t strip; /* the strip that is named, else 0 */
+    struct DovetableMixer mixer;
+};
+
+/* What dovetable_serve returns: the name and the mixer of the turn, and the number and the place of
+ * the stereo call, which are 0 and 0 where nobody is named. */
+struct DovetableServed {
+    uint32_t number; /* 0, or a DovetableRefusal */
+    size_t place;
+    bool named;   /* whether someone waited */
+    size_t strip; /* the strip that is named, else 0 */
+    struct DovetableMixer mixer;
+};
+
+/* The strips' scenes, each at its strip's number. */
+struct DovetableStripScenes {
+    struct DovetableScene scenes[DOVETABLE_STRIPS];
 };
 
 /* ---- Single numbers: when done, each writes its value. ---- */
@@ -319,6 +363,49 @@ uint32_t dovetable_read_masks(float *left, size_t left_bins, float *right, size_
                               const float *manual_mask_db, size_t points,
                               struct DovetableBank bank, struct DovetableSettings settings,
                               const float *table, size_t entries, size_t *place);
+
+/* ---- A mixer: sixteen strips that share one builder ----
+ *
+ * A strip, 0 to 15, files a request and then waits. A turn names the strip that has waited longest
+ * and takes it off. A strip that asks again while it waits keeps its place and is named once; when
+ * it has been named, it can ask again. Whatever the others file, a strip is named at the latest in
+ * the sixteenth turn after its wait began. 'served' counts the turns that found someone waiting,
+ * and stays at its highest value, 2^64 - 1.
+ *
+ * The mixer goes in by value and is handed back: 'mixer = filed.mixer' is right after every
+ * request, and so are 'mixer = turned.mixer' and 'mixer = served.mixer' after every turn. A turn
+ * that names a strip takes it off and counts also where the strip's scene is then refused.
+ *
+ * dovetable_serve takes a turn and builds the masks of the strip that it names. A caller who keeps
+ * the scenes elsewhere can call dovetable_turn, and then
+ * dovetable_build_stereo_masks_with_voices_precomputed for the strip that is named.
+ *
+ * Whatever a mixer holds, no call reads or writes outside it. The line is the first 'count' places,
+ * at most 16. In a line of 16 without the strip, which no list of calls makes, a request is done
+ * and the mixer comes back as it came. A turn names what is first in the line, whatever number that
+ * is, and hands back the count of those that are left. Where dovetable_serve so names a strip above
+ * 15, it is refused under 11.
+ */
+
+/* The mixer in which nobody waits and no turn is counted: 0 in every field. */
+struct DovetableMixer dovetable_new_mixer(void);
+
+/* Files a strip's request. Tests: 11, strip at most 15. */
+struct DovetableFiled dovetable_request(struct DovetableMixer mixer, size_t strip);
+
+/* Names the strip that has waited longest, and takes it off. */
+struct DovetableTurned dovetable_turn(struct DovetableMixer mixer);
+
+/* Takes a turn and builds the masks of the scene of the strip that is named:
+ * dovetable_build_stereo_masks_with_voices_precomputed on it, with its tests, 1 to 6, and its
+ * places. A scene of another size than the masks and the table have is refused under 4. The scenes
+ * of the other strips are ignored. Where nobody is named, nothing is tested and nothing is written.
+ * Tests: 11, before all others, a name of at most 15. Writes: every entry of each mask. */
+struct DovetableServed dovetable_serve(float *left, size_t left_bins, float *right,
+                                       size_t right_bins, const float *manual_mask_db,
+                                       size_t points, struct DovetableStripScenes scenes,
+                                       const float *table, size_t entries,
+                                       struct DovetableMixer mixer);
 
 /* ---- The functions below the calls: defined for every argument, never refused ---- */
 
