@@ -1,13 +1,14 @@
 /*
  * A chord, its fifth by hertz, stored as a record, read again and built as stereo masks; a bank of
- * voices that come and go; and refusals. From the repository's root, once the library is there:
+ * voices that come and go; a mixer whose strips have their turns; and refusals. From the
+ * repository's root, once the library is there:
  *
  *     cc -std=c11 -I include bindings/c/example.c \
  *         target/staticlib/libspectral_dsp_c.a -o target/example
  *
- * Prints a line for each of a few bins, of the chord and then of the bank: the bin, its left and
- * its right gain, with the nine digits that identify a float. Exits 1 if a call does not answer as
- * it should.
+ * Prints a line for each of a few bins, of the chord, of the bank and of each strip that has its
+ * turn: the bin, its left and its right gain, with the nine digits that identify a float. Exits 1
+ * if a call does not answer as it should.
  */
 #include "dovetable.h"
 
@@ -18,6 +19,7 @@ enum { SIZE = 8192, BINS = SIZE / 2 + 1, VOICES = 3 };
 
 static float curve[DOVETABLE_CURVE_POINTS];
 static float table[BINS], left[BINS], right[BINS];
+static struct DovetableStripScenes strips;
 static uint8_t record[DOVETABLE_RECORD_HEAD_BYTES + VOICES * DOVETABLE_RECORD_VOICE_BYTES];
 
 static struct DovetableVoice by_note(uint8_t note, float pan) {
@@ -78,6 +80,46 @@ static void print_gains(void) {
     }
 }
 
+/* A scene of one voice. */
+static struct DovetableScene scene_of(struct DovetableVoice voice,
+                                      struct DovetableSettings settings) {
+    struct DovetableScene made = {.settings = settings, .count = 1, .voices = {voice}};
+    return made;
+}
+
+/* Prints what came of a strip's request or turn. */
+static void print_strip(size_t strip, uint32_t number, size_t place) {
+    printf("strip %zu: %u at %zu\n", strip, (unsigned)number, place);
+}
+
+/* Three strips ask, one of them twice, and 16, which is no strip; then they have their turns until
+ * nobody waits. The scene of strip 4 is refused. Returns the turns that found someone waiting. */
+static uint64_t play_mixer(const struct DovetableVoice *chord, struct DovetableSettings settings) {
+    static const size_t asking[] = {7, 4, 16, 7, 12};
+    struct DovetableMixer mixer = dovetable_new_mixer();
+    strips.scenes[7] = scene_of(chord[0], settings);
+    strips.scenes[4] = scene_of(by_hertz(20001.0f, 0.0f), settings);
+    strips.scenes[12] = scene_of(chord[2], settings);
+    for (size_t i = 0; i < sizeof asking / sizeof asking[0]; i++) {
+        struct DovetableFiled filed = dovetable_request(mixer, asking[i]);
+        print_strip(asking[i], filed.number, filed.place);
+        mixer = filed.mixer;
+    }
+    for (;;) {
+        struct DovetableServed served =
+            dovetable_serve(left, BINS, right, BINS, curve, DOVETABLE_CURVE_POINTS, strips, table,
+                            BINS, mixer);
+        mixer = served.mixer;
+        if (!served.named) {
+            return mixer.served;
+        }
+        print_strip(served.strip, served.number, served.place);
+        if (served.number == DOVETABLE_DONE) {
+            print_gains();
+        }
+    }
+}
+
 int main(void) {
     struct DovetableSettings settings = {
         .sample_rate = 48000.0f, .fft_size = SIZE, .note_depth_db = 48.0f,
@@ -108,6 +150,9 @@ int main(void) {
     }
     print_gains();
 
+    if (play_mixer(chord, settings) != 3) {
+        return 1;
+    }
     banked = dovetable_remove_voice(banked.bank, 2);
     printf("refused: %u at %zu, %zu left\n", (unsigned)banked.number, banked.place,
            banked.bank.count);

@@ -1,6 +1,7 @@
 //! The mask builder of a spectral note gate, over the proved static library, under the names of
-//! the Rust that was ported. A call is done or [`Refused`]; a refused call has changed nothing. The
-//! text of a call lists its tests under the number of the refusal that a failed test gives.
+//! the Rust that was ported. A call is done or [`Refused`]; a refused call has changed nothing, but
+//! that [`Mixer::serve`] has taken its turn. The text of a call lists its tests under the number of
+//! the refusal that a failed test gives.
 //!
 //! A chord, left and right:
 //!
@@ -33,6 +34,7 @@
 mod bank;
 mod calls;
 mod masks;
+mod mixer;
 pub mod processing;
 mod records;
 mod refused;
@@ -42,6 +44,7 @@ pub mod sys;
 pub use bank::Bank;
 pub use calls::*;
 pub use masks::*;
+pub use mixer::*;
 pub use records::*;
 pub use refused::Refused;
 pub use scene::*;

@@ -1,11 +1,14 @@
 //! What a call answers when it is refused.
 
+#[cfg(doc)]
+use crate::mixer::Mixer;
 use std::fmt;
 
-/// A refusal: document 01's number and a place. A refused call has changed nothing.
+/// A refusal: document 01's number and a place. A refused call has changed nothing, but that
+/// [`Mixer::serve`] has taken its turn.
 #[derive(Clone, Copy, Debug, Eq, PartialEq)]
 pub struct Refused {
-    /// 1 to 10.
+    /// 1 to 11.
     pub number: u32,
     /// The index of the voice (5) or entry (6, 7) that is outside its limits, else 0.
     pub place: usize,
@@ -24,6 +27,7 @@ impl Refused {
             8 => "overlap not in 1..16 or not dividing the length",
             9 => "a record of the wrong length, or with a forbidden bit set",
             10 => "an id that is in the bank already, or is not in it",
+            11 => "a strip above 15",
             _ => "no refusal of document 01",
         }
     }

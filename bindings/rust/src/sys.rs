@@ -1,6 +1,7 @@
 //! The declarations of all exported functions and records of the static library.
 //! include/dovetable.h says what each call does and what it requires of the caller.
 
+use crate::mixer::STRIPS;
 use crate::scene::MOST_VOICES;
 
 /// Works on `n` numbers in place.
@@ -75,6 +76,54 @@ pub struct Banked {
     pub number: u32,
     pub place: usize,
     pub bank: Bank,
+}
+
+/// A mixer as it is passed. The count and the strips may be any numbers; the calls look at no more
+/// than the 16 places.
+#[repr(C)]
+#[derive(Clone, Copy, Debug)]
+pub struct Mixer {
+    pub strips: [usize; STRIPS],
+    pub count: usize,
+    pub served: u64,
+}
+
+/// What a request answers: 0 and the mixer in which the strip waits, or a refusal with its place
+/// and the mixer as it came.
+#[repr(C)]
+#[derive(Clone, Copy, Debug)]
+pub struct Filed {
+    pub number: u32,
+    pub place: usize,
+    pub mixer: Mixer,
+}
+
+/// What a turn answers: whether it named a strip, which one, else 0, and the mixer without it.
+#[repr(C)]
+#[derive(Clone, Copy, Debug)]
+pub struct Turned {
+    pub named: bool,
+    pub strip: usize,
+    pub mixer: Mixer,
+}
+
+/// What a turn that goes on to the builder answers: what the stereo call answers, and what the turn
+/// does.
+#[repr(C)]
+#[derive(Clone, Copy, Debug)]
+pub struct Served {
+    pub number: u32,
+    pub place: usize,
+    pub named: bool,
+    pub strip: usize,
+    pub mixer: Mixer,
+}
+
+/// The strips' scenes as they are passed, each at its strip's number.
+#[repr(C)]
+#[derive(Clone, Copy, Debug)]
+pub struct StripScenes {
+    pub scenes: [Scene; STRIPS],
 }
 
 unsafe extern "C" {
@@ -294,4 +343,20 @@ unsafe extern "C" {
         entries: usize,
         place: &mut usize,
     ) -> u32;
+
+    pub safe fn dovetable_new_mixer() -> Mixer;
+    pub safe fn dovetable_request(mixer: Mixer, strip: usize) -> Filed;
+    pub safe fn dovetable_turn(mixer: Mixer) -> Turned;
+    pub fn dovetable_serve(
+        left: *mut f32,
+        left_bins: usize,
+        right: *mut f32,
+        right_bins: usize,
+        manual_mask_db: *const f32,
+        points: usize,
+        scenes: StripScenes,
+        table: *const f32,
+        entries: usize,
+        mixer: Mixer,
+    ) -> Served;
 }

@@ -86,6 +86,18 @@ fn are_gains(lines: &[&str], voices: &[MaskVoice]) {
     }
 }
 
+/// The requests, of which one is refused, then the turns: strip 7 has the first voice of the chord,
+/// strip 4 a voice that is refused, strip 12 the third.
+fn is_the_mixer(lines: &[&str]) {
+    let requests = [(7, 0), (4, 0), (16, 11), (7, 0), (12, 0)];
+    let shown = |(strip, number)| format!("strip {strip}: {number} at 0");
+    assert_eq!(lines[..5], requests.map(shown));
+    assert_eq!(lines[5], shown((7, 0)));
+    are_gains(&lines[6..11], &chord()[..1]);
+    assert_eq!(lines[11..13], [(4, 5), (12, 0)].map(shown));
+    are_gains(&lines[13..], &chord()[2..]);
+}
+
 #[test]
 fn the_example_prints_what_the_safe_calls_give() {
     let Some(mut cc) = compiler("cc", "-std=c11") else {
@@ -100,13 +112,14 @@ fn the_example_prints_what_the_safe_calls_give() {
     assert!(run.status.success());
     let text = String::from_utf8(run.stdout).unwrap();
     let lines: Vec<&str> = text.lines().collect();
-    assert_eq!(lines.len(), 12);
+    assert_eq!(lines.len(), 30);
     let (chord_bins, bank_bins) = lines[..10].split_at(5);
     are_gains(chord_bins, &chord());
     // Of the bank the third voice is left.
     are_gains(bank_bins, &chord()[2..]);
     assert_ne!(chord_bins, bank_bins);
-    assert_eq!(lines[10..], ["refused: 10 at 0, 1 left", "refused: 5 at 2"]);
+    is_the_mixer(&lines[10..28]);
+    assert_eq!(lines[28..], ["refused: 10 at 0, 1 left", "refused: 5 at 2"]);
 }
 
 #[test]

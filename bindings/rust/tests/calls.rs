@@ -286,6 +286,7 @@ fn a_refusal_says_its_condition() {
         shown(10, 0),
         "refusal 10: an id that is in the bank already, or is not in it"
     );
+    assert_eq!(shown(11, 0), "refusal 11: a strip above 15");
     let error: Box<dyn std::error::Error> = Box::new(refused(6, 4));
     assert!(error.to_string().ends_with("-2..17 (entry 4)"));
 }

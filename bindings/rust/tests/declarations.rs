@@ -11,13 +11,14 @@ type Named = Vec<(String, String)>;
 type Functions = BTreeMap<String, (Named, String)>;
 
 /// A Rattle type, as it is written in C and in Rust.
-const TYPES: [(&str, &str, &str); 16] = [
+const TYPES: [(&str, &str, &str); 19] = [
     ("", "void", ""),
     ("bool", "bool", "bool"),
     ("f32", "float", "f32"),
     ("u8", "uint8_t", "u8"),
     ("u16", "uint16_t", "u16"),
     ("u32", "uint32_t", "u32"),
+    ("u64", "uint64_t", "u64"),
     ("usize", "size_t", "usize"),
     ("&mut f32", "float *", "&mut f32"),
     ("&mut usize", "size_t *", "&mut usize"),
@@ -40,16 +41,31 @@ const TYPES: [(&str, &str, &str); 16] = [
         "struct DovetableVoice[DOVETABLE_MOST_VOICES]",
         "[VoiceRecord; MOST_VOICES]",
     ),
+    (
+        "[usize; STRIPS]",
+        "size_t[DOVETABLE_STRIPS]",
+        "[usize; STRIPS]",
+    ),
+    (
+        "[PlainScene; STRIPS]",
+        "struct DovetableScene[DOVETABLE_STRIPS]",
+        "[Scene; STRIPS]",
+    ),
 ];
 
 /// A Rattle record, as it is named in C and in Rust.
-const RECORDS: [(&str, &str, &str); 6] = [
+const RECORDS: [(&str, &str, &str); 11] = [
     ("VoiceRecord", "struct DovetableVoice", "VoiceRecord"),
     ("Settings", "struct DovetableSettings", "Settings"),
     ("PlainScene", "struct DovetableScene", "Scene"),
     ("PlainSceneRead", "struct DovetableSceneRead", "SceneRead"),
     ("Bank", "struct DovetableBank", "Bank"),
     ("PlainBanked", "struct DovetableBanked", "Banked"),
+    ("Mixer", "struct DovetableMixer", "Mixer"),
+    ("PlainFiled", "struct DovetableFiled", "Filed"),
+    ("PlainTurned", "struct DovetableTurned", "Turned"),
+    ("PlainServed", "struct DovetableServed", "Served"),
+    ("StripScenes", "struct DovetableStripScenes", "StripScenes"),
 ];
 
 #[derive(Clone, Copy, PartialEq)]
@@ -215,7 +231,7 @@ fn every_function() {
 }
 
 /// The crates that have the records, by the start of their names.
-const HOMES: [&str; 3] = ["crossing", "voice_bank", "voice_records"];
+const HOMES: [&str; 4] = ["crossing", "mixer", "voice_bank", "voice_records"];
 
 /// The text of these crates.
 fn homes() -> String {

@@ -2,6 +2,7 @@
 //! passed without copying. The other records lie in memory as the header's.
 
 use dovetable::sys::{Bank, Banked, Scene, SceneRead, Settings, VoiceRecord};
+use dovetable::sys::{Filed, Mixer, Served, StripScenes, Turned};
 use dovetable::{MaskVoice, Pitch};
 use std::mem::{align_of, offset_of, size_of};
 use std::path::Path;
@@ -129,4 +130,19 @@ fn the_headers_bank_and_its_answer_have_the_records_offsets() {
     let fields = offsets!(Banked: number, place, bank);
     let banked = asserts("DovetableBanked", size_of::<Banked>(), &fields);
     hold("bank.c", &(bank + &banked));
+}
+
+#[test]
+fn the_headers_mixer_and_its_answers_have_the_records_offsets() {
+    let fields = offsets!(Mixer: strips, count, served);
+    let mixer = asserts("DovetableMixer", size_of::<Mixer>(), &fields);
+    let fields = offsets!(Filed: number, place, mixer);
+    let filed = asserts("DovetableFiled", size_of::<Filed>(), &fields);
+    let fields = offsets!(Turned: named, strip, mixer);
+    let turned = asserts("DovetableTurned", size_of::<Turned>(), &fields);
+    let fields = offsets!(Served: number, place, named, strip, mixer);
+    let served = asserts("DovetableServed", size_of::<Served>(), &fields);
+    let fields = offsets!(StripScenes: scenes);
+    let scenes = asserts("DovetableStripScenes", size_of::<StripScenes>(), &fields);
+    hold("mixer.c", &[mixer, filed, turned, served, scenes].concat());
 }
