@@ -5,6 +5,7 @@ use crate::*;
 use oracle::bank_calls::Step;
 use oracle::builders::{Builder, Lent, Masks};
 use oracle::config_in;
+use oracle::mixer;
 use oracle::plain_pitch::{HERTZ, pitch_of, plain};
 use oracle::plain_words::{SETTINGS_WORDS, VOICE_WORDS};
 use oracle::scene_records::{SILENT, StoredScene};
@@ -392,4 +393,26 @@ pub fn read_masks(bank: Bank, lent: &Lent, settings: Settings, [left, right]: &m
             left, bins, right, right_bins, curve, points, bank, settings, table, entries, place,
         )
     })
+}
+
+/// Whether a mixer has this line, in its first places, and this counter.
+pub fn has_line(block: &Mixer, expected: &mixer::Mixer) -> bool {
+    let line = block.strips.iter().take(block.count);
+    block.count == expected.waiting.len()
+        && line.eq(&expected.waiting)
+        && block.served == expected.served
+}
+
+/// Takes a turn and serves the strip that it names, with what a mask builder is lent beside its
+/// voices.
+pub fn serve(mixer: Mixer, scenes: &StripScenes, lent: &Lent, [left, right]: &mut Masks) -> Served {
+    let (curve, points) = (lent.curve.as_ptr(), lent.curve.len());
+    let (table, entries) = (lent.table.as_ptr(), lent.table.len());
+    let (left, bins) = (left.as_mut_ptr(), left.len());
+    let (right, right_bins) = (right.as_mut_ptr(), right.len());
+    unsafe {
+        dovetable_serve(
+            left, bins, right, right_bins, curve, points, *scenes, table, entries, mixer,
+        )
+    }
 }

@@ -1,16 +1,18 @@
-//! How many bytes of stack each mask builder, each call on scene records and each on a bank of
-//! voices uses, the most over random scenes.
+//! How many bytes of stack each mask builder, each call on scene records, each on a bank of voices
+//! and each on a mixer uses, the most over random scenes.
 //!
 //!     stack SEED SCENES
 //!
 //! A call runs on a stack of its own that is filled with one byte before; what still holds it was
-//! not used. The frames of the Rust functions that make the call are counted with it, and in them a
-//! scene or a bank that is passed or answered by value.
+//! not used. The frames of the Rust functions that make the call are counted with it, and in them
+//! scenes, a bank or a mixer that are passed or answered by value.
 
 use linked::calls::{self as port, Crossing, bank_of};
+use linked::{Scene, StripScenes, dovetable_new_mixer, dovetable_request, dovetable_turn};
 use linked::{dovetable_add_voice, dovetable_change_voice, dovetable_remove_voice};
 use oracle::builders::{Builder, Lent, Masks};
 use oracle::mask_calls::{Call, any_scene};
+use oracle::mixer::STRIPS;
 use oracle::random::Random;
 use oracle::scene_records::{SILENT, StoredScene, length_of};
 use std::arch::asm;
@@ -59,12 +61,14 @@ fn used(stack: &mut [Sixteen], work: Work) -> usize {
     BYTES - 16 * stack.iter().take_while(untouched).count()
 }
 
-/// The mask builders, then writing and reading a scene, then the calls on a bank.
+/// The mask builders, then writing and reading a scene, then the calls on a bank and on a mixer.
 fn names() -> Vec<&'static str> {
     let builders = Builder::ALL.iter().map(|one| one.name());
     let records = ["write_scene", "read_scene"];
     let banks = ["add_voice", "remove_voice", "change_voice", "read_masks"];
-    builders.chain(records).chain(banks).collect()
+    let mixers = ["request", "turn", "serve"];
+    let before = builders.chain(records).chain(banks);
+    before.chain(mixers).collect()
 }
 
 /// What the calls on a bank use: one of the scene's voices, with one more that is added, changed
@@ -91,6 +95,28 @@ fn used_on_bank(
     ]
 }
 
+/// What the calls on a mixer use: a request behind fifteen others, and turns of which each names a
+/// strip with this scene.
+fn used_on_mixer(
+    stack: &mut [Sixteen],
+    lent: &Lent,
+    scene: Scene,
+    masks: &mut Masks,
+) -> [usize; 3] {
+    let last = STRIPS - 1;
+    let file = |mixer, strip| dovetable_request(mixer, strip).mixer;
+    let others = (0..last).fold(dovetable_new_mixer(), file);
+    let all = file(others, last);
+    let scenes = StripScenes {
+        scenes: [scene; STRIPS],
+    };
+    [
+        used(stack, &mut || dovetable_request(others, last).number),
+        used(stack, &mut || u32::from(!dovetable_turn(all).named)),
+        used(stack, &mut || port::serve(all, &scenes, lent, masks).number),
+    ]
+}
+
 /// What each call uses on a scene, in the order of the names.
 fn used_on(stack: &mut [Sixteen], drawn: &Call) -> Vec<usize> {
     let lent = drawn.lent();
@@ -112,6 +138,7 @@ fn used_on(stack: &mut [Sixteen], drawn: &Call) -> Vec<usize> {
     }));
     all.push(used(stack, &mut || port::read_scene(&record).number));
     all.extend(used_on_bank(stack, &lent, &crossing, &mut masks));
+    all.extend(used_on_mixer(stack, &lent, passed, &mut masks));
     all
 }
 

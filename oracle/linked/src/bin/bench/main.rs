@@ -9,6 +9,7 @@
 
 mod classes;
 mod masks;
+mod mixers;
 mod numbers;
 mod open_calls;
 mod scene_records;
@@ -52,6 +53,8 @@ fn call_tables() {
     scene_records::table();
     println!();
     voice_banks::table();
+    println!();
+    mixers::table();
 }
 
 fn main() -> ExitCode {

@@ -72,8 +72,8 @@ fn changes(voices: &[MaskVoice]) {
     );
 }
 
-/// What both readings are lent.
-fn lent(voices: &[MaskVoice], fft_size: usize) -> Lent {
+/// What both calls of a row are lent.
+pub fn lent(voices: &[MaskVoice], fft_size: usize) -> Lent {
     let scene = Scene {
         config: MaskConfig {
             fft_size,

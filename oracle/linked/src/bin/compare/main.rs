@@ -2,19 +2,22 @@
 //!
 //!     compare SEED COUNT [SCENES [NAME]]
 //!
-//! COUNT is the number of calls of each function, SCENES that of the whole scenes that go through
-//! each mask builder, COUNT/100 where it is left out. With NAME only the function of that name is
+//! COUNT is the number of calls of each function, and of the lists of calls on a mixer; SCENES is
+//! that of the whole scenes that go through each mask builder, and of the lists in which a mixer's
+//! strips are served, COUNT/100 where it is left out. With NAME only the function of that name is
 //! called. Two NaNs count as equal; any other difference in bits is a failure: of an answer, a
-//! place, a value, a field of a scene, a place of a bank, and of each entry of a slice that the
-//! call may write. Exits 1 where there is one.
+//! place, a value, a field of a scene, a place of a bank or of a line, a counter, and of each entry
+//! of a slice that the call may write. Exits 1 where there is one.
 
 mod draw;
 mod envelopes;
 mod masks;
+mod mixers;
 mod numbers;
 mod open_calls;
 mod run;
 mod scene_records;
+mod strips;
 mod tally;
 mod voice_banks;
 
@@ -50,6 +53,7 @@ fn main() -> ExitCode {
     open_calls::compare(&mut run);
     scene_records::compare(&mut run);
     voice_banks::compare(&mut run);
+    mixers::compare(&mut run);
     masks::compare(&mut run);
     if run.kinds == 0 {
         eprintln!("no function has that name");

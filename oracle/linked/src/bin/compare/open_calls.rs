@@ -34,7 +34,7 @@ pub fn same_given(a: Given, b: Given) -> bool {
 }
 
 /// The first entry at which two slices differ in any bit.
-fn first_change(a: &[f32], b: &[f32]) -> Option<usize> {
+pub fn first_change(a: &[f32], b: &[f32]) -> Option<usize> {
     a.iter()
         .zip(b)
         .position(|(a, b)| a.to_bits() != b.to_bits())

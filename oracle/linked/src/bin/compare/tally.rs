@@ -3,7 +3,7 @@
 /// The differences that are printed of a kind of call.
 const SHOWN: u64 = 5;
 /// Document 01's numbers: done, and the refusals.
-const NUMBERS: usize = 11;
+const NUMBERS: usize = 12;
 
 pub struct Tally {
     name: &'static str,
@@ -56,4 +56,18 @@ impl Tally {
         println!("{name:<44}{calls:>12} calls{differences:>6} differences{refused}");
         differences
     }
+}
+
+/// Counts the cases that a call has met.
+pub fn count_met<const N: usize>(counts: &mut [u64; N], met: [bool; N]) {
+    for (count, met) in counts.iter_mut().zip(met) {
+        *count += u64::from(met);
+    }
+}
+
+/// Prints how many calls have met each case.
+pub fn print_met<const N: usize>(calls: &str, names: [&str; N], counts: [u64; N]) {
+    let case = |(name, count): (&str, u64)| format!("  {name}: {count}");
+    let cases: String = names.into_iter().zip(counts).map(case).collect();
+    println!("{calls}{cases}");
 }

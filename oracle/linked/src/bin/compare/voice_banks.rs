@@ -7,7 +7,7 @@ use crate::masks::odd_forms;
 use crate::open_calls::note_slice;
 use crate::run::Run;
 use crate::scene_records::unused;
-use crate::tally::Tally;
+use crate::tally::{Tally, count_met, print_met};
 use linked::calls::{self as port, Held, holds, record_of, voice_words};
 use linked::{Bank, Settings, VoiceRecord, dovetable_new_bank};
 use oracle::bank_calls::{Step, bad_voice, good_voice, ids, reaching, steps};
@@ -49,18 +49,6 @@ struct Reached {
     readings: [u64; READINGS.len()],
 }
 
-fn count<const N: usize>(counts: &mut [u64; N], met: [bool; N]) {
-    for (count, met) in counts.iter_mut().zip(met) {
-        *count += u64::from(met);
-    }
-}
-
-fn print<const N: usize>(calls: &str, names: [&str; N], counts: [u64; N]) {
-    let case = |(name, count): (&str, u64)| format!("  {name}: {count}");
-    let cases: String = names.into_iter().zip(counts).map(case).collect();
-    println!("banks of voices, {calls}{cases}");
-}
-
 impl Reached {
     /// A call with an id, and the bank before it.
     fn change(&mut self, present: &Present, id: u16) {
@@ -70,18 +58,18 @@ impl Reached {
         let (first, last) = (place == Some(0), place.is_some_and(|place| place + 1 == n));
         let over = n > MAX_VOICES;
         let met = [n == 127, n == 128, over, several, first, last];
-        count(&mut self.changed, met);
+        count_met(&mut self.changed, met);
     }
 
     fn reading(&mut self, present: &Present) {
         let over = present.len() > MAX_VOICES;
         let full = present.len() + 1 >= MAX_VOICES && !over;
-        count(&mut self.readings, [full, over]);
+        count_met(&mut self.readings, [full, over]);
     }
 
     fn print(&self) {
-        print("changes of", CHANGED, self.changed);
-        print("readings of", READINGS, self.readings);
+        print_met("banks of voices, changes of", CHANGED, self.changed);
+        print_met("banks of voices, readings of", READINGS, self.readings);
     }
 }
 
