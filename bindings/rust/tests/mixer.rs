@@ -259,7 +259,8 @@ fn a_mixer_comes_back_as_it_came() {
         if count >= 16 {
             comes_back(before, 5, 0);
         }
-        for place in [0, count.min(16) / 2, count.min(16).max(1) - 1] {
+        let last = count.clamp(1, 16) - 1;
+        for place in [0, last / 2, last] {
             before.strips[place] = 5;
             if count > 0 {
                 comes_back(before, 5, 0);
