@@ -17,7 +17,7 @@ use Rattle.mixer.specs.Mixers.{STRIPS, line, has, firstOf, mixerAsked, turnName
 use Rattle.mixer_law.specs.Calls.{Call, request, turn, turns}
 use Rattle.mixer_law.specs.Waits.{Event, named, turnsOf}
 use Rattle.mixer_law.specs.Mixers.{eventsFrom, told, after}
-use Rattle.mixer_law.specs.Promises.{Among, NamedInTime}
+use Rattle.mixer_law.specs.Promises.{LATEST, Among, NamedInTime}
 use Rattle.mixer_law.proofs.Lines.{Whole, joined, line-length, line-asked, line-turned}
 use Rattle.mixer_law.proofs.Lines.{whole-asked, whole-turned}
 use Rattle.mixer_law.proofs.Entries.{waits-has}
@@ -110,6 +110,6 @@ named-in-time calls more strip began l w t =
       ap length (p .is),
       length-append (p .before) (strip ∷ p .behind),
     ) in
-    take-more (named strip) (suc (length (p .before))) STRIPS
-    (turnsOf (eventsFrom (after calls) more)) short
+    take-more (named strip) (suc (length (p .before))) LATEST
+    (turnsOf (eventsFrom (after calls) more)) (omega (arith, short))
     (in-turn more (after calls) (f .whole) strip (p .before) (p .behind) (p .is) (omega arith))

@@ -5,3 +5,4 @@ pub mod Runs
 pub mod Named
 pub mod InTime
 pub mod Counted
+pub mod Instances

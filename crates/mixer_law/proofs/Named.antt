@@ -55,7 +55,9 @@ module _ (calls : List Call) where
   no-entry w (e ∷ es) p =
       let below : e .strip < STRIPS = rw p at (f .low) .0 in
       let same : look (e .strip) (e ∷ es) ≡ none =
-      sym (ap (look (e .strip)) p) ∙ sym (f .known (e .strip) below) ∙ w (e .strip) below in
+      sym (ap (look (e .strip)) p)
+      ∙ sym (f .known (e .strip) below)
+      ∙ w (e .strip) (omega (arith, below)) in
       let now : since (e .began) ≡ none = rw (eq-eqb (e .strip) (e .strip) refl) at same in
       let z : _≡_ {A = ℕ} 0 1 = cc in
       absurd (omega arith)
@@ -80,7 +82,7 @@ pub nobody-only-then : NobodyOnlyThen
 unfolding look
 nobody-only-then calls e strip l =
     let empty = none-entry calls (f calls .entries) refl (sym (names-entry calls) ∙ e) in
-    f calls .known strip l ∙ ap (look strip) empty
+    f calls .known strip (omega (arith, l)) ∙ ap (look strip) empty
 
 pub nobody-named : NobodyNamed
 nobody-named calls w =

@@ -73,6 +73,10 @@ AskingAgainChangesNothing =
 -- ---- "No matter what the others file, a waiting strip is named at the latest in the sixteenth turn
 -- after its present wait began"
 
+-- "the sixteenth turn"
+abbrev pub LATEST : ℕ
+LATEST = 16
+
 abbrev pub Among : Event → List Event → Type 0
 Among event [] = ⊥
 Among event (other ∷ others) = (other ≡ event) ⊎ Among event others
@@ -82,8 +86,8 @@ Among event (other ∷ others) = (other ≡ event) ⊎ Among event others
 abbrev pub NamedInTime : Type 0
 NamedInTime =
     (calls more : List Call) (strip began : ℕ) → strip < STRIPS → WaitsSince strip calls began
-    → STRIPS ≤ turns more
-    → Among (named strip) (take STRIPS (turnsOf (eventsFrom (after calls) more)))
+    → LATEST ≤ turns more
+    → Among (named strip) (take LATEST (turnsOf (eventsFrom (after calls) more)))
 
 -- ---- "A turn with nobody waiting names none and changes nothing"
 abbrev pub NobodyNamed : Type 0
