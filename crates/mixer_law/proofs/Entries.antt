@@ -36,11 +36,10 @@ pub rising-last :
     → Rising (es ++ entry strip now ∷ [])
 unfolding Rising
 rising-last [] strip now r p = (tt, tt)
-rising-last (e ∷ es) strip now r p =
-    (
-      all-append (λ f. e .began < f .began) es (entry strip now ∷ []) (r .0) (p .0, tt),
-      rising-last es strip now (r .1) (p .1),
-    )
+rising-last (e ∷ es) strip now r p = (
+  all-append (λ f. e .began < f .began) es (entry strip now ∷ []) (r .0) (p .0, tt),
+  rising-last es strip now (r .1) (p .1),
+)
 
 pub rising-drop : (es : List Entry) → Rising es → Rising (drop 1 es)
 unfolding Rising

@@ -49,14 +49,14 @@ pub record Serves
     (calls : List Call) (strip : ℕ) (m n : ℕ) (curve : List Float) (scenes : List Scene)
     (table : List Float) : Type 0
   where
-  pub reply :
-      namedReply (λ s. sceneReply m n curve (sceneAt scenes s) table) (turnNames (after calls))
-      ≡ sceneReply m n curve (sceneAt scenes strip) table
-  pub mask :
-      (side : Side) (reply : Reply) (old : List Float)
-      → namedMask (λ s. sceneMask side curve (sceneAt scenes s) table) (turnNames (after calls))
-      reply old
-      ≡ written reply (sceneMask side curve (sceneAt scenes strip) table) old
+    pub reply :
+        namedReply (λ s. sceneReply m n curve (sceneAt scenes s) table) (turnNames (after calls))
+        ≡ sceneReply m n curve (sceneAt scenes strip) table
+    pub mask :
+        (side : Side) (reply : Reply) (old : List Float)
+        → namedMask (λ s. sceneMask side curve (sceneAt scenes s) table) (turnNames (after calls))
+        reply old
+        ≡ written reply (sceneMask side curve (sceneAt scenes strip) table) old
 
 abbrev pub ServesTheNamed : Type 0
 ServesTheNamed =

@@ -63,10 +63,10 @@ pub fn scene_place(named: Named) -> usize
     match named {
         Named::Nobody => 0,
         Named::Strip(strip) => {
-            if STRIPS <= strip {
-                return 0;
+            if strip < STRIPS {
+                return strip;
             }
-            strip
+            0
         }
     }
 }

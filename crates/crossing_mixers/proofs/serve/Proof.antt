@@ -68,8 +68,7 @@ returns c =
     let place = s .scene-place .result in
     let there = s .scene-place .ensures .0 in
     let built = b .build-named .ensures in
-    let answer = reply-named reply named place there (built .0) in
-    (
+    let answer = reply-named reply named place there (built .0) in (
       simp (
         n .number .ensures,
         p .place .ensures,

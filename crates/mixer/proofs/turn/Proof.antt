@@ -40,11 +40,10 @@ returns-2 c =
     let mixer = e .before .before .args .mixer in
     let held = e .before .held .ensures in
     let whole : length (mixer .strips) ≡ 16 = search needs in
-    let some : 0 < heldIn mixer = omega (arith, held, e .if1 .left) in
-    (
+    let some : 0 < heldIn mixer = omega (arith, held, e .if1 .left) in (
       sym (names-first mixer whole some),
       simp (c .before .moved-up .ensures, c .one-more .ensures, held)
-      (sym (turned-first mixer whole some)),
+          (sym (turned-first mixer whole some)),
     )
 
 pub turn-spec : {M : Type 1} → statement M

@@ -50,8 +50,7 @@ returns c =
     let built = b .build-named .ensures in
     let named = t .turn .result .named in
     let place = p .scene-place .result in
-    let answer = reply-named reply named place there (built .0) in
-    (
+    let answer = reply-named reply named place there (built .0) in (
       who,
       (
         t .turn .ensures .1,
