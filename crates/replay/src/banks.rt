@@ -11,19 +11,6 @@ use spectral_dsp::Bank;
 use spectral_dsp::Banked;
 use voice_records::plain_voice;
 
-// The greatest count has no word; the greatest word stands for it.
-const GREATEST_WORD: usize = 4294967295;
-
-const GREATEST_COUNT: usize = 18446744073709551615;
-
-fn given_count(bytes: &[u8], at: usize) -> usize {
-    let count = list::count(bytes, at, 3);
-    if count == GREATEST_WORD {
-        return GREATEST_COUNT;
-    }
-    count
-}
-
 fn id_of(word: u32) -> u16 {
     (word % 65536) as u16
 }
@@ -35,7 +22,7 @@ fn given_bank(bytes: &[u8], at: usize) -> Bank {
     let step = id_of(list::word(bytes, at, 2));
     let mut id = id_of(list::word(bytes, at, 1));
     let mut bank = spectral_dsp::new_bank();
-    bank.count = given_count(bytes, at);
+    bank.count = list::any_count(bytes, at, 3);
     let mut place: usize = 0;
     while place < MOST_VOICES {
         bank.ids[place] = id;

@@ -46,6 +46,20 @@ pub fn count(bytes: &[u8], at: usize, past: usize) -> usize {
     word(bytes, at, past) as usize
 }
 
+// The greatest count has no word; the greatest word stands for it.
+const GREATEST_WORD: usize = 4294967295;
+
+const GREATEST_COUNT: usize = 18446744073709551615;
+
+// A count that can be the greatest.
+pub fn any_count(bytes: &[u8], at: usize, past: usize) -> usize {
+    let n = count(bytes, at, past);
+    if n == GREATEST_WORD {
+        return GREATEST_COUNT;
+    }
+    n
+}
+
 // The byte with this number, counted from a word on; 0 past the list's end.
 pub fn byte(bytes: &[u8], at: usize, past: usize, number: usize) -> u8 {
     let index = std::num::wrapping_add_usize(at, past);

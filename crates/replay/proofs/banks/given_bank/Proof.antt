@@ -28,8 +28,8 @@ id-of-requires-2 c κs = search needs
 new-bank-requires : tie.Need-new-bank-requires Inv-loop μ-loop
 new-bank-requires c κs = search needs
 
-given-count-requires : tie.Need-given-count-requires Inv-loop μ-loop
-given-count-requires c κs = search needs
+any-count-requires : tie.Need-any-count-requires Inv-loop μ-loop
+any-count-requires c κs = search needs
 
 loop-holds : tie.Need-loop-holds Inv-loop μ-loop
 loop-holds c = search needs
@@ -79,7 +79,7 @@ given-bank-spec =
     word-requires-2
     id-of-requires-2
     new-bank-requires
-    given-count-requires
+    any-count-requires
     loop-holds
     mul-bank
     element-write-bank
