@@ -26,18 +26,8 @@ fn length(bytes: &[u8], at: usize, past: usize, room: &[u8]) -> usize
     room.len()
 }
 
-fn scene_at(bytes: &[u8], at: usize) -> Scene {
-    let config = settings::config_at(bytes, at, 1);
-    let voices = settings::voices_at(bytes, at, 13);
-    Scene {
-        config,
-        voices,
-        count: list::count(bytes, at, 13),
-    }
-}
-
 fn print_write_scene_on(bytes: &[u8], at: usize, record: &mut [u8]) {
-    let scene = scene_at(bytes, at);
+    let scene = settings::scene_at(bytes, at, 1, 13);
     text::print_outcome(spectral_dsp::write_scene(record, scene));
     text::print_hash_of_bytes(record);
 }

@@ -7,6 +7,7 @@ use scene::MaskConfig;
 use scene::MaskVoice;
 use scene::MotionConfig;
 use scene::Pitch;
+use scene::Scene;
 use scene::pitches::pitch_of;
 use std::num::wrapping_add_usize;
 use voice_records::VoiceRecord;
@@ -155,4 +156,15 @@ pub fn voice_words(bytes: &[u8], at: usize, past: usize) -> usize
 {
     let first = wrapping_add_usize(at, past);
     2 + list::count(bytes, first, 1) % 129 * VOICE_WORDS
+}
+
+// A scene, whose voices need not stand right after its settings.
+pub fn scene_at(bytes: &[u8], at: usize, past: usize, voices_past: usize) -> Scene {
+    let config = config_at(bytes, at, past);
+    let voices = voices_at(bytes, at, voices_past);
+    Scene {
+        config,
+        voices,
+        count: list::count(bytes, at, voices_past),
+    }
 }
