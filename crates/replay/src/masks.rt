@@ -9,16 +9,16 @@ use spectral_dsp::Bank;
 use std::num::wrapping_add_usize;
 
 // What each entry of a mask holds before the call.
-const BEFORE: f32 = 7.0;
+pub const BEFORE: f32 = 7.0;
 
 // A table is a rate and a slice. Where the rate is not 0, the table is prepared at it, and its two
 // values are put in once more.
-fn fill_table(bytes: &[u8], at: usize, past: usize, table: &mut [f32]) {
+pub fn fill_table(bytes: &[u8], at: usize, past: usize, size: usize, table: &mut [f32]) {
     let first = wrapping_add_usize(at, past);
     slice::fill(bytes, first, 1, table);
     let rate = list::float(bytes, first, 0);
     if rate != 0.0 {
-        spectral_dsp::MaskWorkspace::prepare(table, rate, list::count(bytes, at, 2));
+        spectral_dsp::MaskWorkspace::prepare(table, rate, size);
         slice::put_both(bytes, first, 1, table);
     }
 }
@@ -29,7 +29,7 @@ fn print_entry(mask: &[f32], bin: usize) {
     }
 }
 
-fn print_mask(mask: &[f32]) {
+pub fn print_mask(mask: &[f32]) {
     text::print_hash(mask);
     let n = mask.len();
     if 2 <= n {
@@ -98,8 +98,8 @@ fn print_precomputed_on(
     table: &mut [f32],
 ) {
     slice::fill(bytes, at, 13, curve);
-    fill_table(bytes, at, 21, table);
     let config = settings::config_at(bytes, at, 1);
+    fill_table(bytes, at, 21, config.fft_size, table);
     let count = list::count(bytes, at, 30);
     let voices = settings::voices_at(bytes, at, 30);
     text::print_outcome(spectral_dsp::build_mask_with_voices_precomputed(
@@ -186,7 +186,7 @@ fn print_stereo_on(
     table: &mut [f32],
 ) {
     slice::fill(bytes, at, 14, curve);
-    fill_table(bytes, at, 22, table);
+    fill_table(bytes, at, 22, list::count(bytes, at, 2), table);
     text::print_outcome(stereo_outcome(bytes, at, voices, bank, left, right, curve, table));
     print_mask(left);
     print_mask(right);
