@@ -5,6 +5,7 @@
 mod banks;
 mod list;
 mod masks;
+mod mixers;
 mod numbers;
 mod oiko;
 mod processing;
@@ -58,6 +59,12 @@ fn replay_banks(path: &[u8], bytes: &mut [u8]) {
     banks::print_all(&bytes[..n]);
 }
 
+// The same for the calls on a mixer.
+fn replay_mixers(path: &[u8], bytes: &mut [u8]) {
+    let n = list::read(path, bytes);
+    mixers::print_all(&bytes[..n]);
+}
+
 fn main() {
     let mut bytes = io::large_buffer();
     replay(b"numbers.bin", Calls::Numbers, &mut bytes);
@@ -68,4 +75,5 @@ fn main() {
     replay(b"mask_refusals.bin", Calls::Masks, &mut bytes);
     replay(b"scene_records.bin", Calls::Records, &mut bytes);
     replay_banks(b"voice_banks.bin", &mut bytes);
+    replay_mixers(b"mixers.bin", &mut bytes);
 }
