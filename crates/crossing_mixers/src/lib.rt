@@ -181,8 +181,7 @@ pub fn serve(
     let turned = turn(mixer);
     let named = turned.named;
     let after = turned.mixer;
-    let scenes = given.scenes;
-    let plain = scenes[scene_place(named)];
+    let plain = given.scenes[scene_place(named)];
     let outcome = build_named(left, right, manual_mask_db, plain, table, named);
     PlainServed {
         number: outcome.number() as u32,

@@ -20,8 +20,8 @@ scene-place-requires c κs = search needs
 mul-plain : tie.Need-mul-plain
 mul-plain c = search needs
 
-array-copy-out-plain : tie.Need-array-copy-out-plain
-array-copy-out-plain c = search needs
+element-copy-out-plain : tie.Need-element-copy-out-plain
+element-copy-out-plain c = search needs
 
 build-named-requires : tie.Need-build-named-requires
 build-named-requires c κs = search needs
@@ -54,15 +54,15 @@ returns c =
     let n = p .before in
     let b = n .before .before .before .before .before in
     let s = b .before .before .before .before in
-    let t = s .before .before .before in
+    let t = s .before .before in
     let a = t .before .before .before .before .before .args in
     let curve = a .manual-mask-db .now in
     let table = a .table .now in
     let reply : ℕ → Reply =
     λ strip. plainReply (length (a .left .now)) (length (a .right .now)) curve
-    (plainAt (a .given) strip) table in
+    (plainAt (a .t4) strip) table in
     let mask : Side → ℕ → List Float =
-    λ side strip. plainMask side curve (plainAt (a .given) strip) table in
+    λ side strip. plainMask side curve (plainAt (a .t4) strip) table in
     let turned = t .turn .ensures in
     let named = t .turn .result .named in
     let place = s .scene-place .result in
@@ -94,7 +94,7 @@ serve-spec =
     turn-requires
     scene-place-requires
     mul-plain
-    array-copy-out-plain
+    element-copy-out-plain
     build-named-requires
     number-requires
     cast-t23
