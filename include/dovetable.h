@@ -376,9 +376,10 @@ uint32_t dovetable_read_masks(float *left, size_t left_bins, float *right, size_
  * request, and so are 'mixer = turned.mixer' and 'mixer = served.mixer' after every turn. A turn
  * that names a strip takes it off and counts also where the strip's scene is then refused.
  *
- * dovetable_serve takes a turn and builds the masks of the strip that it names. A caller who keeps
- * the scenes elsewhere can call dovetable_turn, and then
- * dovetable_build_stereo_masks_with_voices_precomputed for the strip that is named.
+ * dovetable_serve takes a turn and builds the masks of the strip that it names. The sixteen scenes
+ * go in by value, so it needs some 194 KB of stack. A caller who keeps the scenes elsewhere can
+ * call dovetable_turn, and then dovetable_build_stereo_masks_with_voices_precomputed for the strip
+ * that is named.
  *
  * Whatever a mixer holds, no call reads or writes outside it. The line is the first 'count' places,
  * at most 16. In a line of 16 without the strip, which no list of calls makes, a request is done

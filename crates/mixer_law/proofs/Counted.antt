@@ -1,6 +1,6 @@
 -- The counter: each turn that names a strip adds one, as long as it is below its highest value.
 -- Assumes nothing.
-use mathlib.Core.Path.{_≡_, refl, sym, ap, _∙_}
+use mathlib.Core.Path.{_≡_, sym, _∙_}
 use mathlib.Core.List.{List, [], _∷_}
 use Prim.Native.Nat.{ℕ, _+_, _<_}
 use native.Mathlib.Nat.{add-zero}
@@ -11,7 +11,7 @@ use Rattle.mixer.specs.declared.Named.the-variants.{Strip, Nobody}
 use Rattle.mixer.specs.Mixers.{MOST-TURNS, fresh, mixerAsked, turnNames, mixerTurned}
 use Rattle.mixer_law.specs.Calls.{Call, request, turn, turns}
 use Rattle.mixer_law.specs.Waits.{found, one}
-use Rattle.mixer_law.specs.Mixers.{stepped, run, told, eventsFrom}
+use Rattle.mixer_law.specs.Mixers.{run, told, eventsFrom}
 use Rattle.mixer_law.specs.Promises.{Counts, StaysAtItsHighest}
 use Rattle.mixer_law.proofs.Lines.{served-asked, tallied, served-turned}
 

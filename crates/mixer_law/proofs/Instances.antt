@@ -1,5 +1,6 @@
--- The bound of sixteen turns is reached: where all sixteen strips ask, one after the other, strip 15
--- waits, and the next sixteen turns name the strips in their order, strip 15 last. Assumes nothing.
+-- The bound of sixteen turns is reached: where all sixteen strips ask, one after the other, strip
+-- 15 waits, and the next sixteen turns name the strips in their order, strip 15 last. Assumes
+-- nothing.
 use mathlib.Core.Path.{_≡_, refl, ap, _∙_}
 use mathlib.Core.List.{List, [], _∷_, map}
 use Prim.Native.Nat.{ℕ, zero, suc, _≤_}

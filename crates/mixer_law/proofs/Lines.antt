@@ -5,7 +5,7 @@ use mathlib.Core.List.{List, [], _∷_, _++_}
 use Prim.Native.Nat.{ℕ, suc, _+_, _-_, _<_, min}
 use native.Mathlib.Omega.{arith}
 use lib.Dec.{eqb, leb}
-use lib.ListN.{length, getD, take, drop, set, length-set}
+use lib.ListN.{length, take, drop, set, length-set}
 use lib.Seq.{length-take-le, take-suc-set}
 use borrow.Author.Tests.{leb-false, eqb-true, eqb-false}
 use Rattle.lists.specs.Maps.{length-mapRange}
@@ -16,7 +16,7 @@ use Rattle.answer.specs.Written.{written}
 use Rattle.mixer.specs.declared.Mixer.{Mixer}
 use Rattle.mixer.specs.declared.Named.{Named}
 use Rattle.mixer.specs.declared.Named.the-variants.{Strip, Nobody}
-use Rattle.mixer.specs.Mixers.{STRIPS, heldIn, line, has, withStrip, withRequest, mixerAsked}
+use Rattle.mixer.specs.Mixers.{STRIPS, heldIn, line, has, withStrip, mixerAsked}
 use Rattle.mixer.specs.Mixers.{turnNames, counted, withoutFirst, turnedBy, mixerTurned}
 use Rattle.mixer.proofs.Answers.{line-none, turned-nobody, turned-first}
 

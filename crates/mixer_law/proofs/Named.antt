@@ -9,11 +9,11 @@ use Rattle.mixer.specs.Mixers.{STRIPS, line, has, firstOf, turnNames, turnedBy}
 use Rattle.mixer_law.specs.Calls.{Call}
 use Rattle.mixer_law.specs.Waits.{Wait, none, since, waitOf}
 use Rattle.mixer_law.specs.Mixers.{after, events}
-use Rattle.mixer_law.specs.Promises.{WaitsSince, NobodyWaits, Longest, NamesTheLongest}
+use Rattle.mixer_law.specs.Promises.{NobodyWaits, Longest, NamesTheLongest}
 use Rattle.mixer_law.specs.Promises.{ServesTheNamed, AskingAgainChangesNothing}
 use Rattle.mixer_law.specs.Promises.{NobodyNamed, NobodyOnlyThen}
 use Rattle.mixer_law.proofs.Entries.{Entry, strips, Rising, look, waits-has, look-all}
-use Rattle.mixer_law.proofs.Runs.{Fit, Fits, fits}
+use Rattle.mixer_law.proofs.Runs.{Fit, fits}
 
 module _ (calls : List Call) where
   abbrev f : Fit (fits calls .then) (λ strip. waitOf strip (events calls)) (after calls)

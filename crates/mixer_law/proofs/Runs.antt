@@ -1,9 +1,9 @@
 -- A mixer fits what is known of the waits: its line is that of the entries, each strip is below 16
--- and in the line once, each wait began after those before it, and the wait of each strip is the one
--- that its entry says. A fresh mixer fits, each call keeps it so, and so do all calls of a list, by
--- recursion over it. Assumes nothing.
+-- and in the line once, each wait began after those before it, and the wait of each strip is the
+-- one that its entry says. A fresh mixer fits, each call keeps it so, and so do all calls of a
+-- list, by recursion over it. Assumes nothing.
 use mathlib.Core.Path.{_≡_, refl, sym, ap, _∙_}
-use mathlib.Core.Bool.{Bool, true, false, cond}
+use mathlib.Core.Bool.{Bool, true, false}
 use mathlib.Core.List.{List, [], _∷_, _++_}
 use Prim.Native.Nat.{ℕ, _+_, _<_}
 use native.Mathlib.Omega.{arith}

@@ -3,7 +3,7 @@ use mathlib.Core.Path.{_≡_}
 use mathlib.Core.Logic.{_⊎_}
 use mathlib.Core.List.{List, [], _∷_}
 use Prim.Native.Nat.{ℕ, _^_, _≤_, _<_}
-use lib.ListN.{length, take}
+use lib.ListN.{take}
 use lib.Ieee.{Float}
 use Rattle.answer.specs.Reply.{Reply}
 use Rattle.answer.specs.Written.{written}
@@ -70,8 +70,8 @@ AskingAgainChangesNothing =
     (calls : List Call) (strip began : ℕ) → strip < STRIPS → WaitsSince strip calls began
     → mixerAsked (after calls) strip ≡ after calls
 
--- ---- "No matter what the others file, a waiting strip is named at the latest in the sixteenth turn
--- after its present wait began"
+-- ---- "No matter what the others file, a waiting strip is named at the latest in the sixteenth
+-- turn after its present wait began"
 
 -- "the sixteenth turn"
 abbrev pub LATEST : ℕ

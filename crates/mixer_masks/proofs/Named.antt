@@ -1,5 +1,5 @@
--- What goes to the stereo call is the scene of the strip that is named, where there is one: whatever
--- else stands in its place does not count. Assumes nothing.
+-- What goes to the stereo call is the scene of the strip that is named, where there is one:
+-- whatever else stands in its place does not count. Assumes nothing.
 use mathlib.Core.Path.{_≡_, refl, ap, _∙_}
 use mathlib.Core.Bool.{Bool, true, false, cond}
 use mathlib.Core.List.{List}
@@ -16,7 +16,8 @@ use Rattle.mixer_masks.specs.Serving.{scenePlace, namedReply, namedMask}
 
 module _ (reply : ℕ → Reply) where
   same-reply :
-      (named : Named) → namedReply (λ strip. reply (scenePlace named)) named ≡ namedReply reply named
+      (named : Named)
+      → namedReply (λ strip. reply (scenePlace named)) named ≡ namedReply reply named
   same-reply Nobody = refl
   same-reply (Strip strip) = go (leb STRIPS strip)
     where

@@ -55,8 +55,8 @@ pub fn build_scene(
     )
 }
 
-// Where the scene of the strip that a turn has named stands among the sixteen; the first place where
-// it has named none of them.
+// Where the scene of the strip that a turn has named stands among the sixteen; the first place
+// where it has named none of them.
 pub fn scene_place(named: Named) -> usize
     ensures { λ r. ⌜ (r ≡ scenePlace named) × (r < STRIPS) ⌝ }
 {
