@@ -1,42 +1,11 @@
 //! A bank of voices: the masks are those of the stereo call on the voices then present, each
 //! refusal, the order of arrival, and banks that the safe calls cannot make.
 
+mod given;
+
 use dovetable::*;
+use given::{BEFORE, CURVE, config, refused, table, voice};
 use std::ptr::{null, null_mut};
-
-static CURVE: [f32; MANUAL_MASK_POINTS] = [0.0; MANUAL_MASK_POINTS];
-const BEFORE: f32 = 7.0;
-
-fn refused<T>(number: u32, place: usize) -> Result<T, Refused> {
-    Err(Refused { number, place })
-}
-
-fn config() -> MaskConfig {
-    MaskConfig {
-        fft_size: 1024,
-        note_depth_db: 48.0,
-        partials: 4,
-        ..MaskConfig::default()
-    }
-}
-
-fn table() -> Vec<f32> {
-    let mut table = vec![0.0; config().bins()];
-    MaskWorkspace::prepare(&mut table, config().sample_rate, config().fft_size).unwrap();
-    table
-}
-
-fn voice(note: u8, pan: f32) -> MaskVoice {
-    MaskVoice {
-        pitch: Pitch::Note {
-            note,
-            semitones: 0.0,
-        },
-        level: 1.0,
-        pan,
-        ..MaskVoice::default()
-    }
-}
 
 /// A voice outside its limits.
 fn bad() -> MaskVoice {

@@ -1,15 +1,11 @@
 //! A mixer of sixteen strips: the order of the names, the latest turn, the counter, what a turn
 //! hands to the builder, each refusal, and mixers that the safe calls cannot make.
 
+mod given;
+
 use dovetable::*;
+use given::{BEFORE, CURVE, config, refused, table, voice};
 use std::ptr::{null, null_mut};
-
-static CURVE: [f32; MANUAL_MASK_POINTS] = [0.0; MANUAL_MASK_POINTS];
-const BEFORE: f32 = 7.0;
-
-fn refused<T>(number: u32, place: usize) -> Result<T, Refused> {
-    Err(Refused { number, place })
-}
 
 /// A mixer in which these strips have asked, in this order.
 fn asked(strips: impl IntoIterator<Item = usize>) -> Mixer {
@@ -69,37 +65,9 @@ fn a_strip_above_15_is_refused() {
     }
 }
 
-fn config() -> MaskConfig {
-    MaskConfig {
-        fft_size: 1024,
-        note_depth_db: 48.0,
-        partials: 4,
-        ..MaskConfig::default()
-    }
-}
-
-fn table() -> Vec<f32> {
-    let mut table = vec![0.0; config().bins()];
-    MaskWorkspace::prepare(&mut table, config().sample_rate, config().fft_size).unwrap();
-    table
-}
-
-/// A voice that is told from others by its note.
-fn voice(note: u8) -> MaskVoice {
-    MaskVoice {
-        pitch: Pitch::Note {
-            note,
-            semitones: 0.0,
-        },
-        level: 1.0,
-        pan: 0.25,
-        ..MaskVoice::default()
-    }
-}
-
 /// A scene for each strip, of a note of its own.
 fn scenes() -> [Scene; STRIPS] {
-    std::array::from_fn(|strip| Scene::new(config(), &[voice(60 + strip as u8)]))
+    std::array::from_fn(|strip| Scene::new(config(), &[voice(60 + strip as u8, 0.25)]))
 }
 
 /// What serving gives, and left and right one behind the other, to the bit.
@@ -164,7 +132,7 @@ fn refuses(scene: Scene, table: &[f32], number: u32, place: usize) {
 fn a_scene_is_tested_1_to_6() {
     let mut table = table();
     table[2] = f32::NAN;
-    let (voices, short) = ([voice(60), voice(128)], &table[1..]);
+    let (voices, short) = ([voice(60, 0.25), voice(128, 0.25)], &table[1..]);
     let small = MaskConfig {
         fft_size: 96,
         partials: 25,
@@ -194,7 +162,7 @@ fn with_nobody_waiting_nothing_is_tested() {
         fft_size: 96,
         ..config()
     };
-    let scenes = std::array::from_fn(|_| Scene::new(small, &[voice(128); 129]));
+    let scenes = std::array::from_fn(|_| Scene::new(small, &[voice(128, 0.25); 129]));
     let mut mixer = Mixer::new();
     let (mut left, mut right) = ([BEFORE; 3], [BEFORE; 2]);
     let served = mixer.serve(&mut left, &mut right, &[], &scenes, &[f32::NAN]);
