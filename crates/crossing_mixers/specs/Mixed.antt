@@ -1,20 +1,19 @@
 -- What a call on a mixer answers to a caller in C, and how the sixteen scenes come from one.
 -- Assumes nothing.
 use mathlib.Core.Bool.{Bool, true, false}
-use mathlib.Core.List.{List, []}
+use mathlib.Core.List.{List}
 use Prim.Native.Nat.{ℕ}
 use lib.ListN.{getD}
-use lib.Ieee.{Float, nan}
+use lib.Ieee.{Float}
 use Rattle.answer.specs.Reply.{Reply, number, place}
 use Rattle.lobes.specs.Pan.{Side}
 use Rattle.mixer.specs.declared.Mixer.{Mixer}
 use Rattle.mixer.specs.declared.Named.{Named}
 use Rattle.mixer.specs.declared.Named.the-variants.{Strip, Nobody}
-use Rattle.mixer_masks.specs.Serving.{sceneReply, sceneMask}
-use Rattle.crossing.specs.declared.settings.Settings.{Settings}
+use Rattle.mixer_masks.specs.Serving.{noScene, sceneReply, sceneMask}
 use Rattle.crossing.specs.MaskSettings.{withSettings}
 use Rattle.crossing_scenes.specs.declared.PlainScene.{PlainScene}
-use Rattle.crossing_scenes.specs.Scenes.{sceneOf}
+use Rattle.crossing_scenes.specs.Scenes.{sceneOf, plainScene}
 use Rattle.crossing_mixers.specs.declared.PlainFiled.{PlainFiled}
 use Rattle.crossing_mixers.specs.declared.PlainTurned.{PlainTurned}
 use Rattle.crossing_mixers.specs.declared.PlainServed.{PlainServed}
@@ -58,26 +57,6 @@ plainReply m n curve plain table =
 abbrev pub plainMask : Side → List Float → PlainScene → List Float → List Float
 plainMask side curve plain table = sceneMask side curve (sceneOf plain) table
 
--- the scene of a strip
-abbrev noSettings : Settings
-noSettings =
-    record {
-      «sample_rate» = nan;
-      «fft_size» = 0;
-      «note_depth_db» = nan;
-      «note_layer_enabled» = false;
-      «width_cents» = nan;
-      partials = 0;
-      «harmonic_rolloff_db_per_octave» = nan;
-      «motion_shape» = 0;
-      «motion_depth_db» = nan;
-      «motion_phase» = nan;
-      «motion_size_octaves» = nan;
-    }
-
--- the default for reads past the last strip's scene, which no result depends on
-abbrev noPlain : PlainScene
-noPlain = record { settings = noSettings; count = 0; voices = [] }
-
+-- the scene of a strip; the default is for reads past the last, which no result depends on
 abbrev pub plainAt : StripScenes → ℕ → PlainScene
-plainAt given strip = getD (given .scenes) strip noPlain
+plainAt given strip = getD (given .scenes) strip (plainScene noScene)

@@ -157,6 +157,7 @@ pub fn turn(mixer: Mixer) -> Turned
         };
     }
     let last = count - 1;
+    // The strip that has waited longest stands here.
     let front: usize = 0;
     let strips = mixer.strips;
     let rest = moved_up(strips, last);
