@@ -1,17 +1,15 @@
 -- The order of arrival is not audible: voices that are the same match one another as the chord law
 -- asks, both ways round, and so the two masks are equal. Assumes nothing.
-use mathlib.Core.Path.{_≡_, refl, sym, ap, _∙_, subst}
-use mathlib.Core.Bool.{Bool, true, false, not}
+use mathlib.Core.Path.{_≡_, refl, sym, ap, _∙_}
 use mathlib.Core.List.{List, [], _∷_, _++_}
 use Prim.Native.Nat.{ℕ, _≤_, _<_}
-use native.Mathlib.Nat.{lt-irrefl}
 use lib.Dec.{T}
 use lib.ListN.{length, getD}
-use lib.Ieee.{Float, nan, binary32, eq, lt}
+use lib.Ieee.{Float, nan, binary32, eq}
 use Rattle.lists.specs.Totals.{All, all-at, all-append, all-set}
 use Rattle.lists.specs.Mapped.{map-append}
 use Rattle.lists.specs.Closing.{all-without}
-use Rattle.float_laws.specs.Units.{number, real, real-number, key, lt→key, eq→key}
+use Rattle.float_laws.specs.Units.{real, real-number}
 use Rattle.float_laws.specs.Order.{eq-refl-f, fits-number}
 use Rattle.answer.specs.Reply.{Reply, done, refused}
 use Rattle.answer.specs.Written.{written}
@@ -28,62 +26,28 @@ use Rattle.voice_bank.specs.Banks.{empty, placeIn}
 use Rattle.lobes.specs.Pan.{left, right}
 use Rattle.mask_calls.specs.LentStereo.{lentReply, lentMask}
 use Rattle.chord_law.specs.Calls as chord
-use Rattle.chord_law.specs.Voices.{NoLower, Matched, MatchedIn}
+use Rattle.chord_law.specs.Voices.{MatchedIn}
 use Rattle.chord_law.specs.Curves.{NoNan, NowhereAbove}
 use Rattle.chord_law.specs.Masks.{EqualMasks, MasksEqual}
 use Rattle.chord_law.specs.Settings.{SameSettings, SameEntries}
 use Rattle.chord_law.proofs.Acceptance.{size-accepted, settings-accepted, curve-length}
 use Rattle.chord_law.proofs.Acceptance.{entry-number}
+use Rattle.chord_law.proofs.SameVoices.{not-lower, same-matched}
+use Rattle.chord_law.proofs.AcceptedVoices.{reply-without-voices}
 use Rattle.chord_law.proofs.LentCalls.{lent-chord-law}
 use Rattle.bank_law.specs.Calls.{Reading, Call, add, remove, change, read}
 use Rattle.bank_law.specs.Present.{Entry, entry, voices, takenOut, changed, replyBy}
 use Rattle.bank_law.specs.Present.{entered, presentFrom, present}
 use Rattle.bank_law.specs.Banks.{answerOf, run}
-use Rattle.bank_law.specs.Promises.{Holds, SameVoice, AllAmong, SameVoices}
+use Rattle.bank_law.specs.Promises.{Holds, AllAmong, SameVoices}
 use Rattle.bank_law.specs.Promises.{OneReading, SameSound, F32Call, F32Reading}
 use Rattle.bank_law.specs.Promises.{NotAudible, OrderNotAudible}
 use Rattle.bank_law.proofs.Entries.{ids, taken-out, changed-at}
-use Rattle.bank_law.proofs.Reading.{lentAnswer, read-answer, reply-without-voices}
+use Rattle.bank_law.proofs.Reading.{lentAnswer, read-answer}
 use Rattle.bank_law.proofs.Runs.{holds-the-present}
-
--- ---- of two equal numbers neither is lower
-not-lower :
-    (x y : Float) → T (number binary32 x) → T (number binary32 y) → T (eq x y) → NoLower x y
-not-lower x y p q e = go (lt y x) refl
-  where
-    go : (b : Bool) → lt y x ≡ b → T (not b)
-    go false r = tt
-    go true r =
-        let l = lt→key binary32 y x q p (subst T (sym r) tt) in
-        absurd (lt-irrefl (key binary32 y)
-        (subst (λ (k : ℕ). key binary32 y < k) (eq→key binary32 x y p q e) l))
-
-same-real : (x y : Float) → T (real binary32 x) → T (real binary32 y) → T (eq x y) → NoLower x y
-same-real x y p q e = not-lower x y (real-number binary32 x p) (real-number binary32 y q) e
 
 same-itself : (x : Float) → T (real binary32 x) → T (eq x x)
 same-itself x p = eq-refl-f binary32 x (real-number binary32 x p)
-
--- ---- the same voice matches
-same-matched : (a b : MaskVoice) → RealVoice a → RealVoice b → SameVoice a b → Matched a b
-same-matched a b r s v =
-    record {
-      pitch = v .pitch;
-      timbre = v .timbre;
-      pan = v .pan;
-      level =
-          same-real (a .level) (b .level) (r .level-unit .is-real) (s .level-unit .is-real)
-          (v .level);
-      pressure =
-          same-real (a .pressure) (b .pressure) (r .pressure-real) (s .pressure-real)
-          (v .pressure);
-      volume =
-          same-real (a .«volume_gain») (b .«volume_gain») (r .volume-real) (s .volume-real)
-          (v .volume);
-      expression =
-          same-real (a .«expression_gain») (b .«expression_gain») (r .expression-real)
-          (s .expression-real) (v .expression);
-    }
 
 -- ---- voices that the stereo call hears: at most 128, each accepted
 pub record Heard (voices : List MaskVoice) : Type 0 where

@@ -15,12 +15,12 @@ use Rattle.scene.specs.Accepted.{voiceAccepted, pitchAccepted}
 use Rattle.scene.specs.F32.{F32Pitch, F32Voice}
 use Rattle.voice_bank.specs.Banks.{empty}
 use Rattle.chord_law.specs.Curves.{NoNan}
-use Rattle.chord_law.specs.Voices.{SamePitch}
+use Rattle.chord_law.specs.Voices.{SamePitch, SameVoice}
 use Rattle.chord_law.proofs.Instances.{voice, C, E, G}
 use Rattle.bank_law.specs.Calls.{Reading, Call, add, remove, read}
 use Rattle.bank_law.specs.Present.{has, takenOut, replyBy, presentFrom, present}
 use Rattle.bank_law.specs.Banks.{answerOf, run}
-use Rattle.bank_law.specs.Promises.{SameVoice, AllAmong, SameVoices}
+use Rattle.bank_law.specs.Promises.{AllAmong, SameVoices}
 use Rattle.bank_law.specs.Promises.{OneReading, SameSound, F32Reading}
 use Rattle.bank_law.proofs.Audible.{order-not-audible}
 

@@ -4,7 +4,6 @@ use mathlib.Core.List.{List, []}
 use Prim.Native.Nat.{ℕ, _≤_, _<_}
 use lib.Dec.{T}
 use lib.ListN.{length, getD}
-use lib.Ieee.{eq}
 use Rattle.lists.specs.Totals.{All}
 use Rattle.answer.specs.Reply.{done}
 use Rattle.limits.specs.Lengths.{MOST-VOICES}
@@ -14,7 +13,7 @@ use Rattle.scene.specs.F32.{F32Voice, F32Settings, F32List}
 use Rattle.voice_bank.specs.declared.Bank.{Bank}
 use Rattle.voice_bank.specs.Banks.{empty}
 use Rattle.bank_masks.specs.Reading.{voicesIn}
-use Rattle.chord_law.specs.Voices.{SamePitch}
+use Rattle.chord_law.specs.Voices.{SameVoice}
 use Rattle.chord_law.specs.Curves.{NoNan}
 use Rattle.chord_law.specs.Masks.{EqualMasks}
 use Rattle.bank_law.specs.Calls.{Reading, Call, add, remove, change, read, Answer}
@@ -40,16 +39,6 @@ abbrev pub HoldsThePresent : Type 0
 HoldsThePresent = (calls : List Call) → Holds (run empty calls) (present calls)
 
 -- ---- "The order of arrival must not be audible"
-
--- the same voice: numbers are compared as f32 compares, so that the sign of a zero does not count
-pub record SameVoice (a b : MaskVoice) : Type 0 where
-  pub pitch : SamePitch (a .pitch) (b .pitch)
-  pub level : T (eq (a .level) (b .level))
-  pub pressure : T (eq (a .pressure) (b .pressure))
-  pub timbre : T (eq (a .timbre) (b .timbre))
-  pub volume : T (eq (a .«volume_gain») (b .«volume_gain»))
-  pub expression : T (eq (a .«expression_gain») (b .«expression_gain»))
-  pub pan : T (eq (a .pan) (b .pan))
 
 -- a voice of the list, by its place, that is the same
 pub record Among (voice : MaskVoice) (voices : List MaskVoice) : Type 0 where

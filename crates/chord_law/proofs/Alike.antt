@@ -3,9 +3,11 @@
 -- another. Assumes nothing.
 use mathlib.Core.Path.{_≡_, refl, sym, ap, _∙_}
 use mathlib.Core.Bool.{true, false, not}
-use Prim.Native.Nat.{ℕ, _/_, _+_, _<_}
+use mathlib.Core.List.{List}
+use Prim.Native.Nat.{ℕ, _/_, _+_, _^_, _≤_, _<_}
 use native.Mathlib.Omega.{arith}
 use lib.Dec.{T, T-not}
+use lib.Pow.{pow-mono}
 use lib.Count.{trailingZeros}
 use lib.ListN.{length, getD}
 use lib.Ieee.{Float, nan, binary32, le, eq, odd, ofBits, ofFields}
@@ -13,22 +15,28 @@ use Rattle.float_laws.specs.Units.{real, real-number}
 use Rattle.float_laws.specs.Order.{not-lt-f}
 use Rattle.float_laws.specs.Same.{Same, same, noughts, nought, eq-same}
 use Rattle.float32.proofs.Limits.{within-low}
+use Rattle.limits.specs.Limits as limits
 use Rattle.limits.specs.Limits.{LEAST-RATE, MOST-RATE, LEAST-WIDTH, MOST-WIDTH}
 use Rattle.limits.specs.Limits.{LEAST-HERTZ, MOST-HERTZ}
+use Rattle.limits.proofs.Sizes.{size-power}
 use Rattle.scene.specs.declared.MaskVoice.{MaskVoice}
 use Rattle.scene.specs.declared.Pitch.{Pitch}
 use Rattle.scene.specs.declared.Pitch.the-variants.{Note, Hertz}
 use Rattle.scene.specs.declared.MaskConfig.{MaskConfig}
 use Rattle.scene.specs.Accepted.{sizeAccepted, settingsAccepted}
 use Rattle.scene.specs.Voices.{RealPitch, RealVoice}
+use Rattle.lobes.specs.Pan.{Side}
+use Rattle.lobes.specs.Distance.{lent}
 use Rattle.lobes.proofs.Raised.{Raised}
 use Rattle.lobes.proofs.ZeroSigns.{SameTable, AlikePitch, pitch-same, timbre-same, balance-same}
-use Rattle.mask_builder.proofs.ZeroSigns.{SameConfig}
+use Rattle.mask_builder.specs.Mask.{maskAt}
+use Rattle.mask_builder.proofs.ZeroSigns.{SameConfig, mask-same}
 use Rattle.chord_law.specs.Calls.{Call, Accepted, whole, F32Call}
 use Rattle.chord_law.specs.Voices.{NoLower, SamePitch, Matched}
 use Rattle.chord_law.specs.Settings.{SameSettings, SameEntries}
 use Rattle.scene.specs.F32.{F32Settings}
 use Rattle.scene.proofs.SettingsNumbers as numbers
+use Rattle.chord_law.proofs.Acceptance.{size-accepted, settings-accepted}
 use Rattle.chord_law.proofs.Acceptance.{table-length, entry-number}
 
 -- ---- equal numbers that are at least a number above 0 are the same
@@ -99,6 +107,16 @@ module _ (a b : MaskConfig) (s : T (sizeAccepted a)) (s' : T (sizeAccepted b))
             (h .motion .size);
       }
 
+-- ---- a size has bins above bin 0
+some-bins : (n : ℕ) → T (limits.size n) → 1 ≤ n / 2
+some-bins n t =
+    let p = size-power n t in
+    let two = pow-mono {i = 1} {j = p .exponent} (omega (arith, p .from)) in
+    rw (p .is) (half-of (2 ^ p .exponent) two)
+  where
+    half-of : (m : ℕ) → 2 ≤ m → 1 ≤ m / 2
+    half-of m h = omega arith
+
 -- ---- the table
 module _ (a b : Call) (p : Accepted (whole a)) (q : Accepted (whole b)) (f : F32Call a)
     (g : F32Call b) where
@@ -114,6 +132,22 @@ module _ (a b : Call) (p : Accepted (whole a)) (q : Accepted (whole b)) (f : F32
       let k' : bin < length (b .table) = omega (arith, same-lengths e) in
       eq-same binary32 (getD (a .table) bin nan) (getD (b .table) bin nan)
       (entry-number a p f bin l k) (entry-number b q g bin l k') (h bin l k)
+
+  -- a bin of a mask is the same on either settings and table
+  pub mask-on :
+      SameSettings (a .config) (b .config) → SameEntries (a .table) (b .table)
+      → (side : Side) (curve : List Float) (voices : List MaskVoice) (bin : ℕ)
+      → maskAt curve (a .config) (lent (a .table)) side voices bin
+      ≡ maskAt curve (b .config) (lent (b .table)) side voices bin
+  mask-on settings entries =
+      let s = size-accepted a p in
+      let t = settings-accepted a p in
+      let size = numbers.size-within (a .config) s t (f .settings-f32) in
+      mask-same (a .config) (b .config)
+      (same-config (a .config) (b .config) s (size-accepted b q) t (settings-accepted b q)
+      (f .settings-f32) (g .settings-f32) settings)
+      (a .table) (b .table) (some-bins (a .config .«fft_size») size)
+      (same-table (settings .size) entries)
 
 -- ---- a voice
 no-lower : (x y : Float) → T (real binary32 x) → T (real binary32 y) → NoLower x y → T (le x y)

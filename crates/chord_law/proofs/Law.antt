@@ -2,14 +2,13 @@
 -- curves without NaN, and each voice of A is matched by one of B and A's curve is nowhere above
 -- B's, then on every bin, left and right, A's mask is not above B's. Where B is matched in A too
 -- and the curves are equal, the masks are equal: the first part, both ways round. A's mask is that
--- on B's settings and table (`mask-same`); there each bin rises with the voices and with the curve
+-- on B's settings and table (`mask-on`); there each bin rises with the voices and with the curve
 -- (`mask-rises`). Assumes nothing.
 use mathlib.Core.Path.{_≡_, sym, subst}
 use mathlib.Core.List.{List}
-use Prim.Native.Nat.{ℕ, zero, suc, _/_, _+_, _^_, _≤_, _<_}
+use Prim.Native.Nat.{ℕ, zero, suc, _/_, _+_, _<_}
 use native.Mathlib.Omega.{arith}
 use lib.Dec.{T}
-use lib.Pow.{pow-mono}
 use lib.ListN.{length, getD}
 use lib.Ieee.{Float, nan, binary32}
 use Rattle.lists.specs.Maps.{tabFrom}
@@ -17,10 +16,8 @@ use Rattle.lists.specs.Pairs.{All2, none, more}
 use Rattle.float_laws.specs.Units.{number, real-number}
 use Rattle.float_laws.specs.Order.{fits-number, not-lt-f, le-antisymm-f}
 use Rattle.float_laws.specs.Rise.{Rise}
-use Rattle.limits.specs.Limits as limits
 use Rattle.scene.specs.declared.MaskConfig.{MaskConfig}
 use Rattle.scene.specs.Accepted.{noVoice}
-use Rattle.limits.proofs.Sizes.{size-power}
 use Rattle.limits.specs.Lengths.{MANUAL-MASK-POINTS}
 use Rattle.masks.specs.Manual.{curvePoint, manualGain}
 use Rattle.masks.proofs.Points.{point-le}
@@ -30,7 +27,6 @@ use Rattle.openness.proofs.RaisedVoices.{RaisedIn}
 use Rattle.mask_builder.specs.Mask.{maskAt}
 use Rattle.bin_gains.proofs.Rising.{manual-rises}
 use Rattle.mask_builder.proofs.Rising.{mask-rises}
-use Rattle.mask_builder.proofs.ZeroSigns.{mask-same}
 use Rattle.chord_law.specs.Calls.{Call, Accepted, F32Call, given, whole, maskOn}
 use Rattle.chord_law.specs.Voices.{MatchedIn}
 use Rattle.chord_law.specs.Curves.{NoNan, EqualCurves}
@@ -40,28 +36,18 @@ use Rattle.chord_law.specs.Law.{ChordLaw}
 use Rattle.chord_law.proofs.Acceptance.{size-accepted, settings-accepted, curve-length}
 use Rattle.chord_law.proofs.Acceptance.{given-real, all-real}
 use Rattle.scene.proofs.SettingsNumbers as numbers
-use Rattle.chord_law.proofs.Alike.{same-config, same-table, matched-raised}
+use Rattle.chord_law.proofs.Alike.{mask-on, matched-raised}
 use Rattle.chord_law.proofs.Turned.{turned}
 
-abbrev Risen : List Float → List Float → Type 0
+abbrev pub Risen : List Float → List Float → Type 0
 Risen = All2 (λ x y. Rise binary32 7 x y)
 
-rise-tab :
+pub rise-tab :
     (f g : ℕ → Float) → ((bin : ℕ) → Rise binary32 7 (f bin) (g bin)) → (j n : ℕ)
     → Risen (tabFrom f j n) (tabFrom g j n)
 unfolding tabFrom
 rise-tab f g h j zero = none
 rise-tab f g h j (suc n) = more (h j) (rise-tab f g h (suc j) n)
-
--- ---- a size has bins above bin 0
-some-bins : (n : ℕ) → T (limits.size n) → 1 ≤ n / 2
-some-bins n t =
-    let p = size-power n t in
-    let two = pow-mono {i = 1} {j = p .exponent} (omega (arith, p .from)) in
-    rw (p .is) (half-of (2 ^ p .exponent) two)
-  where
-    half-of : (m : ℕ) → 2 ≤ m → 1 ≤ m / 2
-    half-of m h = omega arith
 
 -- ---- a curve point
 curve-number :
@@ -124,16 +110,8 @@ module _ (a b : Call) (fa : F32Call a) (fb : F32Call b)
 
     same-on-B : (bin : ℕ) → by-A bin ≡ on-B bin
     same-on-B bin =
-        let p = c .a-accepted in
-        let q = c .b-accepted in
-        let s = size-accepted a p in
-        let t = settings-accepted a p in
-        let settings =
-        same-config A B s (size-accepted b q) t (settings-accepted b q) (fa .settings-f32)
-        (fb .settings-f32) (c .settings) in
-        let bins = some-bins (A .«fft_size») (numbers.size-within A s t (fa .settings-f32)) in
-        let table = same-table a b p q fa fb (c .settings .size) (c .table) in
-        mask-same A B settings (a .table) (b .table) bins table side (a .curve) (given a) bin
+        mask-on a b (c .a-accepted) (c .b-accepted) fa fb (c .settings) (c .table) side (a .curve)
+        (given a) bin
 
     pub masks-rise : Risen (maskOn side a) (maskOn side b)
     masks-rise =
@@ -147,7 +125,7 @@ not-above : {xs ys : List Float} → Risen xs ys → NotAbove xs ys
 not-above none = none
 not-above (more r w) = more (r .up) (not-above w)
 
-equal : {xs ys : List Float} → Risen xs ys → Risen ys xs → EqualMasks xs ys
+pub equal : {xs ys : List Float} → Risen xs ys → Risen ys xs → EqualMasks xs ys
 equal none none = none
 equal (more {x} {y} r w) (more r' w') =
     let p = real-number binary32 x (r .from .is-real) in

@@ -14,7 +14,7 @@ use Rattle.chord_law.specs.Calls.{LentCall, wholeLent, lentReplyTo}
 use Rattle.chord_law.specs.Law.{LawHolds, LentChordLaw}
 use Rattle.chord_law.proofs.Law.{chord-law}
 
-abbrev inArray : LentCall → Call
+abbrev pub inArray : LentCall → Call
 inArray call =
     callOf (call .left-length) (call .right-length) (call .curve) (call .records)
     (length (call .records)) (call .config) (call .table)
@@ -32,7 +32,7 @@ hearing call voices =
       right = maskOf (call .curve) (call .config) (lent (call .table)) right voices;
     }
 
-all-count : (call : LentCall) → whole (inArray call) ≡ wholeLent call
+pub all-count : (call : LentCall) → whole (inArray call) ≡ wholeLent call
 all-count call = ap (hearing call) (take-length (call .records))
 
 pub lent-chord-law : LentChordLaw

@@ -1,5 +1,7 @@
 pub mod Acceptance
 pub mod Alike
+pub mod SameVoices
+pub mod AcceptedVoices
 pub mod Turned
 pub mod Law
 pub mod LentCalls

@@ -25,9 +25,9 @@ use Rattle.scene.specs.Accepted.{noVoice, sizeAccepted, settingsAccepted}
 use Rattle.scene.specs.Accepted.{motionAccepted, pitchAccepted, voiceAccepted}
 use Rattle.float32.specs.Remainder.{half}
 use Rattle.refusals.specs.Masks.{settingsReply, voicesReply, tableReply, stereoReply}
-use Rattle.scene.specs.F32.{F32Pitch, F32Voice, F32Settings}
+use Rattle.scene.specs.F32.{F32Pitch, F32Voice, F32Settings, F32List}
 use Rattle.chord_law.specs.Calls.{Call, F32Call, Accepted, whole}
-use Rattle.chord_law.specs.Settings.{SameSettings}
+use Rattle.chord_law.specs.Settings.{SameSettings, SameEntries}
 use Rattle.chord_law.specs.Curves.{NoNan, NowhereAbove}
 use Rattle.chord_law.specs.Masks.{MasksNotAbove}
 use Rattle.chord_law.specs.Premises.{Comparable}
@@ -37,7 +37,7 @@ use Rattle.chord_law.proofs.Instances.{one-more}
 
 -- 48,000 Hz, size 64, a depth of 96 dB, widths of 100 cents, 8 partials that fall by 6 dB an
 -- octave, and a saw of 12 dB, an octave long
-abbrev config : MaskConfig
+abbrev pub config : MaskConfig
 config =
     record {
       «sample_rate» = ofBits binary32 0x473b_8000;
@@ -56,7 +56,7 @@ config =
           };
     }
 
-abbrev table : List Float
+abbrev pub table : List Float
 table = tabulate 33 (λ k. remainder.zero)
 
 settings-f32 : F32Settings config
@@ -72,7 +72,7 @@ settings-f32 =
       motion-size = tt;
     }
 
-settings-same : SameSettings config config
+pub settings-same : SameSettings config config
 unfolding ofBits ofFields odd trailingZeros eq
 settings-same =
     record {
@@ -94,6 +94,9 @@ entry-is : (i : ℕ) → i < length table → getD table i nan ≡ remainder.zer
 entry-is i h =
     getD-tabulate (λ k. remainder.zero) 33 i nan
     (omega (arith, length-tab (λ k. remainder.zero) 0 33))
+
+pub entries-same : SameEntries table table
+entries-same i l h = subst (λ (x : Float). T (eq x x)) (sym (entry-is i h)) (zero-f32 .1)
 
 voice-f32 : (pitch : Pitch) → F32Pitch pitch → F32Voice (voice pitch half)
 unfolding ofBits ofFields odd trailingZeros fits
@@ -129,9 +132,8 @@ larger-f32 =
       ),
     )
 
-module _ (curve : List Float) (long : length curve ≡ MANUAL-MASK-POINTS) (numbers : NoNan curve)
-    (f32 : (i : ℕ) → i < length curve → T (fits binary32 (getD curve i nan))) where
-  abbrev call : List MaskVoice → Call
+module _ (curve : List Float) (long : length curve ≡ MANUAL-MASK-POINTS) (f32 : F32List curve) where
+  abbrev pub call : List MaskVoice → Call
   call voices =
       record {
         left-length = 33;
@@ -143,7 +145,7 @@ module _ (curve : List Float) (long : length curve ≡ MANUAL-MASK-POINTS) (numb
         table = table;
       }
 
-  chord-accepted : Accepted (whole (call chord))
+  pub chord-accepted : Accepted (whole (call chord))
   unfolding stereoReply settingsReply voicesReply tableReply sizeAccepted settingsAccepted
       motionAccepted pitchAccepted voiceAccepted firstBadFrom tabFrom within finite le lt eq ofBits
       ofFields odd trailingZeros
@@ -155,7 +157,7 @@ module _ (curve : List Float) (long : length curve ≡ MANUAL-MASK-POINTS) (numb
       ofFields odd trailingZeros
   larger-accepted = rw long refl
 
-  call-f32 : (voices : List MaskVoice) → All F32Voice voices → F32Call (call voices)
+  pub call-f32 : (voices : List MaskVoice) → All F32Voice voices → F32Call (call voices)
   call-f32 voices f =
       record {
         curve-f32 = f32;
@@ -165,26 +167,27 @@ module _ (curve : List Float) (long : length curve ≡ MANUAL-MASK-POINTS) (numb
             λ i h. subst (λ (x : Float). T (fits binary32 x)) (sym (entry-is i h)) (zero-f32 .0);
       }
 
-  comparable : Comparable (whole (call chord)) (whole (call with-one-more))
-  comparable =
-      record {
-        a-accepted = chord-accepted;
-        b-accepted = larger-accepted;
-        settings = settings-same;
-        table = λ i l h. subst (λ (x : Float). T (eq x x)) (sym (entry-is i h)) (zero-f32 .1);
-        a-curve = numbers;
-        b-curve = numbers;
-      }
+  module _ (numbers : NoNan curve) where
+    comparable : Comparable (whole (call chord)) (whole (call with-one-more))
+    comparable =
+        record {
+          a-accepted = chord-accepted;
+          b-accepted = larger-accepted;
+          settings = settings-same;
+          table = entries-same;
+          a-curve = numbers;
+          b-curve = numbers;
+        }
 
-  not-above-itself : NowhereAbove curve curve
-  not-above-itself i h =
-      let x = getD curve i nan in
-      let n = fits-number binary32 x (f32 i (rw long h)) (numbers i h) in
-      le→not-lt-f binary32 x x n n (le-refl-f binary32 x n)
+    not-above-itself : NowhereAbove curve curve
+    not-above-itself i h =
+        let x = getD curve i nan in
+        let n = fits-number binary32 x (f32 i (rw long h)) (numbers i h) in
+        le→not-lt-f binary32 x x n n (le-refl-f binary32 x n)
 
-  pub the-larger-chord-is-above :
-      MasksNotAbove (whole (call chord)) (whole (call with-one-more))
-  the-larger-chord-is-above =
-      masks-not-above (call chord) (call with-one-more) (call-f32 chord chord-f32)
-      (call-f32 with-one-more larger-f32) comparable
-      (record { matched = one-more; curve = not-above-itself })
+    pub the-larger-chord-is-above :
+        MasksNotAbove (whole (call chord)) (whole (call with-one-more))
+    the-larger-chord-is-above =
+        masks-not-above (call chord) (call with-one-more) (call-f32 chord chord-f32)
+        (call-f32 with-one-more larger-f32) comparable
+        (record { matched = one-more; curve = not-above-itself })

@@ -21,12 +21,12 @@ pub record Left (call : Call) (reply : Reply) (left-mask right-mask : List Float
 
 module _ {call : Call} {reply : Reply} {l r : List Float}
     (w : Left call reply l r) (d : Accepted (whole call)) where
-  left-is : l ≡ maskOn left call
+  pub left-is : l ≡ maskOn left call
   left-is =
       w .left-after
       ∙ ap (λ (a : Reply). written a (maskOn left call) (w .left-before)) (w .answer ∙ d)
 
-  right-is : r ≡ maskOn right call
+  pub right-is : r ≡ maskOn right call
   right-is =
       w .right-after
       ∙ ap (λ (a : Reply). written a (maskOn right call) (w .right-before)) (w .answer ∙ d)

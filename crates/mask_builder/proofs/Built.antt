@@ -32,7 +32,8 @@ unfolding gridOf
 grid-last config = refl
 
 -- ---- functions that agree make one list
-tab-same : {A : Type 0} (f g : ℕ → A) (j n : ℕ) → ((k : ℕ) → f k ≡ g k) → tabFrom f j n ≡ tabFrom g j n
+pub tab-same :
+    {A : Type 0} (f g : ℕ → A) (j n : ℕ) → ((k : ℕ) → f k ≡ g k) → tabFrom f j n ≡ tabFrom g j n
 unfolding tabFrom
 tab-same f g j zero e = refl
 tab-same f g j (suc n) e = rw (e j) (ap (λ l. g j ∷ l) (tab-same f g (suc j) n e))

@@ -17,7 +17,7 @@ use Rattle.scene.specs.Accepted.{noVoice}
 use Rattle.scene.specs.Voices.{RealVoice}
 use Rattle.scene.proofs.SettingsNumbers.{RealSettings}
 use Rattle.masks.specs.Manual.{manualGain}
-use Rattle.bin_gains.specs.Gains.{ceilingAt}
+use Rattle.bin_gains.specs.Gains.{ceilingAt, gainAt}
 use Rattle.bin_gains.proofs.Rising.{motion-upto, gate-rises}
 use Rattle.lobes.specs.Grid.{gridOf}
 use Rattle.lobes.specs.Pan.{Side}
@@ -27,12 +27,25 @@ use Rattle.openness.proofs.RaisedVoices.{Fair, RaisedIn, openness-rises}
 use Rattle.mask_builder.specs.Mask.{opennessAt, maskAt}
 
 -- ---- the openness, with the note layer on or off
-fair-grid : (config : MaskConfig) → RealSettings config → Fair (gridOf config)
+pub fair-grid : (config : MaskConfig) → RealSettings config → Fair (gridOf config)
 unfolding gridOf
 fair-grid config c = record { rolloff = c .rolloff; few = few (config .partials) }
   where
     few : (n : ℕ) → min (max n 1) 24 ≤ 24
     few n = omega arith
+
+-- ---- a bin's gain, as its curve point and its openness rise
+pub gain-rises :
+    (config : MaskConfig) → RealSettings config → (a b : List Float) (bin : ℕ)
+    → Rise binary32 0 (manualGain a bin (config .«fft_size»))
+    (manualGain b bin (config .«fft_size»))
+    → {o p : Float} → Rise binary32 3 o p
+    → Rise binary32 7 (gainAt a config bin o) (gainAt b config bin p)
+unfolding ceilingAt
+gain-rises config c a b bin h r =
+    rise-mul binary32 2 5 (lit≤ tt)
+    (rise-mul binary32 0 2 (lit≤ tt) h (rise-refl binary32 (motion-upto config bin c)))
+    (gate-rises config c r)
 
 module _ (config : MaskConfig) (c : RealSettings config) (table : List Float) (side : Side) (xs ys : List MaskVoice) (u : All RealVoice xs) (v : All RealVoice ys)
     (m : (i : ℕ) → i < length xs → RaisedIn (getD xs i noVoice) ys) where
@@ -47,6 +60,5 @@ module _ (config : MaskConfig) (c : RealSettings config) (table : List Float) (s
   -- ---- the product
   pub mask-rises : (a b : List Float) (bin : ℕ) → Rise binary32 0 (manualGain a bin (config .«fft_size»)) (manualGain b bin (config .«fft_size»))
       → Rise binary32 7 (maskAt a config (lent table) side xs bin) (maskAt b config (lent table) side ys bin)
-  unfolding maskAt ceilingAt
-  mask-rises a b bin h =
-      rise-mul binary32 2 5 (lit≤ tt) (rise-mul binary32 0 2 (lit≤ tt) h (rise-refl binary32 (motion-upto config bin c))) (gate-rises config c (openness-at-rises bin))
+  unfolding maskAt
+  mask-rises a b bin h = gain-rises config c a b bin h (openness-at-rises bin)

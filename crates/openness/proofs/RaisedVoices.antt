@@ -88,7 +88,9 @@ module _ (grid : Grid) (fair : Fair grid) (table : List Float) (side : Side) (bi
       below : (p : ℕ) → p < 1 + grid .partials → p ≤ 24
       below p h = omega (arith, fair .few)
 
-  open-partials : (voice : MaskVoice) → RealVoice voice → All (FitWhere (there voice) (opens voice)) (partials voice)
+  pub open-partials :
+      (voice : MaskVoice) → RealVoice voice
+      → All (FitWhere (there voice) (opens voice)) (partials voice)
   open-partials voice u =
       all-weaken (λ p h t. opened-rises grid table (fair .rolloff) side voice voice u u (raised-self voice u) p (h .0) (h .1) bin .to) (partials voice) (numbered voice)
 

@@ -1,0 +1,9 @@
+pub mod FarVoices
+pub mod NearVoices
+pub mod Same
+pub mod CurvePoints
+pub mod Equal
+pub mod Law
+pub mod TwoCalls
+pub mod Joined
+pub mod Instances
