@@ -68,6 +68,27 @@ fn a_chord_opens_its_notes_on_their_sides() {
     assert!(left[bin(93)] < 0.01 && right[bin(93)] > 1.0);
 }
 
+fn bits(mask: &[f32]) -> Vec<u32> {
+    mask.iter().map(|gain| gain.to_bits()).collect()
+}
+
+/// To the bit, wherever it stands among the voices, and panned past its side too.
+#[test]
+fn a_voice_hard_on_one_side_leaves_the_other_as_it_was() {
+    let table = table();
+    let (first, second) = (voice(69, -0.5), voice(76, 0.5));
+    let [left, right] = stereo(&[first, second], config(), &table).unwrap();
+    let with = |pan| stereo(&[first, voice(93, pan), second], config(), &table).unwrap();
+    for pan in [1.0, 1.5, f32::MAX] {
+        let hard_right = with(pan);
+        assert_eq!(bits(&hard_right[0]), bits(&left));
+        assert_ne!(hard_right[1], right);
+        let hard_left = with(-pan);
+        assert_ne!(hard_left[0], left);
+        assert_eq!(bits(&hard_left[1]), bits(&right));
+    }
+}
+
 #[test]
 fn a_centred_chord_is_the_mono_mask_on_both_sides() {
     let (chord, table) = ([voice(69, 0.0), voice(93, 0.0)], table());
