@@ -1,22 +1,27 @@
-//! Random arguments through each exported function and through the oracle, compared bit by bit.
+//! Random arguments through each exported function and through the oracle, compared bit by bit; and
+//! laws of the stereo call, tried on the library alone.
 //!
 //!     compare SEED COUNT [SCENES [NAME]]
 //!
 //! COUNT is the number of calls of each function, and of the lists of calls on a mixer; SCENES is
-//! that of the whole scenes that go through each mask builder, and of the lists in which a mixer's
-//! strips are served, COUNT/100 where it is left out. With NAME only the function of that name is
-//! called. Two NaNs count as equal; any other difference in bits is a failure: of an answer, a
-//! place, a value, a field of a scene, a place of a bank or of a line, a counter, and of each entry
-//! of a slice that the call may write. Exits 1 where there is one.
+//! that of the whole scenes that go through each mask builder, of those on which each law is tried,
+//! and of the lists in which a mixer's strips are served, COUNT/100 where it is left out. With NAME
+//! only the function of that name is called, or the law of that name tried. Two NaNs count as
+//! equal; any other difference in bits is a failure: of an answer, a place, a value, a field of a
+//! scene, a place of a bank or of a line, a counter, and of each entry of a slice that the call may
+//! write. So is a scene on which a law does not hold. Exits 1 where there is one.
 
 mod draw;
 mod envelopes;
+mod far_side;
+mod joined_lists;
 mod masks;
 mod mixers;
 mod numbers;
 mod open_calls;
 mod run;
 mod scene_records;
+mod stereo_calls;
 mod strips;
 mod tally;
 mod voice_banks;
@@ -55,8 +60,10 @@ fn main() -> ExitCode {
     voice_banks::compare(&mut run);
     mixers::compare(&mut run);
     masks::compare(&mut run);
+    far_side::compare(&mut run);
+    joined_lists::compare(&mut run);
     if run.kinds == 0 {
-        eprintln!("no function has that name");
+        eprintln!("no function and no law has that name");
         return ExitCode::from(2);
     }
     let differences = run.differences;

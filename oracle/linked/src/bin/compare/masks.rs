@@ -27,7 +27,7 @@ struct Drawn {
 }
 
 /// A scene from all over the limits, now and then centred, on a table of any kind; and its curve.
-fn scene(random: &mut Random) -> (Call, Vec<f32>) {
+pub fn scene(random: &mut Random) -> (Call, Vec<f32>) {
     let mut scene = Scene::anywhere(random);
     let lobes = scene.voices.len() * scene.config.partials;
     while lobes * scene.config.fft_size > WORK && !random.once_in(64) {
@@ -67,7 +67,7 @@ fn thin_out(random: &mut Random, levels: &mut [f32]) {
 }
 
 /// Puts the ends of the limits at some entries of a table, and anything at entry 0.
-fn strew(random: &mut Random, table: &mut [f32]) {
+pub fn strew(random: &mut Random, table: &mut [f32]) {
     let (low, high) = TABLE;
     let rare = random.pick(&[2, 16, 256]);
     for (index, entry) in table.iter_mut().enumerate() {
@@ -90,12 +90,16 @@ fn block(random: &mut Random, fft_size: usize, table: &[f32]) -> Vec<f32> {
     block
 }
 
-/// Puts any note into the records by hertz, where it does not count, and now and then a form that
-/// is neither into a record whose numbers would do for both.
-pub fn odd_forms(random: &mut Random, records: &mut [VoiceRecord]) {
+/// Puts any note into the records by hertz, where it does not count.
+pub fn odd_notes(random: &mut Random, records: &mut [VoiceRecord]) {
     for record in records.iter_mut().filter(|one| one.pitch_form == HERTZ) {
         record.note = random.word() as u8;
     }
+}
+
+/// The same, and now and then a form that is neither in a record whose numbers would do for both.
+pub fn odd_forms(random: &mut Random, records: &mut [VoiceRecord]) {
+    odd_notes(random, records);
     if !records.is_empty() && random.once_in(16) {
         let index = random.below(records.len());
         let record = &mut records[index];
