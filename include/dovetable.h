@@ -263,7 +263,8 @@ uint32_t dovetable_build_mask_with_voices_precomputed(
     const struct DovetableVoice *voices, size_t count, struct DovetableSettings settings,
     const float *table, size_t entries, size_t *place);
 
-/* The same for left and right, each voice at its pan. */
+/* The same for left and right, each voice at its pan. A voice whose pan is 1 or more leaves the
+ * left mask as it is without the voice, to the bit, and one whose pan is -1 or less the right. */
 uint32_t dovetable_build_stereo_masks_with_voices_precomputed(
     float *left, size_t left_bins, float *right, size_t right_bins, const float *manual_mask_db,
     size_t points, const struct DovetableVoice *voices, size_t count,

@@ -68,7 +68,9 @@ pub fn build_mask_with_voices_precomputed(
     })
 }
 
-/// A mask for each side, each voice at its pan. Tests: 1, 2, 3, 4, 5, 6.
+/// A mask for each side, each voice at its pan. A voice whose pan is 1 or more leaves the left mask
+/// as it is without the voice, to the bit, and one whose pan is -1 or less the right. Tests: 1, 2,
+/// 3, 4, 5, 6.
 pub fn build_stereo_masks_with_voices_precomputed(
     left: &mut [f32],
     right: &mut [f32],

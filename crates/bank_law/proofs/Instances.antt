@@ -9,6 +9,7 @@ use lib.Dec.{lit<}
 use lib.Count.{trailingZeros}
 use lib.Ieee.{eq, lt, le, ofBits, ofFields, odd, fits}
 use Rattle.float32.specs.Order.{finite, within}
+use Rattle.float32.specs.Remainder as remainder
 use Rattle.float32.specs.Remainder.{half}
 use Rattle.scene.specs.declared.Pitch.{Pitch}
 use Rattle.scene.specs.Accepted.{voiceAccepted, pitchAccepted}
@@ -16,7 +17,7 @@ use Rattle.scene.specs.F32.{F32Pitch, F32Voice}
 use Rattle.voice_bank.specs.Banks.{empty}
 use Rattle.chord_law.specs.Curves.{NoNan}
 use Rattle.chord_law.specs.Voices.{SamePitch, SameVoice}
-use Rattle.chord_law.proofs.Instances.{voice, C, E, G}
+use Rattle.chord_law.proofs.Instances.{voice, C, E, G, same-placed, placed-f32}
 use Rattle.bank_law.specs.Calls.{Reading, Call, add, remove, read}
 use Rattle.bank_law.specs.Present.{has, takenOut, replyBy, presentFrom, present}
 use Rattle.bank_law.specs.Banks.{answerOf, run}
@@ -43,30 +44,12 @@ top-down-present = refl
 
 -- ---- a voice of this kind is the same as itself, and its numbers are f32s
 itself : (pitch : Pitch) → SamePitch pitch pitch → SameVoice (voice pitch half) (voice pitch half)
-unfolding ofBits ofFields odd trailingZeros eq
-itself pitch same =
-    record {
-      pitch = same;
-      level = tt;
-      pressure = tt;
-      timbre = tt;
-      volume = tt;
-      expression = tt;
-      pan = tt;
-    }
+unfolding ofBits eq
+itself pitch same = same-placed pitch pitch same remainder.zero remainder.zero tt
 
 voice-f32 : (pitch : Pitch) → F32Pitch pitch → F32Voice (voice pitch half)
-unfolding ofBits ofFields odd trailingZeros fits
-voice-f32 pitch f =
-    record {
-      pitch = f;
-      level = tt;
-      pressure = tt;
-      timbre = tt;
-      volume = tt;
-      expression = tt;
-      pan = tt;
-    }
+unfolding ofBits fits
+voice-f32 pitch f = placed-f32 pitch remainder.zero f tt
 
 C-itself : SameVoice C C
 unfolding ofBits ofFields odd trailingZeros eq

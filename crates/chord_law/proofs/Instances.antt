@@ -12,11 +12,12 @@ use lib.Dec.{T, lit<}
 use lib.ListN.{getD}
 use lib.Count.{trailingZeros}
 use lib.Ieee.{Float, binary32, ofBits, ofFields, ofInt, odd, eq, lt, isNan, add, sub, sum, neg, mul}
-use lib.Ieee.{div, round, size, span, climb, units}
+use lib.Ieee.{div, round, size, span, climb, units, fits}
 use Rattle.scene.specs.declared.MaskVoice.{MaskVoice}
 use Rattle.scene.specs.declared.Pitch.{Pitch}
 use Rattle.scene.specs.declared.Pitch.the-variants.{Note, Hertz}
 use Rattle.scene.specs.Accepted.{noVoice}
+use Rattle.scene.specs.F32.{F32Pitch, F32Voice}
 use Rattle.lists.specs.Interpolation.{interp}
 use Rattle.float32.specs.Remainder as remainder
 use Rattle.float32.specs.Remainder.{half}
@@ -25,15 +26,15 @@ use Rattle.power.specs.Table.{powerTable}
 use Rattle.power.specs.Power.{powerAt, powerOf, E2}
 use Rattle.lobes.specs.Tone.{pitchHertz, fundamentalOf}
 use Rattle.chord_law.specs.Calls.{Call, F32Call, given, whole}
-use Rattle.chord_law.specs.Voices.{SamePitch, Matched, MatchIn, MatchedIn}
+use Rattle.chord_law.specs.Voices.{SamePitch, Matched, MatchIn, MatchedIn, SameVoice}
 use Rattle.chord_law.specs.Curves.{NowhereAbove}
 use Rattle.chord_law.specs.Masks.{MasksNotAbove, MasksEqual}
 use Rattle.chord_law.specs.Premises.{Comparable, Beneath}
 use Rattle.chord_law.proofs.Law.{masks-not-above, masks-equal}
 
--- a pitch at a level, with full pressure and volume, at the centre
-abbrev pub voice : Pitch → Float → MaskVoice
-voice pitch level =
+-- a pitch at a level, with full pressure and volume, at a place between left and right
+abbrev pub placed : Pitch → Float → Float → MaskVoice
+placed pitch level pan =
     record {
       pitch = pitch;
       level = level;
@@ -41,8 +42,12 @@ voice pitch level =
       timbre = half;
       «volume_gain» = remainder.one;
       «expression_gain» = remainder.one;
-      pan = remainder.zero;
+      pan = pan;
     }
+
+-- at the centre
+abbrev pub voice : Pitch → Float → MaskVoice
+voice pitch level = placed pitch level remainder.zero
 
 abbrev in-tune : ℕ → Pitch
 in-tune note = Note note remainder.zero
@@ -132,6 +137,38 @@ E-itself = itself (Hertz 330-hertz) (kind .same-330)
 
 G-itself : Matched G G
 G-itself = itself (in-tune 67) (same-note 67)
+
+-- ---- of two voices of this kind, at a level of a half: they are the same where pitch and pan are,
+-- and their numbers are f32s
+pub same-placed :
+    (p q : Pitch) → SamePitch p q → (x y : Float) → T (eq x y)
+    → SameVoice (placed p half x) (placed q half y)
+unfolding ofBits ofFields odd trailingZeros eq
+same-placed p q same x y e =
+    record {
+      pitch = same;
+      level = tt;
+      pressure = tt;
+      timbre = tt;
+      volume = tt;
+      expression = tt;
+      pan = e;
+    }
+
+pub placed-f32 :
+    (pitch : Pitch) (pan : Float) → F32Pitch pitch → T (fits binary32 pan)
+    → F32Voice (placed pitch half pan)
+unfolding ofBits ofFields odd trailingZeros fits
+placed-f32 pitch pan p q =
+    record {
+      pitch = p;
+      level = tt;
+      pressure = tt;
+      timbre = tt;
+      volume = tt;
+      expression = tt;
+      pan = q;
+    }
 
 -- the three voices of a list, each with its match
 three :

@@ -33,7 +33,7 @@ use Rattle.chord_law.specs.Masks.{MasksNotAbove}
 use Rattle.chord_law.specs.Premises.{Comparable}
 use Rattle.chord_law.proofs.Law.{masks-not-above}
 use Rattle.chord_law.proofs.Instances.{voice, C, E, G, A-by-hertz, chord, with-one-more}
-use Rattle.chord_law.proofs.Instances.{one-more}
+use Rattle.chord_law.proofs.Instances.{one-more, placed-f32}
 
 -- 48,000 Hz, size 64, a depth of 96 dB, widths of 100 cents, 8 partials that fall by 6 dB an
 -- octave, and a saw of 12 dB, an octave long
@@ -99,17 +99,7 @@ pub entries-same : SameEntries table table
 entries-same i l h = subst (λ (x : Float). T (eq x x)) (sym (entry-is i h)) (zero-f32 .1)
 
 voice-f32 : (pitch : Pitch) → F32Pitch pitch → F32Voice (voice pitch half)
-unfolding ofBits ofFields odd trailingZeros fits
-voice-f32 pitch f =
-    record {
-      pitch = f;
-      level = tt;
-      pressure = tt;
-      timbre = tt;
-      volume = tt;
-      expression = tt;
-      pan = tt;
-    }
+voice-f32 pitch f = placed-f32 pitch remainder.zero f (zero-f32 .0)
 
 pitches-f32 : All F32Pitch (C .pitch ∷ E .pitch ∷ A-by-hertz .pitch ∷ G .pitch ∷ [])
 unfolding ofBits ofFields odd trailingZeros fits

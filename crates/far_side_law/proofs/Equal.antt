@@ -9,7 +9,7 @@ use lib.Dec.{T}
 use lib.ListN.{length, getD}
 use lib.Ieee.{Float, nan, binary32, fits}
 use Rattle.lists.specs.Maps.{tabFrom}
-use Rattle.lists.specs.Pairs.{All2, all2-at, all2-length}
+use Rattle.lists.specs.Pairs.{All2, none, more, all2-at, all2-length}
 use Rattle.lists.specs.Totals.{All, all-at}
 use Rattle.float_laws.specs.Rise.{Rise}
 use Rattle.scene.specs.declared.MaskVoice.{MaskVoice}
@@ -40,30 +40,27 @@ turned-nans : (a b : List Float) → SameNans a b → SameNans b a
 turned-nans a b same i h = sym (same i h)
 
 -- ---- two lists, each voice the same as the other's at its place
-module _ {xs ys : List MaskVoice} (us : All RealVoice xs) (vs : All RealVoice ys)
-    (same : All2 SameVoice xs ys) where
-  forth : (i : ℕ) → i < length xs → RaisedIn (getD xs i noVoice) ys
-  forth i h =
-      let x = getD xs i noVoice in
-      let y = getD ys i noVoice in
-      let k : i < length ys = omega (arith, all2-length SameVoice same) in
-      let u = all-at RealVoice xs i noVoice us h in
-      let v = all-at RealVoice ys i noVoice vs k in
-      record {
-        place = i;
-        there = k;
-        above = matched-raised x y u v (same-matched x y u v (all2-at SameVoice i noVoice same h));
-      }
+turned-voices :
+    {xs ys : List MaskVoice} → All RealVoice xs → All RealVoice ys → All2 SameVoice xs ys
+    → All2 SameVoice ys xs
+turned-voices us vs none = none
+turned-voices us vs (more {x} {y} s w) =
+    more (same-turned x y (us .0) (vs .0) s) (turned-voices (us .1) (vs .1) w)
 
-  back : (i : ℕ) → i < length ys → RaisedIn (getD ys i noVoice) xs
-  back i h =
-      let x = getD xs i noVoice in
-      let y = getD ys i noVoice in
-      let k : i < length xs = omega (arith, all2-length SameVoice same) in
-      let u = all-at RealVoice xs i noVoice us k in
-      let v = all-at RealVoice ys i noVoice vs h in
-      let s = same-turned x y u v (all2-at SameVoice i noVoice same k) in
-      record { place = i; there = k; above = matched-raised y x v u (same-matched y x v u s) }
+raised :
+    {xs ys : List MaskVoice} → All RealVoice xs → All RealVoice ys → All2 SameVoice xs ys
+    → (i : ℕ) → i < length xs → RaisedIn (getD xs i noVoice) ys
+raised {xs} {ys} us vs same i h =
+    let x = getD xs i noVoice in
+    let y = getD ys i noVoice in
+    let k : i < length ys = omega (arith, all2-length SameVoice same) in
+    let u = all-at RealVoice xs i noVoice us h in
+    let v = all-at RealVoice ys i noVoice vs k in
+    record {
+      place = i;
+      there = k;
+      above = matched-raised x y u v (same-matched x y u v (all2-at SameVoice i noVoice same h));
+    }
 
 -- ---- two calls
 module _ (side : Side) (a b : Call) (fa : F32Call a) (fb : F32Call b)
@@ -114,15 +111,15 @@ module _ (side : Side) (a b : Call) (fa : F32Call a) (fb : F32Call b)
 
   up : (bin : ℕ) → Rise binary32 7 (near-A bin) (near-B bin)
   up bin =
-      mask-rises B real (b .table) side xs ys us vs (forth us vs (h .voices)) (a .curve) (b .curve)
+      mask-rises B real (b .table) side xs ys us vs (raised us vs (h .voices)) (a .curve) (b .curve)
       bin
       (point-rises (a .curve) (b .curve) bin (B .«fft_size») (point a (h .a-accepted) fa bin)
       (point b (h .b-accepted) fb bin) (h .nans) (h .curve .0))
 
   down : (bin : ℕ) → Rise binary32 7 (near-B bin) (near-A bin)
   down bin =
-      mask-rises B real (b .table) side ys xs vs us (back us vs (h .voices)) (b .curve) (a .curve)
-      bin
+      mask-rises B real (b .table) side ys xs vs us
+      (raised vs us (turned-voices us vs (h .voices))) (b .curve) (a .curve) bin
       (point-rises (b .curve) (a .curve) bin (B .«fft_size») (point b (h .b-accepted) fb bin)
       (point a (h .a-accepted) fa bin) (turned-nans (a .curve) (b .curve) (h .nans))
       (h .curve .1))

@@ -2,13 +2,14 @@
 -- the same two with others before and between them that stand hard right or past it, have one left
 -- mask; with others hard left, one right mask; and where a zero has another sign, equal ones. The
 -- two voices and one hard right are lists that can be joined. Assumes nothing.
-use mathlib.Core.Path.{_≡_, refl}
+use mathlib.Core.Path.{_≡_, refl, sym, ap, _∙_}
 use mathlib.Core.Bool.{not}
 use mathlib.Core.List.{List, [], _∷_}
 use Prim.Native.Nat.{_≤_}
 use lib.Dec.{T, lit≤}
 use lib.Count.{trailingZeros}
 use lib.ListN.{length, getD}
+use lib.Seq.{take-length}
 use lib.Ieee.{Float, nan, inf, fin, binary32, fits, isNan, le, lt, eq, odd, ofBits, ofFields}
 use Rattle.lists.specs.Pairs.{All2, none, more}
 use Rattle.lists.specs.Totals.{All}
@@ -22,14 +23,14 @@ use Rattle.scene.specs.declared.MaskVoice.{MaskVoice}
 use Rattle.scene.specs.declared.Pitch.{Pitch}
 use Rattle.scene.specs.declared.Pitch.the-variants.{Note, Hertz}
 use Rattle.scene.specs.Accepted.{pitchAccepted, voiceAccepted}
-use Rattle.scene.specs.F32.{F32Pitch, F32Voice, F32List}
-use Rattle.lobes.specs.Pan.{left, right, HARD-LEFT, HARD-RIGHT}
+use Rattle.scene.specs.F32.{F32Voice, F32List}
+use Rattle.lobes.specs.Pan.{Side, left, right, HARD-LEFT, HARD-RIGHT}
 use Rattle.chord_law.specs.Calls.{Call, F32Call, Accepted, whole, maskOn}
-use Rattle.chord_law.specs.Voices.{SamePitch, SameVoice}
+use Rattle.chord_law.specs.Voices.{SameVoice}
 use Rattle.chord_law.specs.Curves.{NowhereAbove}
 use Rattle.chord_law.specs.Masks.{EqualMasks}
 use Rattle.chord_law.proofs.AcceptedVoices.{accepted-on}
-use Rattle.chord_law.proofs.Instances.{chord}
+use Rattle.chord_law.proofs.Instances.{placed, chord, same-placed, placed-f32}
 use Rattle.chord_law.proofs.Scene.{settings-same, entries-same, call, chord-accepted, call-f32}
 use Rattle.far_side_law.specs.Sides.{near}
 use Rattle.far_side_law.specs.FarSide.{SameScene, EqualScene, FarSideSilent}
@@ -39,16 +40,7 @@ use Rattle.far_side_law.proofs.Joined.{joined-law}
 
 -- ---- the voices
 abbrev panned : Pitch → Float → MaskVoice
-panned pitch pan =
-    record {
-      pitch = pitch;
-      level = half;
-      pressure = remainder.one;
-      timbre = half;
-      «volume_gain» = remainder.one;
-      «expression_gain» = remainder.one;
-      pan = pan;
-    }
+panned pitch pan = placed pitch half pan
 
 abbrev note : Float → Float → MaskVoice
 note tuning pan = panned (Note 60 tuning) pan
@@ -84,26 +76,19 @@ with-hard-left = strewn HARD-LEFT (ofBits binary32 0xbfc0_0000)
 abbrev pub one-hard-right : List MaskVoice
 one-hard-right = panned (Note 67 remainder.zero) HARD-RIGHT ∷ []
 
+near-the-left : near left alone ≡ near left (with-hard-right alone)
+unfolding near ofBits ofFields odd trailingZeros le lt eq
+near-the-left = refl
+
+near-the-right : near right alone ≡ near right (with-hard-left alone)
+unfolding near ofBits ofFields odd trailingZeros le lt eq
+near-the-right = refl
+
 -- ---- the lists are accepted, and their numbers are f32s
 record Sound (voices : List MaskVoice) : Type 0 where
   few : length voices ≤ MOST-VOICES
   within-limits : All (λ v. T (voiceAccepted v)) voices
   numbers : All F32Voice voices
-
-panned-f32 :
-    (pitch : Pitch) (pan : Float) → F32Pitch pitch → T (fits binary32 pan)
-    → F32Voice (panned pitch pan)
-unfolding ofBits ofFields odd trailingZeros fits
-panned-f32 pitch pan p q =
-    record {
-      pitch = p;
-      level = tt;
-      pressure = tt;
-      timbre = tt;
-      volume = tt;
-      expression = tt;
-      pan = q;
-    }
 
 alone-sound : Sound alone
 unfolding voiceAccepted pitchAccepted within finite le lt eq ofBits ofFields odd trailingZeros fits
@@ -111,7 +96,7 @@ alone-sound =
     record {
       few = lit≤ tt;
       within-limits = (tt, (tt, tt));
-      numbers = (panned-f32 _ _ tt tt, (panned-f32 _ _ tt tt, tt));
+      numbers = (placed-f32 _ _ tt tt, (placed-f32 _ _ tt tt, tt));
     }
 
 one-sound : Sound one-hard-right
@@ -120,68 +105,45 @@ one-sound =
     record {
       few = lit≤ tt;
       within-limits = (tt, tt);
-      numbers = (panned-f32 _ _ tt tt, tt);
+      numbers = (placed-f32 _ _ tt tt, tt);
     }
 
--- with voices strewn among them whose pans are f32s
-strewn-f32 :
-    (end past tuning pan : Float) → T (fits binary32 end) → T (fits binary32 past)
-    → T (fits binary32 tuning) → T (fits binary32 pan)
-    → All F32Voice (strewn end past (note tuning pan ∷ half-right ∷ []))
+-- the two voices with others strewn among them
+strewn-sound :
+    (end past tuning pan : Float)
+    → All (λ v. T (voiceAccepted v)) (strewn end past (note tuning pan ∷ half-right ∷ []))
+    → T (fits binary32 end) → T (fits binary32 past) → T (fits binary32 tuning)
+    → T (fits binary32 pan) → Sound (strewn end past (note tuning pan ∷ half-right ∷ []))
 unfolding ofBits ofFields odd trailingZeros fits
-strewn-f32 end past tuning pan p q r s = (
-  panned-f32 _ end tt p,
-  (panned-f32 _ pan r s, (panned-f32 _ past tt q, (panned-f32 _ half tt tt, tt))),
-)
+strewn-sound end past tuning pan within-limits p q r s =
+    record {
+      few = lit≤ tt;
+      within-limits = within-limits;
+      numbers = (
+        placed-f32 _ end tt p,
+        (placed-f32 _ pan r s, (placed-f32 _ past tt q, (placed-f32 _ half tt tt, tt))),
+      );
+    }
 
 right-sound : Sound (with-hard-right alone)
 unfolding voiceAccepted pitchAccepted within finite le lt eq ofBits ofFields odd trailingZeros fits
-right-sound =
-    record {
-      few = lit≤ tt;
-      within-limits = (tt, (tt, (tt, (tt, tt))));
-      numbers = strewn-f32 _ _ _ _ tt tt tt tt;
-    }
+right-sound = strewn-sound _ _ _ _ (tt, (tt, (tt, (tt, tt)))) tt tt tt tt
 
 left-sound : Sound (with-hard-left alone)
 unfolding voiceAccepted pitchAccepted within finite le lt eq ofBits ofFields odd trailingZeros fits
-left-sound =
-    record {
-      few = lit≤ tt;
-      within-limits = (tt, (tt, (tt, (tt, tt))));
-      numbers = strewn-f32 _ _ _ _ tt tt tt tt;
-    }
+left-sound = strewn-sound _ _ _ _ (tt, (tt, (tt, (tt, tt)))) tt tt tt tt
 
 zeros-sound : Sound (with-hard-right other-zeros)
 unfolding voiceAccepted pitchAccepted within finite le lt eq ofBits ofFields odd trailingZeros fits
-zeros-sound =
-    record {
-      few = lit≤ tt;
-      within-limits = (tt, (tt, (tt, (tt, tt))));
-      numbers = strewn-f32 _ _ _ _ tt tt tt tt;
-    }
-
-equal-panned :
-    (p q : Pitch) → SamePitch p q → (x y : Float) → T (eq x y) → SameVoice (panned p x) (panned q y)
-unfolding ofBits ofFields odd trailingZeros eq
-equal-panned p q same x y e =
-    record {
-      pitch = same;
-      level = tt;
-      pressure = tt;
-      timbre = tt;
-      volume = tt;
-      expression = tt;
-      pan = e;
-    }
+zeros-sound = strewn-sound _ _ _ _ (tt, (tt, (tt, (tt, tt)))) tt tt tt tt
 
 zeros-equal : All2 SameVoice alone other-zeros
 unfolding ofBits ofFields odd trailingZeros eq
 zeros-equal =
     more
-    (equal-panned (Note 60 remainder.zero) (Note 60 minus-zero)
+    (same-placed (Note 60 remainder.zero) (Note 60 minus-zero)
     (record { note = refl; tuning = tt }) remainder.zero minus-zero tt)
-    (more (equal-panned (half-right .pitch) (half-right .pitch) tt half half tt) none)
+    (more (same-placed (half-right .pitch) (half-right .pitch) tt half half tt) none)
 
 -- ---- no point of a curve is above itself, a NaN neither
 number-itself : (x : Float) → T (number binary32 x) → T (not (lt x x))
@@ -211,28 +173,18 @@ module _ (curve : List Float) (long : length curve ≡ MANUAL-MASK-POINTS) (f32 
       → FarSideSilent (whole (scene xs)) (whole (scene ys))
   law xs ys s t = far-side-law (scene xs) (scene ys) (numbers-f32 xs s) (numbers-f32 ys t)
 
-  near-the-left : SameScene left (whole (scene alone)) (whole (scene (with-hard-right alone)))
-  unfolding near ofBits ofFields odd trailingZeros le lt eq
-  near-the-left =
+  same-scene :
+      (side : Side) (xs ys : List MaskVoice) → Sound xs → Sound ys → near side xs ≡ near side ys
+      → SameScene side (whole (scene xs)) (whole (scene ys))
+  same-scene side xs ys s t e =
       record {
-        a-accepted = accepted alone alone-sound;
-        b-accepted = accepted (with-hard-right alone) right-sound;
+        a-accepted = accepted xs s;
+        b-accepted = accepted ys t;
         curve = refl;
         table = refl;
         settings = refl;
-        voices = refl;
-      }
-
-  near-the-right : SameScene right (whole (scene alone)) (whole (scene (with-hard-left alone)))
-  unfolding near ofBits ofFields odd trailingZeros le lt eq
-  near-the-right =
-      record {
-        a-accepted = accepted alone alone-sound;
-        b-accepted = accepted (with-hard-left alone) left-sound;
-        curve = refl;
-        table = refl;
-        settings = refl;
-        voices = refl;
+        voices =
+            ap (near side) (take-length xs) ∙ e ∙ sym (ap (near side) (take-length ys));
       }
 
   level : NowhereAbove curve curve
@@ -256,12 +208,14 @@ module _ (curve : List Float) (long : length curve ≡ MANUAL-MASK-POINTS) (f32 
   pub hard-right-leaves-the-left :
       maskOn left (scene alone) ≡ maskOn left (scene (with-hard-right alone))
   hard-right-leaves-the-left =
-      law alone (with-hard-right alone) alone-sound right-sound .left-same near-the-left
+      law alone (with-hard-right alone) alone-sound right-sound .left-same
+      (same-scene left alone (with-hard-right alone) alone-sound right-sound near-the-left)
 
   pub hard-left-leaves-the-right :
       maskOn right (scene alone) ≡ maskOn right (scene (with-hard-left alone))
   hard-left-leaves-the-right =
-      law alone (with-hard-left alone) alone-sound left-sound .right-same near-the-right
+      law alone (with-hard-left alone) alone-sound left-sound .right-same
+      (same-scene right alone (with-hard-left alone) alone-sound left-sound near-the-right)
 
   pub signs-of-zeros-do-not-count :
       EqualMasks (maskOn left (scene alone)) (maskOn left (scene (with-hard-right other-zeros)))
