@@ -16,7 +16,8 @@ use Rattle.scene.specs.Accepted.{voiceAccepted, pitchAccepted}
 use Rattle.scene.specs.F32.{F32Pitch, F32Voice}
 use Rattle.voice_bank.specs.Banks.{empty}
 use Rattle.chord_law.specs.Curves.{NoNan}
-use Rattle.chord_law.specs.Voices.{SamePitch, SameVoice}
+use Rattle.chord_law.specs.Voices.{SamePitch}
+use Rattle.chord_law.specs.SameVoices.{SameVoice}
 use Rattle.chord_law.proofs.Instances.{voice, C, E, G, same-placed, placed-f32}
 use Rattle.bank_law.specs.Calls.{Reading, Call, add, remove, read}
 use Rattle.bank_law.specs.Present.{has, takenOut, replyBy, presentFrom, present}

@@ -13,7 +13,7 @@ use Rattle.scene.specs.F32.{F32Voice, F32Settings, F32List}
 use Rattle.voice_bank.specs.declared.Bank.{Bank}
 use Rattle.voice_bank.specs.Banks.{empty}
 use Rattle.bank_masks.specs.Reading.{voicesIn}
-use Rattle.chord_law.specs.Voices.{SameVoice}
+use Rattle.chord_law.specs.SameVoices.{SameVoice}
 use Rattle.chord_law.specs.Curves.{NoNan}
 use Rattle.chord_law.specs.Masks.{EqualMasks}
 use Rattle.bank_law.specs.Calls.{Reading, Call, add, remove, change, read, Answer}

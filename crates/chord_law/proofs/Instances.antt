@@ -26,7 +26,8 @@ use Rattle.power.specs.Table.{powerTable}
 use Rattle.power.specs.Power.{powerAt, powerOf, E2}
 use Rattle.lobes.specs.Tone.{pitchHertz, fundamentalOf}
 use Rattle.chord_law.specs.Calls.{Call, F32Call, given, whole}
-use Rattle.chord_law.specs.Voices.{SamePitch, Matched, MatchIn, MatchedIn, SameVoice}
+use Rattle.chord_law.specs.Voices.{SamePitch, Matched, MatchIn, MatchedIn}
+use Rattle.chord_law.specs.SameVoices.{SameVoice}
 use Rattle.chord_law.specs.Curves.{NowhereAbove}
 use Rattle.chord_law.specs.Masks.{MasksNotAbove, MasksEqual}
 use Rattle.chord_law.specs.Premises.{Comparable, Beneath}

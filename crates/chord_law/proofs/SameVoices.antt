@@ -12,7 +12,8 @@ use Rattle.scene.specs.declared.MaskVoice.{MaskVoice}
 use Rattle.scene.specs.declared.Pitch.{Pitch}
 use Rattle.scene.specs.declared.Pitch.the-variants.{Note, Hertz}
 use Rattle.scene.specs.Voices.{RealPitch, RealVoice}
-use Rattle.chord_law.specs.Voices.{NoLower, SamePitch, Matched, SameVoice}
+use Rattle.chord_law.specs.Voices.{NoLower, SamePitch, Matched}
+use Rattle.chord_law.specs.SameVoices.{SameVoice}
 
 -- ---- of two equal numbers neither is lower
 pub not-lower :

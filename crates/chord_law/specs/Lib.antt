@@ -1,5 +1,6 @@
 pub mod Calls
 pub mod Voices
+pub mod SameVoices
 pub mod Settings
 pub mod Curves
 pub mod Masks

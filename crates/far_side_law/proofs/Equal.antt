@@ -25,7 +25,7 @@ use Rattle.openness.proofs.RaisedVoices.{RaisedIn}
 use Rattle.mask_builder.specs.Mask.{maskAt}
 use Rattle.mask_builder.proofs.Rising.{mask-rises}
 use Rattle.chord_law.specs.Calls.{Call, F32Call, Accepted, given, whole, maskOn}
-use Rattle.chord_law.specs.Voices.{SameVoice}
+use Rattle.chord_law.specs.SameVoices.{SameVoice}
 use Rattle.chord_law.specs.Masks.{EqualMasks}
 use Rattle.chord_law.proofs.Acceptance.{size-accepted, settings-accepted}
 use Rattle.chord_law.proofs.Alike.{mask-on, matched-raised}

@@ -26,7 +26,7 @@ use Rattle.scene.specs.Accepted.{pitchAccepted, voiceAccepted}
 use Rattle.scene.specs.F32.{F32Voice, F32List}
 use Rattle.lobes.specs.Pan.{Side, left, right, HARD-LEFT, HARD-RIGHT}
 use Rattle.chord_law.specs.Calls.{Call, F32Call, Accepted, whole, maskOn}
-use Rattle.chord_law.specs.Voices.{SameVoice}
+use Rattle.chord_law.specs.SameVoices.{SameVoice}
 use Rattle.chord_law.specs.Curves.{NowhereAbove}
 use Rattle.chord_law.specs.Masks.{EqualMasks}
 use Rattle.chord_law.proofs.AcceptedVoices.{accepted-on}

@@ -12,7 +12,7 @@ use Rattle.limits.specs.Lengths.{MANUAL-MASK-POINTS}
 use Rattle.lobes.specs.Pan.{Side, left, right}
 use Rattle.chord_law.specs.Calls.{WholeCall, Accepted, Call, F32Call, whole}
 use Rattle.chord_law.specs.Calls.{LentCall, F32LentCall, wholeLent}
-use Rattle.chord_law.specs.Voices.{SameVoice}
+use Rattle.chord_law.specs.SameVoices.{SameVoice}
 use Rattle.chord_law.specs.Settings.{SameSettings, SameEntries}
 use Rattle.chord_law.specs.Curves.{EqualCurves}
 use Rattle.chord_law.specs.Masks.{EqualMasks}
