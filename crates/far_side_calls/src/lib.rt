@@ -1,10 +1,10 @@
-// Two stereo calls made one after the other on lent buffers, with silence from the far side as the
-// contract: what request 107 says of two scenes, of the masks that the buffers then hold.
-ghost use mathlib.Core.Path.{_≡_};
+// Two stereo calls made one after the other on lent buffers. The contract says what each leaves
+// there, and of the masks what request 107 says of two scenes: silence from the far side.
 ghost use lib.ListN.{length};
 ghost use Rattle.answer.specs.Reply.{ofOutcome};
-ghost use Rattle.chord_law.specs.Calls.{callOf, replyTo, wholeWith};
+ghost use Rattle.chord_law.specs.Calls.{callOf, wholeWith};
 ghost use Rattle.far_side_law.specs.FarSide.{FarSideSilent};
+ghost use Rattle.far_side_calls.specs.Leaves.{Leaves};
 use limits::lengths::MOST_VOICES;
 use mask_calls::build_stereo_masks_with_voices_precomputed;
 use paired_calls::Outcomes;
@@ -28,12 +28,14 @@ pub fn two_scenes(
     b_config: MaskConfig,
     b_table: &[f32],
 ) -> Outcomes
-    ensures { λ r. ⌜ ofOutcome (r .a) ≡ replyTo (callOf (length (now («a_left» .entry)))
+    ensures { λ r. ⌜ Leaves (callOf (length (now («a_left» .entry)))
         (length (now («a_right» .entry))) (now («a_curve» .entry)) «a_voices» «a_count» «a_config»
-        (now («a_table» .entry))) ⌝ }
-    ensures { λ r. ⌜ ofOutcome (r .b) ≡ replyTo (callOf (length (now («b_left» .entry)))
+        (now («a_table» .entry))) (now («a_left» .entry)) (now («a_right» .entry))
+        (ofOutcome (r .a)) (now («a_left» .exit)) (now («a_right» .exit)) ⌝ }
+    ensures { λ r. ⌜ Leaves (callOf (length (now («b_left» .entry)))
         (length (now («b_right» .entry))) (now («b_curve» .entry)) «b_voices» «b_count» «b_config»
-        (now («b_table» .entry))) ⌝ }
+        (now («b_table» .entry))) (now («b_left» .entry)) (now («b_right» .entry))
+        (ofOutcome (r .b)) (now («b_left» .exit)) (now («b_right» .exit)) ⌝ }
     ensures { λ _. ⌜ FarSideSilent (wholeWith (callOf (length (now («a_left» .entry)))
         (length (now («a_right» .entry))) (now («a_curve» .entry)) «a_voices» «a_count» «a_config»
         (now («a_table» .entry))) (now («a_left» .exit)) (now («a_right» .exit)))

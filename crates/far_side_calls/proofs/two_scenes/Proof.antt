@@ -1,5 +1,5 @@
--- `two_scenes` meets its contract: the slices hold the masks of the two calls, and the law is of
--- these. Assumes nothing.
+-- `two_scenes` meets its contract: the slices hold what the two calls leave, and the law is of
+-- that. Assumes nothing.
 use lib.ListN.{length}
 use Rattle.chord_law.specs.Calls.{F32Call, callOf}
 use Rattle.refusals.proofs.Parameters.{voices-f32, settings-f32}
@@ -61,9 +61,9 @@ returns c =
     } in
     let x = one .build-stereo-masks-with-voices-precomputed .ensures in
     let y = two .build-stereo-masks-with-voices-precomputed2 .ensures in (
-      x .0,
+      record { answer = x .0; left-after = x .1 .0; right-after = x .1 .1 },
       (
-        y .0,
+        record { answer = y .0; left-after = y .1 .0; right-after = y .1 .1 },
         far-side-silent a b a-numbers b-numbers
             (record {
               left-before = p .a-left .now;
