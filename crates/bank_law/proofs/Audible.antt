@@ -10,7 +10,7 @@ use Rattle.lists.specs.Totals.{All, all-at, all-append, all-set}
 use Rattle.lists.specs.Mapped.{map-append}
 use Rattle.lists.specs.Closing.{all-without}
 use Rattle.float_laws.specs.Units.{real, real-number}
-use Rattle.float_laws.specs.Order.{eq-refl-f, fits-number}
+use Rattle.float_laws.specs.Order.{eq-refl-f}
 use Rattle.answer.specs.Reply.{Reply, done, refused}
 use Rattle.answer.specs.Written.{written}
 use Rattle.limits.specs.Lengths.{MOST-VOICES}
@@ -27,12 +27,12 @@ use Rattle.lobes.specs.Pan.{left, right}
 use Rattle.mask_calls.specs.LentStereo.{lentReply, lentMask}
 use Rattle.chord_law.specs.Calls as chord
 use Rattle.chord_law.specs.Voices.{MatchedIn}
-use Rattle.chord_law.specs.Curves.{NoNan, NowhereAbove}
 use Rattle.chord_law.specs.Masks.{EqualMasks, MasksEqual}
 use Rattle.chord_law.specs.Settings.{SameSettings, SameEntries}
 use Rattle.chord_law.proofs.Acceptance.{size-accepted, settings-accepted, curve-length}
 use Rattle.chord_law.proofs.Acceptance.{entry-number}
-use Rattle.chord_law.proofs.SameVoices.{not-lower, same-matched}
+use Rattle.chord_law.proofs.SameVoices.{same-matched}
+use Rattle.chord_law.proofs.CurvePoints.{level-curve}
 use Rattle.chord_law.proofs.AcceptedVoices.{reply-without-voices}
 use Rattle.chord_law.proofs.LentCalls.{lent-chord-law}
 use Rattle.bank_law.specs.Calls.{Reading, Call, add, remove, change, read}
@@ -134,26 +134,18 @@ module _ (m n : ℕ) (curve : List Float) (config : MaskConfig) (table : List Fl
           eq-refl-f binary32 (getD table i nan)
           (entry-number call done-so (f32-given xs h) i l k)
 
-      level-curve : NoNan curve → NowhereAbove curve curve
-      level-curve no-nan i l =
-          let x = getD curve i nan in
-          let p = fits-number binary32 x (c i (rw (curve-length call done-so) l)) (no-nan i l) in
-          not-lower x x p p (eq-refl-f binary32 x p)
-
     pub equal-masks :
-        (xs ys : List MaskVoice) → Heard xs → Heard ys → SameVoices xs ys → NoNan curve
+        (xs ys : List MaskVoice) → Heard xs → Heard ys → SameVoices xs ys
         → lentReply m n curve xs config table ≡ done []
         → MasksEqual (chord.wholeLent (lentCall xs)) (chord.wholeLent (lentCall ys))
-    equal-masks xs ys hx hy same no-nan done-so =
-        let level = level-curve xs hx done-so no-nan in
+    equal-masks xs ys hx hy same done-so =
+        let level = level-curve curve (curve-length (call xs hx done-so) done-so) c in
         lent-chord-law (lentCall xs) (lentCall ys) (f32-given xs hx) (f32-given ys hy)
         (record {
           a-accepted = done-so;
           b-accepted = sym (same-reply xs ys hx hy) ∙ done-so;
           settings = same-settings xs hx done-so;
           table = same-entries xs hx done-so;
-          a-curve = no-nan;
-          b-curve = no-nan;
         })
         (record { matched = all-matched xs ys hx hy (same .0); curve = level })
         .1
@@ -166,9 +158,9 @@ filled new old e = ap (λ (r : Reply). written r new old) e
 
 pub sounds :
     (xs ys : List MaskVoice) → Heard xs → Heard ys → (a b : Reading) → F32Reading a
-    → SameVoices xs ys → OneReading a b → NoNan (a .curve)
+    → SameVoices xs ys → OneReading a b
     → SameSound (lentAnswer xs a) (lentAnswer ys b)
-sounds xs ys hx hy a b f same one no-nan =
+sounds xs ys hx hy a b f same one =
     record {
       reply = replies;
       left-masks = λ e. masks (a .left) (b .left) e (equal e .0);
@@ -190,7 +182,7 @@ sounds xs ys hx hy a b f same one no-nan =
     equal e =
         rw (sym (one .curve), sym (one .config), sym (one .table))
         (equal-masks (length (a .left)) (length (a .right)) (a .curve) (a .config) (a .table)
-        (f .curve-f32) (f .settings-f32) (f .table-f32) xs ys hx hy same no-nan e)
+        (f .curve-f32) (f .settings-f32) (f .table-f32) xs ys hx hy same e)
 
     masks :
         {x y : List Float} (old old' : List Float) → lentAnswer xs a .reply ≡ done []
@@ -244,14 +236,14 @@ pub reads-sound :
     → (a b : Reading) → F32Reading a
     → NotAudible a-calls b-calls a b (answerOf (run empty a-calls) (read a))
     (answerOf (run empty b-calls) (read b))
-reads-sound a-calls b-calls fa fb a b f same one no-nan =
+reads-sound a-calls b-calls fa fb a b f same one =
     let p = holds-the-present a-calls in
     let q = holds-the-present b-calls in
     rw (
       read-answer (run empty a-calls) (present a-calls) a p,
       read-answer (run empty b-calls) (present b-calls) b q,
     )
-    (sounds (present a-calls) (present b-calls) (hears p fa) (hears q fb) a b f same one no-nan)
+    (sounds (present a-calls) (present b-calls) (hears p fa) (hears q fb) a b f same one)
 
 pub order-not-audible : OrderNotAudible
 order-not-audible a-calls b-calls fa fb a b f =

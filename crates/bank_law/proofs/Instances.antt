@@ -1,6 +1,6 @@
 -- The premises of the promise can be met: a chord played from the bottom up, and the same chord
 -- from the top down with a note that goes again, a voice twice and a refused call. However the two
--- banks are then read, they sound the same. Assumes nothing.
+-- banks are then read, on whatever curve, they sound the same. Assumes nothing.
 use mathlib.Core.Path.{_≡_, refl}
 use mathlib.Core.List.{List, [], _∷_}
 use Prim.Native.Nat.{zero, suc}
@@ -15,7 +15,6 @@ use Rattle.scene.specs.declared.Pitch.{Pitch}
 use Rattle.scene.specs.Accepted.{voiceAccepted, pitchAccepted}
 use Rattle.scene.specs.F32.{F32Pitch, F32Voice}
 use Rattle.voice_bank.specs.Banks.{empty}
-use Rattle.chord_law.specs.Curves.{NoNan}
 use Rattle.chord_law.specs.Voices.{SamePitch}
 use Rattle.chord_law.specs.SameVoices.{SameVoice}
 use Rattle.chord_law.proofs.Instances.{voice, C, E, G, same-placed, placed-f32}
@@ -88,8 +87,8 @@ unfolding ofBits ofFields odd trailingZeros fits
 G-f32 = voice-f32 (G .pitch) tt
 
 pub both-ways-sound-the-same :
-    (a b : Reading) → F32Reading a → OneReading a b → NoNan (a .curve)
+    (a b : Reading) → F32Reading a → OneReading a b
     → SameSound (answerOf (run empty bottom-up) (read a)) (answerOf (run empty top-down) (read b))
-both-ways-sound-the-same a b f one no-nan =
+both-ways-sound-the-same a b f one =
     order-not-audible bottom-up top-down (C-f32, (E-f32, tt))
-    (E-f32, (G-f32, (C-f32, (tt, (C-f32, (G-f32, tt)))))) a b f same-voices one no-nan
+    (E-f32, (G-f32, (C-f32, (tt, (C-f32, (G-f32, tt)))))) a b f same-voices one

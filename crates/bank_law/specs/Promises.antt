@@ -14,7 +14,6 @@ use Rattle.voice_bank.specs.declared.Bank.{Bank}
 use Rattle.voice_bank.specs.Banks.{empty}
 use Rattle.bank_masks.specs.Reading.{voicesIn}
 use Rattle.chord_law.specs.SameVoices.{SameVoice}
-use Rattle.chord_law.specs.Curves.{NoNan}
 use Rattle.chord_law.specs.Masks.{EqualMasks}
 use Rattle.bank_law.specs.Calls.{Reading, Call, add, remove, change, read, Answer}
 use Rattle.bank_law.specs.Present.{answersFrom, present}
@@ -80,13 +79,13 @@ pub record F32Reading (reading : Reading) : Type 0 where
   pub settings-f32 : F32Settings (reading .config)
   pub table-f32 : F32List (reading .table)
 
--- "banks of the same voices, read with one table, one curve without NaN and the same settings, give
--- equal masks": of what two reads answer, where these lists of calls have led to the two banks
+-- "banks of the same voices, read with one table, one curve .. and the same settings, give equal
+-- masks": of what two reads answer, where these lists of calls have led to the two banks. The
+-- request says it of a curve without NaN; it holds of every curve since a NaN of it has a rank.
 abbrev pub NotAudible : List Call → List Call → Reading → Reading → Answer → Answer → Type 0
 NotAudible a-calls b-calls a-reading b-reading a-answer b-answer =
     SameVoices (present a-calls) (present b-calls)
     → OneReading a-reading b-reading
-    → NoNan (a-reading .curve)
     → SameSound a-answer b-answer
 
 -- of every two lists of calls

@@ -1,14 +1,13 @@
 -- A bin's gain never falls as its curve point and its openness rise: the manual gain and the gate
 -- never fall, the motion is the same, and all three are finite and not negative. Assumes nothing.
-use mathlib.Core.Bool.{Bool, true, false, cond}
+use mathlib.Core.Bool.{Bool, true, false, not, cond}
 use mathlib.Core.List.{List}
 use Prim.Native.Nat.{ℕ}
 use native.Mathlib.Nat.{le-trans, le-of-eq}
 use lib.Dec.{T, lit≤}
 use lib.ListN.{getD}
-use lib.Ieee.{Float, nan, binary32, fits, le, lt, sub, ofBits}
-use Rattle.float_laws.specs.Units.{mag, number, real}
-use Rattle.float_laws.specs.Order.{number-fits}
+use lib.Ieee.{Float, nan, isNan, binary32, fits, le, lt, sub, ofBits}
+use Rattle.float_laws.specs.Units.{mag, real}
 use Rattle.float_laws.specs.Mono.{sizes}
 use Rattle.float_laws.specs.Power.{power, mag-power, real-power}
 use Rattle.float_laws.specs.Rise.{Upto, Rise, upto-level, upto-weaken, rise-refl, rise-weaken, rise-mul, rise-add}
@@ -28,13 +27,29 @@ unfolding ofBits fits le mag
 unity = record { is-real = tt; low = tt; high = lit≤ tt }
 
 -- ---- the manual gain
-pub manual-rises : (a b : List Float) (bin size : ℕ) → T (number binary32 (getD a (curvePoint bin size) nan)) → T (number binary32 (getD b (curvePoint bin size) nan))
-    → T (le (getD a (curvePoint bin size) nan) (getD b (curvePoint bin size) nan)) → Rise binary32 0 (manualGain a bin size) (manualGain b bin size)
+pub manual-upto :
+    (curve : List Float) (bin size : ℕ) → T (fits binary32 (getD curve (curvePoint bin size) nan))
+    → Upto binary32 0 (manualGain curve bin size)
 unfolding manualGain
-manual-rises a b bin size p q h = record { from = unit (getD a (curvePoint bin size) nan) p; to = unit (getD b (curvePoint bin size) nan) q; up = curve-gain-never-falls _ _ p q h }
-  where
-    unit : (x : Float) → T (number binary32 x) → Upto binary32 0 (curveGain x)
-    unit x n = let u = curve-gain-in-unit x (number-fits binary32 x n) in upto-level binary32 (curveGain x) (u .finite) (u .low) (u .high)
+manual-upto curve bin size f =
+    let x = getD curve (curvePoint bin size) nan in
+    let u = curve-gain-in-unit x f in
+    upto-level binary32 (curveGain x) (u .finite) (u .low) (u .high)
+
+-- b's point is at or above a's, where a's is a number; where a's is a NaN, b's may be anything
+pub manual-rises :
+    (a b : List Float) (bin size : ℕ) → T (fits binary32 (getD a (curvePoint bin size) nan))
+    → T (fits binary32 (getD b (curvePoint bin size) nan))
+    → (T (not (isNan (getD a (curvePoint bin size) nan)))
+    → T (le (getD a (curvePoint bin size) nan) (getD b (curvePoint bin size) nan)))
+    → Rise binary32 0 (manualGain a bin size) (manualGain b bin size)
+unfolding manualGain
+manual-rises a b bin size p q h =
+    record {
+      from = manual-upto a bin size p;
+      to = manual-upto b bin size q;
+      up = curve-gain-never-falls _ _ p q h;
+    }
 
 -- ---- the motion
 pub motion-upto : (config : MaskConfig) (bin : ℕ) → RealSettings config → Upto binary32 2 (motionAt config bin)

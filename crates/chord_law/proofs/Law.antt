@@ -1,42 +1,37 @@
--- The chord law: where two stereo calls are accepted, on the same settings, table entries and
--- curves without NaN, and each voice of A is matched by one of B and A's curve is nowhere above
--- B's, then on every bin, left and right, A's mask is not above B's. Where B is matched in A too
--- and the curves are equal, the masks are equal: the first part, both ways round. A's mask is that
--- on B's settings and table (`mask-on`); there each bin rises with the voices and with the curve
--- (`mask-rises`). Assumes nothing.
+-- The chord law: where two stereo calls are accepted, on the same settings and table entries, and
+-- each voice of A is matched by one of B and A's curve is nowhere above B's, then on every bin, left
+-- and right, A's mask is not above B's. Where B is matched in A too and the curves are equal, the
+-- masks are equal: the first part, both ways round. A's mask is that on B's settings and table
+-- (`mask-on`); there each bin rises with the voices and with the curve (`mask-rises`). Assumes
+-- nothing.
 use mathlib.Core.Path.{_≡_, sym, subst}
 use mathlib.Core.List.{List}
 use Prim.Native.Nat.{ℕ, zero, suc, _/_, _+_, _<_}
-use native.Mathlib.Omega.{arith}
-use lib.Dec.{T}
 use lib.ListN.{length, getD}
-use lib.Ieee.{Float, nan, binary32}
+use lib.Ieee.{Float, binary32}
 use Rattle.lists.specs.Maps.{tabFrom}
 use Rattle.lists.specs.Pairs.{All2, none, more}
-use Rattle.float_laws.specs.Units.{number, real-number}
-use Rattle.float_laws.specs.Order.{fits-number, not-lt-f, le-antisymm-f}
+use Rattle.float_laws.specs.Units.{real-number}
+use Rattle.float_laws.specs.Order.{le-antisymm-f}
 use Rattle.float_laws.specs.Rise.{Rise}
 use Rattle.scene.specs.declared.MaskConfig.{MaskConfig}
 use Rattle.scene.specs.Accepted.{noVoice}
-use Rattle.limits.specs.Lengths.{MANUAL-MASK-POINTS}
-use Rattle.masks.specs.Manual.{curvePoint, manualGain}
-use Rattle.masks.proofs.Points.{point-le}
 use Rattle.lobes.specs.Pan.{Side}
 use Rattle.lobes.specs.Distance.{lent}
 use Rattle.openness.proofs.RaisedVoices.{RaisedIn}
 use Rattle.mask_builder.specs.Mask.{maskAt}
-use Rattle.bin_gains.proofs.Rising.{manual-rises}
 use Rattle.mask_builder.proofs.Rising.{mask-rises}
 use Rattle.chord_law.specs.Calls.{Call, Accepted, F32Call, given, whole, maskOn}
 use Rattle.chord_law.specs.Voices.{MatchedIn}
-use Rattle.chord_law.specs.Curves.{NoNan, EqualCurves}
+use Rattle.chord_law.specs.Curves.{EqualCurves}
 use Rattle.chord_law.specs.Masks.{NotAbove, EqualMasks, MasksNotAbove, MasksEqual}
 use Rattle.chord_law.specs.Premises.{Comparable, Beneath}
 use Rattle.chord_law.specs.Law.{ChordLaw}
-use Rattle.chord_law.proofs.Acceptance.{size-accepted, settings-accepted, curve-length}
+use Rattle.chord_law.proofs.Acceptance.{size-accepted, settings-accepted}
 use Rattle.chord_law.proofs.Acceptance.{given-real, all-real}
 use Rattle.scene.proofs.SettingsNumbers as numbers
 use Rattle.chord_law.proofs.Alike.{mask-on, matched-raised}
+use Rattle.chord_law.proofs.CurvePoints.{point-f32, point-rises}
 use Rattle.chord_law.proofs.Turned.{turned}
 
 abbrev pub Risen : List Float → List Float → Type 0
@@ -49,14 +44,6 @@ unfolding tabFrom
 rise-tab f g h j zero = none
 rise-tab f g h j (suc n) = more (h j) (rise-tab f g h (suc j) n)
 
--- ---- a curve point
-curve-number :
-    (call : Call) → Accepted (whole call) → F32Call call → NoNan (call .curve)
-    → (i : ℕ) → i < MANUAL-MASK-POINTS → T (number binary32 (getD (call .curve) i nan))
-curve-number call p f n i h =
-    let x = getD (call .curve) i nan in
-    fits-number binary32 x (f .curve-f32 i (rw (curve-length call p) h)) (n i h)
-
 module _ (a b : Call) (fa : F32Call a) (fb : F32Call b)
     (c : Comparable (whole a) (whole b)) (u : Beneath (whole a) (whole b)) where
   abbrev A : MaskConfig
@@ -64,18 +51,6 @@ module _ (a b : Call) (fa : F32Call a) (fb : F32Call b)
 
   abbrev B : MaskConfig
   B = b .config
-
-  manual :
-      (bin : ℕ)
-      → Rise binary32 0 (manualGain (a .curve) bin (B .«fft_size»))
-      (manualGain (b .curve) bin (B .«fft_size»))
-  manual bin =
-      let i = curvePoint bin (B .«fft_size») in
-      let h : i < MANUAL-MASK-POINTS = omega (arith, point-le bin (B .«fft_size»)) in
-      let p = curve-number a (c .a-accepted) fa (c .a-curve) i h in
-      let q = curve-number b (c .b-accepted) fb (c .b-curve) i h in
-      manual-rises (a .curve) (b .curve) bin (B .«fft_size») p q
-      (not-lt-f binary32 (getD (b .curve) i nan) (getD (a .curve) i nan) q p (u .curve i h))
 
   raised : (i : ℕ) → i < length (given a) → RaisedIn (getD (given a) i noVoice) (given b)
   raised i h =
@@ -106,7 +81,10 @@ module _ (a b : Call) (fa : F32Call a) (fb : F32Call b)
         let t = settings-accepted b (c .b-accepted) in
         let real = numbers.real-settings B s t (fb .settings-f32) in
         mask-rises B real (b .table) side (given a) (given b) (all-real a (c .a-accepted) fa)
-        (all-real b (c .b-accepted) fb) raised (a .curve) (b .curve) bin (manual bin)
+        (all-real b (c .b-accepted) fb) raised (a .curve) (b .curve) bin
+        (point-rises (a .curve) (b .curve) bin (B .«fft_size»)
+        (point-f32 a (c .a-accepted) fa bin (B .«fft_size»))
+        (point-f32 b (c .b-accepted) fb bin (B .«fft_size»)) (u .curve))
 
     same-on-B : (bin : ℕ) → by-A bin ≡ on-B bin
     same-on-B bin =

@@ -2,11 +2,13 @@ pub mod Acceptance
 pub mod Alike
 pub mod SameVoices
 pub mod AcceptedVoices
+pub mod CurvePoints
 pub mod Turned
 pub mod Law
 pub mod LentCalls
 pub mod Bins
 pub mod Centers
+pub mod Erased
 pub mod TwoCalls
 pub mod Instances
 pub mod Scene

@@ -1,19 +1,20 @@
--- Two whole calls that meet every premise, on any curve without NaN: a chord, and the same chord
--- with one voice more, at 48,000 Hz and size 64 with a table of zeros. So the law is not empty: no
--- bin of the chord's masks is above that of the larger chord. Assumes nothing.
-use mathlib.Core.Path.{_≡_, refl, sym, subst}
-use mathlib.Core.Bool.{true}
+-- Two whole calls that meet every premise: a chord, and the same chord with one voice more, at
+-- 48,000 Hz and size 64 with a table of zeros, on any two curves of which the chord's is nowhere
+-- above the other. So the law is not empty: no bin of the chord's masks is above that of the larger
+-- chord. The curves may be one curve, whatever it holds, with points erased in both; or points may
+-- be erased in the chord's alone. Assumes nothing.
+use mathlib.Core.Path.{_≡_, refl, sym, _∙_, subst}
+use mathlib.Core.Bool.{true, not}
 use mathlib.Core.List.{List, [], _∷_}
-use Prim.Native.Nat.{ℕ, _<_}
+use Prim.Native.Nat.{ℕ, zero, suc, _<_}
 use native.Mathlib.Omega.{arith}
 use lib.Dec.{T}
 use lib.Count.{trailingZeros}
-use lib.ListN.{length, getD}
-use lib.Ieee.{Float, nan, binary32, fits, le, lt, eq, odd, ofBits, ofFields}
+use lib.ListN.{length, getD, set, length-set}
+use lib.Ieee.{Float, nan, inf, fin, binary32, fits, isNan, le, lt, eq, odd, ofBits, ofFields}
 use Rattle.lists.specs.Folds.{firstBadFrom}
 use Rattle.lists.specs.Maps.{tabFrom, tabulate, length-tab, getD-tabulate}
 use Rattle.lists.specs.Totals.{All, all-at}
-use Rattle.float_laws.specs.Order.{fits-number, le-refl-f, le→not-lt-f}
 use Rattle.float32.specs.Order.{within, finite}
 use Rattle.float32.specs.Remainder as remainder
 use Rattle.limits.specs.Lengths.{MANUAL-MASK-POINTS}
@@ -28,9 +29,10 @@ use Rattle.refusals.specs.Masks.{settingsReply, voicesReply, tableReply, stereo
 use Rattle.scene.specs.F32.{F32Pitch, F32Voice, F32Settings, F32List}
 use Rattle.chord_law.specs.Calls.{Call, F32Call, Accepted, whole}
 use Rattle.chord_law.specs.Settings.{SameSettings, SameEntries}
-use Rattle.chord_law.specs.Curves.{NoNan, NowhereAbove}
+use Rattle.chord_law.specs.Curves.{above, NowhereAbove}
 use Rattle.chord_law.specs.Masks.{MasksNotAbove}
 use Rattle.chord_law.specs.Premises.{Comparable}
+use Rattle.chord_law.proofs.CurvePoints.{not-above-itself, level-curve}
 use Rattle.chord_law.proofs.Law.{masks-not-above}
 use Rattle.chord_law.proofs.Instances.{voice, C, E, G, A-by-hertz, chord, with-one-more}
 use Rattle.chord_law.proofs.Instances.{one-more, placed-f32}
@@ -122,32 +124,32 @@ larger-f32 =
       ),
     )
 
-module _ (curve : List Float) (long : length curve ≡ MANUAL-MASK-POINTS) (f32 : F32List curve) where
-  abbrev pub call : List MaskVoice → Call
-  call voices =
-      record {
-        left-length = 33;
-        right-length = 33;
-        curve = curve;
-        voices = voices;
-        count = length voices;
-        config = config;
-        table = table;
-      }
+abbrev pub call : List Float → List MaskVoice → Call
+call curve voices =
+    record {
+      left-length = 33;
+      right-length = 33;
+      curve = curve;
+      voices = voices;
+      count = length voices;
+      config = config;
+      table = table;
+    }
 
-  pub chord-accepted : Accepted (whole (call chord))
+module _ (curve : List Float) (long : length curve ≡ MANUAL-MASK-POINTS) (f32 : F32List curve) where
+  pub chord-accepted : Accepted (whole (call curve chord))
   unfolding stereoReply settingsReply voicesReply tableReply sizeAccepted settingsAccepted
       motionAccepted pitchAccepted voiceAccepted firstBadFrom tabFrom within finite le lt eq ofBits
       ofFields odd trailingZeros
   chord-accepted = rw long refl
 
-  larger-accepted : Accepted (whole (call with-one-more))
+  larger-accepted : Accepted (whole (call curve with-one-more))
   unfolding stereoReply settingsReply voicesReply tableReply sizeAccepted settingsAccepted
       motionAccepted pitchAccepted voiceAccepted firstBadFrom tabFrom within finite le lt eq ofBits
       ofFields odd trailingZeros
   larger-accepted = rw long refl
 
-  pub call-f32 : (voices : List MaskVoice) → All F32Voice voices → F32Call (call voices)
+  pub call-f32 : (voices : List MaskVoice) → All F32Voice voices → F32Call (call curve voices)
   call-f32 voices f =
       record {
         curve-f32 = f32;
@@ -157,27 +159,74 @@ module _ (curve : List Float) (long : length curve ≡ MANUAL-MASK-POINTS) (f32 
             λ i h. subst (λ (x : Float). T (fits binary32 x)) (sym (entry-is i h)) (zero-f32 .0);
       }
 
-  module _ (numbers : NoNan curve) where
-    comparable : Comparable (whole (call chord)) (whole (call with-one-more))
-    comparable =
-        record {
-          a-accepted = chord-accepted;
-          b-accepted = larger-accepted;
-          settings = settings-same;
-          table = entries-same;
-          a-curve = numbers;
-          b-curve = numbers;
-        }
+-- ---- the law on two curves
+module _ (a b : List Float) (a-long : length a ≡ MANUAL-MASK-POINTS)
+    (b-long : length b ≡ MANUAL-MASK-POINTS) (fa : F32List a) (fb : F32List b) where
+  comparable : Comparable (whole (call a chord)) (whole (call b with-one-more))
+  comparable =
+      record {
+        a-accepted = chord-accepted a a-long fa;
+        b-accepted = larger-accepted b b-long fb;
+        settings = settings-same;
+        table = entries-same;
+      }
 
-    not-above-itself : NowhereAbove curve curve
-    not-above-itself i h =
-        let x = getD curve i nan in
-        let n = fits-number binary32 x (f32 i (rw long h)) (numbers i h) in
-        le→not-lt-f binary32 x x n n (le-refl-f binary32 x n)
+  pub the-larger-chord-is-above :
+      NowhereAbove a b → MasksNotAbove (whole (call a chord)) (whole (call b with-one-more))
+  the-larger-chord-is-above h =
+      masks-not-above (call a chord) (call b with-one-more) (call-f32 a a-long fa chord chord-f32)
+      (call-f32 b b-long fb with-one-more larger-f32) comparable
+      (record { matched = one-more; curve = h })
 
-    pub the-larger-chord-is-above :
-        MasksNotAbove (whole (call chord)) (whole (call with-one-more))
-    the-larger-chord-is-above =
-        masks-not-above (call chord) (call with-one-more) (call-f32 chord chord-f32)
-        (call-f32 with-one-more larger-f32) comparable
-        (record { matched = one-more; curve = not-above-itself })
+-- ---- a point erased
+abbrev pub erased : List Float → ℕ → List Float
+erased curve place = set curve place nan
+
+-- what holds of NaN and of the curve's own point holds of the point of the erased curve
+at-each :
+    (P : Float → Type 0) (curve : List Float) (place i : ℕ) → P nan → P (getD curve i nan)
+    → P (getD (erased curve place) i nan)
+at-each P [] place i p q = p
+at-each P (x ∷ xs) zero zero p q = p
+at-each P (x ∷ xs) zero (suc i) p q = q
+at-each P (x ∷ xs) (suc place) zero p q = q
+at-each P (x ∷ xs) (suc place) (suc i) p q = at-each P xs place i p q
+
+nan-not-above : (y : Float) → T (not (above nan y))
+unfolding isNan lt
+nan-not-above nan = tt
+nan-not-above (inf s) = tt
+nan-not-above (fin s m e) = tt
+
+nan-f32 : T (fits binary32 nan)
+unfolding fits
+nan-f32 = tt
+
+module _ (curve : List Float) (long : length curve ≡ MANUAL-MASK-POINTS) (f32 : F32List curve)
+    (place : ℕ) where
+  abbrev without : List Float
+  without = erased curve place
+
+  without-long : length without ≡ MANUAL-MASK-POINTS
+  without-long = length-set curve place nan ∙ long
+
+  without-f32 : F32List without
+  without-f32 i h =
+      at-each (λ (x : Float). T (fits binary32 x)) curve place i nan-f32
+      (f32 i (omega (arith, length-set curve place nan)))
+
+  pub erased-in-both : MasksNotAbove (whole (call without chord)) (whole (call without with-one-more))
+  erased-in-both =
+      the-larger-chord-is-above without without without-long without-long without-f32 without-f32
+      (level-curve without without-long without-f32)
+
+  pub erased-in-the-lower :
+      MasksNotAbove (whole (call without chord)) (whole (call curve with-one-more))
+  erased-in-the-lower =
+      the-larger-chord-is-above without curve without-long long without-f32 f32 beneath
+    where
+      beneath : NowhereAbove without curve
+      beneath i h =
+          at-each (λ (x : Float). T (not (above x (getD curve i nan)))) curve place i
+          (nan-not-above (getD curve i nan))
+          (not-above-itself (getD curve i nan) (f32 i (omega (arith, long))))

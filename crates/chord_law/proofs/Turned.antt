@@ -80,6 +80,4 @@ module _ (a b : Call) (fa : F32Call a) (fb : F32Call b) (c : Comparable (whole a
             (settings-accepted b (c .b-accepted))
             (fa .settings-f32) (fb .settings-f32) (c .settings);
         table = entries-turned;
-        a-curve = c .b-curve;
-        b-curve = c .a-curve;
       }

@@ -49,8 +49,6 @@ law-holds a b fa fb x y c u =
           b-accepted = c .b-accepted;
           settings = c .settings;
           table = c .table;
-          a-curve = c .a-curve;
-          b-curve = c .b-curve;
         }
 
     also :

@@ -7,4 +7,5 @@ pub mod Masks
 pub mod Premises
 pub mod Law
 pub mod Bins
+pub mod Erased
 pub mod Centers

@@ -2,16 +2,14 @@
 use Rattle.chord_law.specs.Calls.{WholeCall, Accepted}
 use Rattle.chord_law.specs.Voices.{MatchedIn}
 use Rattle.chord_law.specs.Settings.{SameSettings, SameEntries}
-use Rattle.chord_law.specs.Curves.{NoNan, NowhereAbove}
+use Rattle.chord_law.specs.Curves.{NowhereAbove}
 
--- both are accepted, on the same settings and table, with curves without NaN
+-- both are accepted, on the same settings and table
 pub record Comparable (a b : WholeCall) : Type 0 where
   pub a-accepted : Accepted a
   pub b-accepted : Accepted b
   pub settings : SameSettings (a .config) (b .config)
   pub table : SameEntries (a .table) (b .table)
-  pub a-curve : NoNan (a .curve)
-  pub b-curve : NoNan (b .curve)
 
 -- each voice of A is matched by one of B, and A's curve is nowhere above B's
 pub record Beneath (a b : WholeCall) : Type 0 where

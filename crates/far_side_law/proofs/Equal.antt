@@ -30,14 +30,11 @@ use Rattle.chord_law.specs.Masks.{EqualMasks}
 use Rattle.chord_law.proofs.Acceptance.{size-accepted, settings-accepted}
 use Rattle.chord_law.proofs.Alike.{mask-on, matched-raised}
 use Rattle.chord_law.proofs.SameVoices.{same-matched, same-turned}
+use Rattle.chord_law.proofs.CurvePoints.{point-f32, point-rises}
 use Rattle.chord_law.proofs.Law.{Risen, rise-tab, equal}
 use Rattle.far_side_law.specs.Sides.{near}
-use Rattle.far_side_law.specs.FarSide.{SameNans, EqualScene}
-use Rattle.far_side_law.proofs.CurvePoints.{point-f32, point-rises}
+use Rattle.far_side_law.specs.FarSide.{EqualScene}
 use Rattle.far_side_law.proofs.NearVoices.{all-near-real, mask-near}
-
-turned-nans : (a b : List Float) → SameNans a b → SameNans b a
-turned-nans a b same i h = sym (same i h)
 
 -- ---- two lists, each voice the same as the other's at its place
 turned-voices :
@@ -114,15 +111,14 @@ module _ (side : Side) (a b : Call) (fa : F32Call a) (fb : F32Call b)
       mask-rises B real (b .table) side xs ys us vs (raised us vs (h .voices)) (a .curve) (b .curve)
       bin
       (point-rises (a .curve) (b .curve) bin (B .«fft_size») (point a (h .a-accepted) fa bin)
-      (point b (h .b-accepted) fb bin) (h .nans) (h .curve .0))
+      (point b (h .b-accepted) fb bin) (h .curve .0))
 
   down : (bin : ℕ) → Rise binary32 7 (near-B bin) (near-A bin)
   down bin =
       mask-rises B real (b .table) side ys xs vs us
       (raised vs us (turned-voices us vs (h .voices))) (b .curve) (a .curve) bin
       (point-rises (b .curve) (a .curve) bin (B .«fft_size») (point b (h .b-accepted) fb bin)
-      (point a (h .a-accepted) fa bin) (turned-nans (a .curve) (b .curve) (h .nans))
-      (h .curve .1))
+      (point a (h .a-accepted) fa bin) (h .curve .1))
 
   pub masks-equal : EqualMasks (maskOn side a) (maskOn side b)
   masks-equal =

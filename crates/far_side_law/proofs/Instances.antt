@@ -3,18 +3,15 @@
 -- mask; with others hard left, one right mask; and where a zero has another sign, equal ones. The
 -- two voices and one hard right are lists that can be joined. Assumes nothing.
 use mathlib.Core.Path.{_≡_, refl, sym, ap, _∙_}
-use mathlib.Core.Bool.{not}
 use mathlib.Core.List.{List, [], _∷_}
 use Prim.Native.Nat.{_≤_}
 use lib.Dec.{T, lit≤}
 use lib.Count.{trailingZeros}
-use lib.ListN.{length, getD}
+use lib.ListN.{length}
 use lib.Seq.{take-length}
-use lib.Ieee.{Float, nan, inf, fin, binary32, fits, isNan, le, lt, eq, odd, ofBits, ofFields}
+use lib.Ieee.{Float, binary32, fits, le, lt, eq, odd, ofBits, ofFields}
 use Rattle.lists.specs.Pairs.{All2, none, more}
 use Rattle.lists.specs.Totals.{All}
-use Rattle.float_laws.specs.Units.{number}
-use Rattle.float_laws.specs.Order.{fits-number, le-refl-f, le→not-lt-f}
 use Rattle.float32.specs.Order.{within, finite}
 use Rattle.float32.specs.Remainder as remainder
 use Rattle.float32.specs.Remainder.{half}
@@ -27,9 +24,9 @@ use Rattle.scene.specs.F32.{F32Voice, F32List}
 use Rattle.lobes.specs.Pan.{Side, left, right, HARD-LEFT, HARD-RIGHT}
 use Rattle.chord_law.specs.Calls.{Call, F32Call, Accepted, whole, maskOn}
 use Rattle.chord_law.specs.SameVoices.{SameVoice}
-use Rattle.chord_law.specs.Curves.{NowhereAbove}
 use Rattle.chord_law.specs.Masks.{EqualMasks}
 use Rattle.chord_law.proofs.AcceptedVoices.{accepted-on}
+use Rattle.chord_law.proofs.CurvePoints.{level-curve}
 use Rattle.chord_law.proofs.Instances.{placed, chord, same-placed, placed-f32}
 use Rattle.chord_law.proofs.Scene.{settings-same, entries-same, call, chord-accepted, call-f32}
 use Rattle.far_side_law.specs.Sides.{near}
@@ -145,20 +142,10 @@ zeros-equal =
     (record { note = refl; tuning = tt }) remainder.zero minus-zero tt)
     (more (same-placed (half-right .pitch) (half-right .pitch) tt half half tt) none)
 
--- ---- no point of a curve is above itself, a NaN neither
-number-itself : (x : Float) → T (number binary32 x) → T (not (lt x x))
-number-itself x n = le→not-lt-f binary32 x x n n (le-refl-f binary32 x n)
-
-not-above-itself : (x : Float) → T (fits binary32 x) → T (not (lt x x))
-unfolding lt isNan
-not-above-itself nan f = tt
-not-above-itself (inf s) f = number-itself (inf s) (fits-number binary32 (inf s) f tt)
-not-above-itself (fin s m e) f = number-itself (fin s m e) (fits-number binary32 (fin s m e) f tt)
-
 -- ---- the scenes, on any curve
 module _ (curve : List Float) (long : length curve ≡ MANUAL-MASK-POINTS) (f32 : F32List curve) where
   abbrev scene : List MaskVoice → Call
-  scene = call curve long f32
+  scene = call curve
 
   accepted : (voices : List MaskVoice) → Sound voices → Accepted (whole (scene voices))
   accepted voices s =
@@ -187,9 +174,6 @@ module _ (curve : List Float) (long : length curve ≡ MANUAL-MASK-POINTS) (f32 
             ap (near side) (take-length xs) ∙ e ∙ sym (ap (near side) (take-length ys));
       }
 
-  level : NowhereAbove curve curve
-  level i h = not-above-itself (getD curve i nan) (f32 i (rw long h))
-
   near-with-other-zeros :
       EqualScene left (whole (scene alone)) (whole (scene (with-hard-right other-zeros)))
   unfolding near ofBits ofFields odd trailingZeros le lt eq
@@ -197,8 +181,7 @@ module _ (curve : List Float) (long : length curve ≡ MANUAL-MASK-POINTS) (f32 
       record {
         a-accepted = accepted alone alone-sound;
         b-accepted = accepted (with-hard-right other-zeros) zeros-sound;
-        curve = (level, level);
-        nans = λ i h. refl;
+        curve = (level-curve curve long f32, level-curve curve long f32);
         table = entries-same;
         settings = settings-same;
         voices = zeros-equal;

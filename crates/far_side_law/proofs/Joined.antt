@@ -36,14 +36,15 @@ use Rattle.lobe_joins.proofs.Grouped.{with-zero}
 use Rattle.openness.proofs.RaisedVoices.{openness-upto}
 use Rattle.openness.proofs.JoinedVoices.{openness-joined}
 use Rattle.bin_gains.specs.Gains.{gainAt}
+use Rattle.bin_gains.proofs.Rising.{manual-upto}
 use Rattle.mask_builder.specs.Mask.{opennessAt, maskAt, maskOf}
 use Rattle.mask_builder.proofs.Rising.{fair-grid, gain-rises}
 use Rattle.chord_law.specs.Calls.{Call, F32Call, Accepted, given, whole, maskOn}
 use Rattle.chord_law.specs.Masks.{EqualMasks}
 use Rattle.chord_law.proofs.Acceptance.{size-accepted, settings-accepted, all-real}
 use Rattle.chord_law.proofs.AcceptedVoices.{given-accepted, accepted-on}
+use Rattle.chord_law.proofs.CurvePoints.{point-f32}
 use Rattle.far_side_law.specs.Joined.{opennessOn, Joinable, joined, greaterOf, JoinedLaw}
-use Rattle.far_side_law.proofs.CurvePoints.{point-f32, point-unit}
 
 -- ---- an openness, with the note layer on or off
 module _ (config : MaskConfig) (c : RealSettings config) (table : List Float) (side : Side)
@@ -200,7 +201,7 @@ module _ (a b : Call) (fa : F32Call a) (fb : F32Call b) (h : Joinable a b) where
       (maximum (gain bin (opennessOn side a bin)) (gain bin (open-A side (given b) bin))))
   gain-greater side bin =
       let point =
-      point-unit (a .curve) bin (A .«fft_size»)
+      manual-upto (a .curve) bin (A .«fft_size»)
       (point-f32 a (h .a-accepted) fa bin (A .«fft_size»)) in
       rw (on-both side bin)
       (gain-of-greater (gain bin)

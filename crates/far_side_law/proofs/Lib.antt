@@ -1,7 +1,6 @@
 pub mod FarVoices
 pub mod NearVoices
 pub mod Same
-pub mod CurvePoints
 pub mod Equal
 pub mod Law
 pub mod TwoCalls

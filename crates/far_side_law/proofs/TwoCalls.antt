@@ -32,7 +32,6 @@ module _ (a b : Call) where
         a-accepted = h .a-accepted;
         b-accepted = h .b-accepted;
         curve = h .curve;
-        nans = h .nans;
         table = h .table;
         settings = h .settings;
         voices = h .voices;

@@ -3,12 +3,7 @@
 -- have equal masks on that side. 'One' and 'the same' are read in two ways, and both are shown.
 -- Assumes nothing.
 use mathlib.Core.Path.{_≡_}
-use mathlib.Core.List.{List}
-use Prim.Native.Nat.{ℕ, _<_}
-use lib.ListN.{getD}
-use lib.Ieee.{Float, nan, isNan}
 use Rattle.lists.specs.Pairs.{All2}
-use Rattle.limits.specs.Lengths.{MANUAL-MASK-POINTS}
 use Rattle.lobes.specs.Pan.{Side, left, right}
 use Rattle.chord_law.specs.Calls.{WholeCall, Accepted, Call, F32Call, whole}
 use Rattle.chord_law.specs.Calls.{LentCall, F32LentCall, wholeLent}
@@ -27,18 +22,12 @@ pub record SameScene (side : Side) (a b : WholeCall) : Type 0 where
   pub settings : a .config ≡ b .config
   pub voices : near side (a .voices) ≡ near side (b .voices)
 
--- ---- as f32 compares: -0 and +0 are equal, and entry 0 of the table is not read
-
--- a NaN, which f32 compares with nothing, stands at the same points of both curves
-abbrev pub SameNans : List Float → List Float → Type 0
-SameNans a b =
-    (i : ℕ) → i < MANUAL-MASK-POINTS → isNan (getD a i nan) ≡ isNan (getD b i nan)
-
+-- ---- as f32 compares: -0 and +0 are equal, and entry 0 of the table is not read; of the curves, two
+-- NaN points are equal
 pub record EqualScene (side : Side) (a b : WholeCall) : Type 0 where
   pub a-accepted : Accepted a
   pub b-accepted : Accepted b
   pub curve : EqualCurves (a .curve) (b .curve)
-  pub nans : SameNans (a .curve) (b .curve)
   pub table : SameEntries (a .table) (b .table)
   pub settings : SameSettings (a .config) (b .config)
   pub voices : All2 SameVoice (near side (a .voices)) (near side (b .voices))

@@ -1,15 +1,16 @@
 -- The gain of a curve value: it is in 0..1 whatever the value, NaN too, and never falls as the
--- value rises; and document 01's two proved cases. At -144 and below it is 0, which is the least
--- gain there is, and above that gains of at most 0 dB never fall. Assumes nothing.
+-- value rises, a NaN below every number; and document 01's two proved cases. At -144 and below, and
+-- of NaN, it is 0, which is the least gain there is, and above that gains of at most 0 dB never
+-- fall. Assumes nothing.
 use mathlib.Core.Path.{_≡_, refl}
-use mathlib.Core.Bool.{Bool, true, false, cond}
-use lib.Dec.{T}
+use mathlib.Core.Bool.{Bool, true, false, not, cond}
+use lib.Dec.{T, T-not, not-T}
 use lib.IntN.{pos}
 use lib.Count.{trailingZeros}
 use lib.Ieee.{Float, nan, inf, fin, binary32, le, lt, isNan, ofBits, fits, mul, div, round, size, span, climb, units, odd}
 use Rattle.float_laws.specs.Units.{number}
 use Rattle.float_laws.specs.Order as order
-use Rattle.float_laws.specs.Order.{le-trans-f}
+use Rattle.float_laws.specs.Order.{le-right, lt-of-lt-of-le-f}
 use Rattle.float_laws.specs.Round.{plus-zero}
 use Rattle.float_laws.specs.Bounds.{one}
 use Rattle.float32.specs.Order.{minimum}
@@ -26,16 +27,16 @@ use Rattle.float32.proofs.InUnit.{InUnit, in-unit, zero-in-unit, zero-is}
 
 -- ---- "curve -144 gives 0, +6 gives 1"
 pub curve-mute : curveGain MANUAL-CURVE-MUTE-DB ≡ plus-zero
-unfolding curveGain minimum ofBits le
+unfolding curveGain ofBits le lt
 curve-mute = refl
 
 pub curve-six : curveGain (fin false 3 (pos 1)) ≡ one
 unfolding curveGain minimum ofBits le lt isNan E2 powerOf powerAt moved interp powerTable odd trailingZeros div mul round size span climb units
 curve-six = refl
 
--- NaN counts as 0 dB
-pub curve-nan : curveGain nan ≡ one
-unfolding curveGain minimum ofBits le lt isNan E2 powerOf powerAt moved interp powerTable odd trailingZeros div mul round size span climb units
+-- "a NaN in the drawn curve now mutes its bin, gain 0"
+pub curve-nan : curveGain nan ≡ plus-zero
+unfolding curveGain ofBits le lt
 curve-nan = refl
 
 -- ---- the range
@@ -54,7 +55,7 @@ pub curve-gain-in-unit : (db : Float) → T (fits binary32 db) → InUnit (curve
 unfolding curveGain
 curve-gain-in-unit db h = chosen (muted db) (gainOf (minimum db zero)) (gain-number _) (gain-nonneg _) (gain-at-most-one _ (at-most-zero db h))
 
--- ---- the order, of two numbers
+-- ---- the order
 mute-number : T (number binary32 MANUAL-CURVE-MUTE-DB)
 unfolding ofBits fits
 mute-number = tt
@@ -64,17 +65,42 @@ unfolding fits le
 limited-mono a b p q h =
     rw (minimum-smaller binary32 a zero p, minimum-smaller binary32 b zero q, zero-is) (order.smaller-mono binary32 a b plus-zero plus-zero p q tt tt h tt)
 
-ordered : (s t : Bool) (g k : Float) → (T t → T s) → T (le plus-zero k) → T (le g k) → T (le (cond s zero g) (cond t zero k))
+ordered : (s t : Bool) (g k : Float) → (T t → T s) → T (le plus-zero k) → (T (not s) → T (le g k)) → T (le (cond s zero g) (cond t zero k))
 unfolding ofBits le
 ordered true true g k i l h = tt
 ordered true false g k i l h = l
 ordered false true g k i l h = absurd (i tt)
-ordered false false g k i l h = h
+ordered false false g k i l h = h tt
 
-pub curve-gain-never-falls : (a b : Float) → T (number binary32 a) → T (number binary32 b) → T (le a b) → T (le (curveGain a) (curveGain b))
+-- what is above -144 is a number
+not-muted : (x : Float) → T (fits binary32 x) → T (lt MANUAL-CURVE-MUTE-DB x) → T (not (isNan x)) × T (number binary32 x)
+unfolding ofBits lt isNan
+not-muted nan f m = absurd m
+not-muted (inf s) f m = (tt, tt)
+not-muted (fin s k e) f m = (tt, f)
+
+-- b is at or above a, where a is a number; where a is a NaN, b may be anything
+pub curve-gain-never-falls : (a b : Float) → T (fits binary32 a) → T (fits binary32 b) → (T (not (isNan a)) → T (le a b)) → T (le (curveGain a) (curveGain b))
 unfolding curveGain
 curve-gain-never-falls a b p q h =
     ordered (muted a) (muted b) (gainOf (minimum a zero)) (gainOf (minimum b zero))
-    (λ (m : T (muted b)). le-trans-f binary32 a b MANUAL-CURVE-MUTE-DB p q mute-number h m)
+    (λ (m : T (muted b)). not-T (lt MANUAL-CURVE-MUTE-DB a) (λ (l : T (lt MANUAL-CURVE-MUTE-DB a)). T-not (lt MANUAL-CURVE-MUTE-DB b) m (on l)))
     (gain-nonneg _)
-    (gain-never-falls _ _ (limited-mono a b p q h))
+    (λ (m : T (not (muted a))). rises (twice (lt MANUAL-CURVE-MUTE-DB a) m))
+  where
+    twice : (c : Bool) → T (not (not c)) → T c
+    twice true t = tt
+    twice false t = t
+
+    -- a is a number, and so is b, which is not below it
+    on : T (lt MANUAL-CURVE-MUTE-DB a) → T (lt MANUAL-CURVE-MUTE-DB b)
+    on l =
+        let n = not-muted a p l in
+        let u = h (n .0) in
+        lt-of-lt-of-le-f binary32 MANUAL-CURVE-MUTE-DB a b mute-number (n .1) (le-right binary32 a b q u) l u
+
+    rises : T (lt MANUAL-CURVE-MUTE-DB a) → T (le (gainOf (minimum a zero)) (gainOf (minimum b zero)))
+    rises l =
+        let n = not-muted a p l in
+        let u = h (n .0) in
+        gain-never-falls _ _ (limited-mono a b (n .1) (le-right binary32 a b q u) u)

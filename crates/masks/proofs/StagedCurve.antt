@@ -1,20 +1,34 @@
--- The drawn curve's gains at a row of bins: the points by a product are the points, and the stages
--- one after the other give each bin its gain. Assumes nothing.
-use mathlib.Core.Path.{_≡_, sym, ap, _∙_}
+-- The drawn curve's gains at a row of bins: the points by a product are the points, the decibels
+-- that a row counts as are no NaN, and the stages one after the other give each bin its gain.
+-- Assumes nothing.
+use mathlib.Core.Path.{_≡_, sym, ap, _∙_, subst}
+use mathlib.Core.Bool.{not}
 use mathlib.Core.Logic.{_⊎_, inl, inr}
 use mathlib.Core.List.{List}
-use Prim.Native.Nat.{ℕ, _+_, _*_, _/_, _<_, min}
+use Prim.Native.Nat.{ℕ, _+_, _*_, _/_, _≤_, _<_, min}
 use native.Mathlib.Omega.{arith}
-use lib.ListN.{getD}
-use lib.Ieee.{Float, nan}
-use Rattle.lists.specs.Maps.{mapRange}
+use lib.Dec.{T}
+use lib.ListN.{length, getD}
+use lib.Ieee.{Float, nan, isNan}
+use Rattle.lists.specs.Maps.{mapRange, getD-mapRange, between-in}
 use Rattle.lists.specs.Stages.{stage-same, stages}
 use Rattle.decibels.specs.Gain.{gainOf}
 use Rattle.limits.specs.Lengths.{LAST-POINT}
 use Rattle.masks.specs.Manual.{curvePoint, manualGain}
 use Rattle.masks.specs.Counted.{countedAs}
 use Rattle.masks.proofs.Points.{point-by-step}
-use Rattle.masks.proofs.Counted.{counted-gain}
+use Rattle.masks.proofs.Counted.{counted-gain, counted-no-nan}
+
+pub row-no-nan :
+    (count : ℕ) (xs : List Float) → count ≤ length xs → (k : ℕ) → k < count
+    → T (not (isNan (getD (mapRange (λ k db. countedAs db) 0 count xs) k nan)))
+row-no-nan count xs l k h =
+    subst (λ (x : Float). T (not (isNan x))) (sym entry) (counted-no-nan (getD xs k nan))
+  where
+    entry : getD (mapRange (λ k db. countedAs db) 0 count xs) k nan ≡ countedAs (getD xs k nan)
+    entry =
+        getD-mapRange (λ k db. countedAs db) 0 count xs k nan (omega arith)
+        ∙ between-in (λ k db. countedAs db) 0 count k (getD xs k nan) (omega arith) h
 
 module _ (curve : List Float) (size start count : ℕ) where
   -- the curve value that an entry's bin reads

@@ -23,15 +23,15 @@ pub fn curve_point(bin: usize, size: usize) -> usize
     )
 }
 
-// The gain of a curve value. At or below MANUAL_CURVE_MUTE_DB it is 0; values above 0 dB count as
-// 0.
+// The gain of a curve value: 0 where it is not above MANUAL_CURVE_MUTE_DB, as an erased point, a
+// NaN, never is; values above 0 dB count as 0.
 pub fn curve_gain(db: f32) -> f32
     ensures { λ r. ⌜ r ≡ curveGain db ⌝ }
 {
-    if db <= MANUAL_CURVE_MUTE_DB {
-        return 0.0;
+    if MANUAL_CURVE_MUTE_DB < db {
+        return decibels::single_gain(min(db, 0.0));
     }
-    decibels::single_gain(min(db, 0.0))
+    0.0
 }
 
 pub fn manual_gain(curve: &[f32], bin: usize, size: usize) -> f32

@@ -1,10 +1,12 @@
 // The drawn curve's gains at a row of bins, one short loop per stage: the curve values that the
 // bins read, the decibels that they count as, the gains.
 ghost use mathlib.Core.Path.{_≡_};
+ghost use mathlib.Core.Bool.{not};
 ghost use mathlib.Core.Logic.{_⊎_};
-ghost use Prim.Native.Nat.{_+_, _*_, _/_, _^_, _≤_, min};
+ghost use Prim.Native.Nat.{ℕ, _+_, _*_, _/_, _^_, _≤_, _<_, min};
+ghost use lib.Dec.{T};
 ghost use lib.ListN.{length, getD};
-ghost use lib.Ieee.{nan};
+ghost use lib.Ieee.{nan, isNan};
 ghost use Rattle.lists.specs.Maps.{mapRange};
 ghost use Rattle.power.specs.Table.{powerTable};
 ghost use Rattle.limits.specs.Lengths.{MANUAL-MASK-POINTS, LAST-POINT};
@@ -83,20 +85,24 @@ fn curve_values(row: &mut [f32], curve: &[f32], size: usize, start: usize, count
     values_by_step(row, curve, step, start, count);
 }
 
-// What a curve value counts as, in decibels.
+// What a curve value counts as, in decibels: never a NaN.
 fn counted_as(db: f32) -> f32
     ensures { λ r. ⌜ r ≡ countedAs db ⌝ }
 {
-    if db <= MANUAL_CURVE_MUTE_DB {
-        return SILENT_DB;
+    if MANUAL_CURVE_MUTE_DB < db {
+        return min(db, 0.0);
     }
-    min(db, 0.0)
+    SILENT_DB
 }
 
+// The decibels that the curve values of a row count as. None of them is a NaN, so the shortcut for
+// a level row, which compares them, sees none.
 fn counted_values(row: &mut [f32], count: usize)
     requires { ⌜ count ≤ length (now row) ⌝ }
     ensures { λ _. ⌜ now (row .exit)
         ≡ mapRange (λ k db. countedAs db) 0 count (now (row .entry)) ⌝ }
+    ensures { λ _. ⌜ ((k : ℕ) → k < count →
+        T (not (isNan (getD (now (row .exit)) k nan)))) ⌝ }
 {
     let mut k: usize = 0;
     while k < count {

@@ -1,5 +1,5 @@
--- `counted_values` replaces the first `count` entries: each entry below k is what it counts as.
--- Assumes nothing.
+-- `counted_values` replaces the first `count` entries: each entry below k is what it counts as,
+-- which is never a NaN. Assumes nothing.
 use mathlib.Core.Logic.{inl}
 use Prim.Native.Nat.{_-_, _≤_}
 use native.Mathlib.Omega.{arith}
@@ -7,6 +7,7 @@ use lib.Ieee.{nan}
 use Rattle.lists.specs.Turned.{Turned, turned-none, turned-to}
 use Rattle.lists.specs.Stages.{turned-held}
 use Rattle.masks.specs.Counted.{countedAs}
+use Rattle.masks.proofs.StagedCurve.{row-no-nan}
 use borrow.Author.Needs.{needs}
 use Rattle.masks.proofs.rows.counted_values.Statement.{statement}
 use Rattle.masks.proofs.rows.counted_values.Tie as tie
@@ -48,7 +49,9 @@ same-length : tie.Need-same-length Inv-loop μ-loop
 same-length c = c .before .loop .inv .0 .len
 
 returns : tie.Need-returns Inv-loop μ-loop
-returns c = turned-to _ (c .before .loop .inv .0) (inl (c .before .loop .inv .1)) (omega arith)
+returns c =
+    let is = turned-to _ (c .before .loop .inv .0) (inl (c .before .loop .inv .1)) (omega arith) in
+    (is, λ k h. rw is (row-no-nan _ _ (omega arith) k h))
 
 pub counted-values-spec : {M : Type 1} → statement M
 counted-values-spec =

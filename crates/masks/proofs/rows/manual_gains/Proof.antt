@@ -23,7 +23,7 @@ returns c =
     let d = g .before .before .before .before in
     let v = d .before .before .before .before in
     let a = v .before .before .before .before .args in
-    let e = rw (d .counted-values .ensures, v .curve-values .ensures) at (g .gains .ensures) in
+    let e = rw (d .counted-values .ensures .0, v .curve-values .ensures) at (g .gains .ensures) in
     e ∙ staged (a .curve .now) (a .size) (a .start) (a .count) (a .row .now)
 
 pub manual-gains-spec : {M : Type 1} → statement M
