@@ -2,7 +2,7 @@
 
 use crate::calls;
 use crate::refusals::{MAX_WINDOW, Outcome};
-use crate::spectral_dsp::{MaskConfig, MaskVoice};
+use crate::spectral_dsp::{MANUAL_MASK_POINTS, MIDI_NOTES, MaskConfig, MaskVoice};
 
 #[derive(Clone, Copy, Debug, Eq, PartialEq)]
 pub enum Builder {
@@ -35,6 +35,31 @@ pub fn block_of(fft_size: usize, table: &[f32]) -> Vec<f32> {
 
 /// Left and right. The mono builders write the left alone.
 pub type Masks = [Vec<f32>; 2];
+
+impl Lent {
+    /// The bins that a voice opens in an accepted call, whatever the curve is: on a flat one their
+    /// gain is above that without voices.
+    pub fn opened_bins(&self, builder: Builder) -> Vec<usize> {
+        let flat = Self {
+            curve: vec![0.0; MANUAL_MASK_POINTS],
+            ..self.clone()
+        };
+        let silent = Self {
+            levels: vec![0.0; MIDI_NOTES],
+            voices: Vec::new(),
+            ..flat.clone()
+        };
+        let bins = self.config.fft_size / 2 + 1;
+        let [sounding, silent] = [flat, silent].map(|lent| {
+            let mut masks = [vec![0.0; bins], vec![0.0; bins]];
+            let outcome = builder.build(&lent, &mut masks);
+            outcome.expect("the call is accepted");
+            masks
+        });
+        let is_open = |&bin: &usize| (0..2).any(|side| sounding[side][bin] > silent[side][bin]);
+        (0..bins).filter(is_open).collect()
+    }
+}
 
 impl Builder {
     pub const ALL: [Self; 5] = [

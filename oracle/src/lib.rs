@@ -8,6 +8,7 @@ pub mod bank_calls;
 pub mod bignum;
 pub mod builders;
 pub mod calls;
+pub mod curves;
 pub mod edges;
 pub mod functions;
 pub mod lists;

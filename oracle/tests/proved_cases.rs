@@ -1,7 +1,10 @@
-//! Document 01's proved cases: the only numbers that are typed in.
+//! Document 01's proved cases, and a damaged curve point by change request 108: the only numbers
+//! that are typed in.
 
 use oracle::calls::*;
 use oracle::functions::{exp2, log2};
+use oracle::random::Random;
+use oracle::record_calls::any_nan;
 use oracle::spectral_dsp::MANUAL_MASK_POINTS;
 use oracle::tables::{HALF_ANGLE_COSINES, SINES};
 
@@ -43,6 +46,25 @@ fn curve_points() {
         let mut curve = [0.0; MANUAL_MASK_POINTS];
         curve[point] = -144.0;
         assert_eq!(manual_gain_at_bin(&curve, 1, fft_size), Ok(0.0));
+    }
+}
+
+/// A NaN gives 0, whatever its sign and payload are, quiet or not.
+#[test]
+fn damaged_curve_point() {
+    let ends = [0x7f80_0001, 0x7fbf_ffff, 0x7fc0_0000, 0x7fff_ffff];
+    let random = &mut Random::new(1);
+    let mut nans: Vec<f32> = (0..1_000).map(|_| any_nan(random)).collect();
+    for bits in ends.into_iter().chain(ends.map(|bits| bits | 1 << 31)) {
+        nans.push(f32::from_bits(bits));
+    }
+    let mut curve = [0.0; MANUAL_MASK_POINTS];
+    for nan in nans {
+        assert!(nan.is_nan());
+        curve[2] = nan;
+        let gain = |bin| manual_gain_at_bin(&curve, bin, 8192).map(f32::to_bits);
+        let [zero, one] = [0.0_f32, 1.0].map(|gain| Ok(gain.to_bits()));
+        assert_eq!([0, 1, 2].map(gain), [one, zero, one]);
     }
 }
 

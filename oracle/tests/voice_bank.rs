@@ -4,6 +4,7 @@
 use oracle::bank_calls::{Step, after, bad_voice, good_voice, reaching, steps};
 use oracle::calls::build_stereo_masks_with_voices_precomputed as stereo;
 use oracle::calls::{add_voice, change_voice, read_masks, remove_voice};
+use oracle::curves::{damage, mutes_a_bin};
 use oracle::plain_words::voice_words;
 use oracle::random::Random;
 use oracle::refusals::{Outcome, Refusal};
@@ -224,12 +225,13 @@ fn a_reading_tests_1_to_6() {
     assert!(masks.iter().all(|&x| x != BEFORE));
 }
 
-/// A scene's settings and curve at a small size; the curve has no NaN.
+/// A scene's settings and curve at a small size; half of the curves are damaged.
 fn small(random: &mut Random) -> (Scene, Vec<f32>) {
     let mut scene = Scene::anywhere(random);
     scene.config.fft_size = 64 << random.below(2);
-    let damaged = scene.curve.iter_mut().filter(|x| x.is_nan());
-    damaged.for_each(|x| *x = 0.0);
+    if random.once_in(2) {
+        damage(random, &mut scene.curve);
+    }
     let table = match random.once_in(2) {
         true => scene.table(),
         false => unprepared(random, scene.config.fft_size / 2 + 1),
@@ -332,7 +334,7 @@ fn set(voices: impl Iterator<Item = MaskVoice>) -> BTreeSet<[u32; 8]> {
 #[test]
 fn the_order_of_arrival_is_not_audible() {
     let random = &mut Random::new(3);
-    let (mut reordered, mut repeated, mut audible) = (0, 0, 0);
+    let (mut reordered, mut repeated, mut audible, mut damaged) = (0, 0, 0, 0);
     for _ in 0..400 {
         let (scene, table) = small(random);
         let count = random.pick(&[0, 1, 2, 3, 6, 12, 40]);
@@ -352,7 +354,8 @@ fn the_order_of_arrival_is_not_audible() {
         reordered += usize::from(one.iter().zip(&other).any(|(a, b)| a.1 != b.1));
         repeated += usize::from(one.len() > voices.len());
         audible += usize::from(first != read(&Bank::new(), &scene, &table).1);
+        damaged += usize::from(mutes_a_bin(&scene.curve, scene.config.fft_size));
     }
-    let reached = [reordered, repeated, audible];
+    let reached = [reordered, repeated, audible, damaged];
     assert!(reached.iter().all(|&count| count >= 100), "{reached:?}");
 }

@@ -1,6 +1,7 @@
 //! original/spectral-dsp/src/lib.rs with document 01's functions put for its library calls and its
 //! rule on shortcuts: the plain way always, and each side of the stereo call built from each
-//! voice's own balances. A pitch by hertz is an addition of change request 101.
+//! voice's own balances. A pitch by hertz is an addition of change request 101. By change request
+//! 108 a NaN of the drawn curve mutes its bin.
 
 use super::functions::{
     abs, ceil_to_count, clamp, cos, exp, exp2, floor_to_count, log2, max, min, powi2, powi5,
@@ -531,10 +532,12 @@ pub fn manual_gain_at_bin(mask_db: &[f32; MANUAL_MASK_POINTS], bin: usize, fft_s
         .unwrap_or(0)
         .min(master_bins);
     let db = mask_db[master_index];
-    if db <= MANUAL_CURVE_MUTE_DB {
-        0.0
-    } else {
+    // Change request 108: a NaN, which is above nothing, mutes its bin. The Rust's test,
+    // `if db <= MANUAL_CURVE_MUTE_DB`, lets it through, and `min` makes it 0 dB.
+    if db > MANUAL_CURVE_MUTE_DB {
         db_to_gain(min(db, 0.0))
+    } else {
+        0.0
     }
 }
 
