@@ -28,12 +28,29 @@ pub struct List {
     pub calls: Vec<u8>,
     pub stdout: String,
     pub plot: String,
+    /// The bytes of calls that are kept free for the last records.
+    kept: usize,
 }
 
 /// The replay program has room for this many bytes of calls.
 pub const LARGEST: usize = 65_536;
 
 impl List {
+    /// An empty list that keeps room for its last records.
+    fn before(last: &List) -> Self {
+        Self {
+            kept: last.calls.len(),
+            ..Self::default()
+        }
+    }
+
+    /// Adds the last records, for which room was kept.
+    fn end_with(mut self, last: List) -> Self {
+        self.kept = 0;
+        assert!(self.add(last), "room was kept");
+        self
+    }
+
     fn word(&mut self, word: u32) {
         self.calls.extend(word.to_be_bytes());
     }
@@ -67,7 +84,7 @@ impl List {
 
     /// Adds a record if there is room for it, and says whether there was.
     fn add(&mut self, record: List) -> bool {
-        let room = self.calls.len() + record.calls.len() <= LARGEST;
+        let room = self.calls.len() + record.calls.len() + self.kept <= LARGEST;
         if room {
             self.calls.extend(record.calls);
             self.stdout.push_str(&record.stdout);

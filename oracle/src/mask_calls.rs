@@ -1,11 +1,13 @@
 //! Random calls of the mask builders, each described by a few words. The replay lists hold such
 //! calls, and the comparison with the static library starts from them.
 
-use crate::builders::{Lent, Masks, block_of};
+use crate::builders::{Builder, Lent, Masks, block_of};
 use crate::calls;
+use crate::curves::point_of;
 use crate::edges::{around, around_finite, around_limits};
 use crate::lists::slices::Slice;
 use crate::random::Random;
+use crate::record_calls::any_nan;
 use crate::refusals::*;
 use crate::scenes::{self, RESTING_DEPTH, SILENT_LEVEL};
 use crate::spectral_dsp::{
@@ -123,6 +125,50 @@ pub fn other_table(random: &mut Random, call: &mut Call) {
     call.prepared_at = random.pick(&[0.0, 0.0, 8_000.0, 192_000.0]);
     if random.once_in(2) {
         call.table.put[0] = (0, f32::NAN);
+    }
+}
+
+/// How the curve of a call is damaged, at the points of two bins that a voice opens.
+#[derive(Clone, Copy, Debug)]
+pub enum Damage {
+    /// Both points are NaN.
+    There,
+    /// All points are NaN, but these two are numbers.
+    AllElse,
+    /// All points are NaN.
+    All,
+    /// The points behind these two are NaN, which at small sizes no bin reads.
+    Behind,
+}
+
+impl Damage {
+    /// Each kind, twice.
+    pub const TWICE: [Self; 8] = [
+        Self::There,
+        Self::AllElse,
+        Self::All,
+        Self::Behind,
+        Self::There,
+        Self::AllElse,
+        Self::All,
+        Self::Behind,
+    ];
+
+    /// Damages the curve of a call that a builder accepts and that has a voice.
+    pub fn put_into(self, random: &mut Random, call: &mut Call, builder: Builder) {
+        let open = call.lent().opened_bins(builder);
+        let points = [0, 1].map(|_| point_of(random.pick(&open), call.config.fft_size) as u32);
+        let nan = any_nan(random);
+        match self {
+            Self::There => call.curve.put = points.map(|point| (point, any_nan(random))),
+            Self::Behind => call.curve.put = points.map(|point| (point + 1, any_nan(random))),
+            Self::AllElse => {
+                let number = |point| (point, random.between(-40.0, 0.0));
+                call.curve = Slice::of(MANUAL_MASK_POINTS, nan);
+                call.curve.put = points.map(number);
+            }
+            Self::All => call.curve = Slice::of(MANUAL_MASK_POINTS, nan),
+        }
     }
 }
 

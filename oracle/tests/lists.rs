@@ -1,5 +1,5 @@
-//! The replay lists: they fit, and they show every refusal of every call, and both forms of a
-//! pitch.
+//! The replay lists: they fit, and they show every refusal of every call, both forms of a pitch,
+//! and damaged curves.
 
 use oracle::builders::Builder;
 use oracle::lists::{LARGEST, List, Named, PROGRAMS};
@@ -123,26 +123,109 @@ fn the_calls_on_a_mixer_and_their_refusals_show_twenty_times() {
     shows("mixers", &rows);
 }
 
-/// The forms of the stored voices of each record, in the format that README.md states.
-fn forms(calls: &[u8]) -> Vec<Vec<u32>> {
+/// The records of a list, given how many words the one has that stands at the beginning.
+fn records(calls: &[u8], length: fn(&[u32]) -> usize) -> Vec<Vec<u32>> {
     let words = calls
         .chunks(4)
         .map(|word| word.try_into().expect("4 bytes"));
     let words: Vec<u32> = words.map(u32::from_be_bytes).collect();
-    // Up to the voices: the call, the settings, masks, curve, and levels or a table.
-    let before = [12 + 1 + 8 + 8, 12 + 1 + 8, 12 + 1 + 8 + 9, 12 + 2 + 8 + 9];
     let (mut records, mut rest) = (Vec::new(), &words[..]);
-    while let Some(&call) = rest.first() {
-        let voices = &rest[before[call as usize]..];
-        let (stored, voices) = match call {
-            0 => (0, voices),
-            _ => (voices[1] as usize, &voices[2..]),
-        };
-        let (stored, after) = voices.split_at(8 * stored);
-        records.push(stored.chunks(8).map(|voice| voice[0] / 256).collect());
+    while !rest.is_empty() {
+        let (record, after) = rest.split_at(length(rest));
+        records.push(record.to_vec());
         rest = after;
     }
     records
+}
+
+/// Where the voices of a mask builder stand, or the record's end where it takes none: after the
+/// call, the settings, masks, curve, and levels or a table.
+fn voices_at(record: &[u32]) -> usize {
+    let before = [12 + 1 + 8 + 8, 12 + 1 + 8, 12 + 1 + 8 + 9, 12 + 2 + 8 + 9];
+    before[record[0] as usize]
+}
+
+/// The words of a count of voices, of the number of those that are stored, and of these.
+fn of_voices(words: &[u32]) -> usize {
+    2 + 8 * words[1] as usize
+}
+
+fn mask_record(words: &[u32]) -> usize {
+    let voices = voices_at(words);
+    match words[0] {
+        0 => voices,
+        _ => voices + of_voices(&words[voices..]),
+    }
+}
+
+fn bank_record(words: &[u32]) -> usize {
+    match words[0] {
+        0 => 1,
+        1 | 3 => 10,
+        2 => 2,
+        4 => 12 + 2 + 8 + 9,
+        _ => 3 + of_voices(&words[3..]),
+    }
+}
+
+fn mixer_record(words: &[u32]) -> usize {
+    match words[0] {
+        0 | 2 => 1,
+        1 => 2,
+        3 => 2 + 2 + 8 + 9,
+        4 => 4 + 16,
+        _ => 13 + of_voices(&words[13..]),
+    }
+}
+
+/// The forms of the stored voices of each record of a mask builder.
+fn forms(calls: &[u8]) -> Vec<Vec<u32>> {
+    let of = |record: Vec<u32>| {
+        let stored = record.get(voices_at(&record) + 2..).unwrap_or_default();
+        stored.chunks(8).map(|voice| voice[0] / 256).collect()
+    };
+    let records = records(calls, mask_record).into_iter();
+    records.map(of).collect()
+}
+
+/// Whether a bin of this size reads a NaN of a curve that these 8 words describe.
+fn mutes(size: u32, curve: &[u32]) -> bool {
+    let is_nan = |word: u32| f32::from_bits(word).is_nan();
+    let is_put = |put: &[u32]| put[0].is_multiple_of(16_384 / size) && is_nan(put[1]);
+    is_nan(curve[2]) || curve[4..].chunks(2).any(is_put)
+}
+
+/// Where a record has its size and its curve.
+struct Places {
+    size: usize,
+    curve: usize,
+}
+
+/// How many lines of a call are done and have a muted bin.
+fn muted(list: &List, length: fn(&[u32]) -> usize, call: &str, at: Places) -> usize {
+    let records = records(&list.calls, length);
+    assert_eq!(records.len(), list.stdout.lines().count());
+    let is_done =
+        |line: &str| line.split(' ').next() == Some(call) && line.split(' ').any(|x| x == "done");
+    let lines = list.stdout.lines().zip(&records);
+    lines
+        .filter(|(line, _)| is_done(line))
+        .filter(|(_, record)| mutes(record[at.size], &record[at.curve..at.curve + 8]))
+        .count()
+}
+
+#[test]
+fn damaged_curves_show_six_times() {
+    let masks = list_of("masks");
+    for builder in Builder::LISTED {
+        let curve = 13 + usize::from(builder.is_stereo());
+        let at = Places { size: 2, curve };
+        assert!(muted(&masks, mask_record, builder.name(), at) >= 6);
+    }
+    let at = Places { size: 2, curve: 14 };
+    assert!(muted(&list_of("voice_banks"), bank_record, "read_masks", at) >= 6);
+    let at = Places { size: 1, curve: 4 };
+    assert!(muted(&list_of("mixers"), mixer_record, "serve", at) >= 6);
 }
 
 /// In at least twenty lines of each builder that takes voices one of them is by hertz, and in at

@@ -3,13 +3,14 @@
 use super::slices::hash_text;
 use super::{List, float_text, outcome_text};
 use crate::builders::Builder;
-use crate::mask_calls::{Call, any_scene, chord, fault, other_table};
+use crate::mask_calls::{Call, Damage, any_scene, chord, fault, other_table};
 use crate::plain_words::settings_words;
 use crate::random::Random;
 use crate::scenes;
 use crate::spectral_dsp::MaskConfig;
 
 const SEED: u64 = 34;
+const DAMAGED_SEED: u64 = 108;
 
 /// How often each refusal of each builder is shown.
 const TIMES: usize = 20;
@@ -92,9 +93,25 @@ fn add_sizes(list: &mut List, random: &mut Random) {
     }
 }
 
-/// Whole masks, most of them accepted: sizes, counts, tables of every kind, ends of the limits.
-pub fn list() -> List {
+/// Chords on curves that are damaged at bins which a voice opens, by each builder.
+fn damaged() -> List {
     let mut list = List::default();
+    let random = &mut Random::new(DAMAGED_SEED);
+    for damage in Damage::TWICE {
+        for builder in Builder::LISTED {
+            let mut call = chord(random);
+            damage.put_into(random, &mut call, builder);
+            list.add(record(&call, builder));
+        }
+    }
+    list
+}
+
+/// Whole masks, most of them accepted: sizes, counts, tables of every kind, ends of the limits; at
+/// the end on damaged curves.
+pub fn list() -> List {
+    let damaged = damaged();
+    let mut list = List::before(&damaged);
     let random = &mut Random::new(SEED);
     add_counts(&mut list, random);
     add_sizes(&mut list, random);
@@ -115,7 +132,7 @@ pub fn list() -> List {
             false => random.pick(&Builder::LISTED),
         };
         if !list.add(record(&call, builder)) {
-            return list;
+            return list.end_with(damaged);
         }
     }
 }

@@ -32,8 +32,9 @@
 
 use super::masks::mask_text;
 use super::{List, outcome_text};
+use crate::builders::Builder;
 use crate::calls;
-use crate::mask_calls::{Call, chord, fault, other_table};
+use crate::mask_calls::{Call, Damage, chord, fault, other_table};
 use crate::mixer::{Mixer, STRIPS};
 use crate::mixer_calls::{Answer, Step, no_strip, steps};
 use crate::plain_words::settings_words;
@@ -44,6 +45,7 @@ use crate::scenes;
 use crate::spectral_dsp::{MaskConfig, MaskVoice};
 
 const SEED: u64 = 106;
+const DAMAGED_SEED: u64 = 108;
 
 /// How often each refusal of a strip that is served is shown.
 const TIMES: usize = 20;
@@ -132,6 +134,16 @@ fn named_text(named: Option<usize>) -> String {
 }
 
 impl Replay {
+    fn new(list: List) -> Self {
+        Self {
+            list,
+            mixer: Mixer::default(),
+            count: 0,
+            scenes: std::array::from_fn(|_| StoredScene::blank()),
+            fits: true,
+        }
+    }
+
     /// Nothing is added after a record that had no room: it would meet another mixer.
     fn add(&mut self, record: List) {
         self.fits = self.fits && self.list.add(record);
@@ -421,16 +433,30 @@ fn mixed(replay: &mut Replay, random: &mut Random) {
     }
 }
 
-/// Lists of calls of every kind, until the list is full.
+/// Strips with a chord each, served on curves that are damaged at bins which a voice opens.
+fn damaged() -> List {
+    let random = &mut Random::new(DAMAGED_SEED);
+    let mut replay = Replay::new(List::default());
+    replay.new_mixer();
+    let calls = Damage::TWICE.map(|damage| {
+        let mut call = chord(random);
+        damage.put_into(random, &mut call, Builder::StereoPrecomputed);
+        call
+    });
+    for (strip, call) in calls.iter().enumerate() {
+        replay.scene(strip, &Described::of(call));
+        replay.request(strip);
+    }
+    calls.iter().for_each(|call| replay.serve(call));
+    replay.list
+}
+
+/// Lists of calls of every kind, until the list is full; at the end turns that serve on damaged
+/// curves.
 pub fn list() -> List {
+    let damaged = damaged();
     let random = &mut Random::new(SEED);
-    let mut replay = Replay {
-        list: List::default(),
-        mixer: Mixer::default(),
-        count: 0,
-        scenes: std::array::from_fn(|_| StoredScene::blank()),
-        fits: true,
-    };
+    let mut replay = Replay::new(List::before(&damaged));
     (0..STRIPS).for_each(|strip| give_scene(&mut replay, random, strip));
     full(&mut replay, random);
     the_longest_wait(&mut replay, random);
@@ -441,5 +467,5 @@ pub fn list() -> List {
     while replay.fits {
         mixed(&mut replay, random);
     }
-    replay.list
+    replay.list.end_with(damaged)
 }

@@ -32,8 +32,9 @@ use super::masks::mask_text;
 use super::slices::byte_hash;
 use super::{List, outcome_text};
 use crate::bank_calls::{Step, bad_voice, few_ids, filling, good_voice, ids, step};
+use crate::builders::Builder;
 use crate::calls;
-use crate::mask_calls::{Call, chord, fault, other_table};
+use crate::mask_calls::{Call, Damage, chord, fault, other_table};
 use crate::numbers::bits_of;
 use crate::plain_words::{settings_words, voice_words};
 use crate::random::Random;
@@ -43,6 +44,7 @@ use crate::spectral_dsp::{MaskConfig, MaskVoice};
 use crate::voice_bank::Bank;
 
 const SEED: u64 = 105;
+const DAMAGED_SEED: u64 = 108;
 
 /// How often each refusal of a reading is shown.
 const TIMES: usize = 20;
@@ -90,6 +92,15 @@ impl Given<'_> {
 }
 
 impl Replay {
+    fn new(list: List) -> Self {
+        Self {
+            list,
+            bank: Bank::new(),
+            count: 0,
+            fits: true,
+        }
+    }
+
     /// Nothing is added after a record that had no room: it would meet another bank.
     fn add(&mut self, record: List) {
         self.fits = self.fits && self.list.add(record);
@@ -314,15 +325,28 @@ fn refused(replay: &mut Replay, random: &mut Random) {
     replay.read_refused(random, 6);
 }
 
-/// Lists of calls of every kind, until the list is full.
+/// A chord, read on curves that are damaged at bins which a voice opens.
+fn damaged() -> List {
+    let random = &mut Random::new(DAMAGED_SEED);
+    let mut replay = Replay::new(List::default());
+    replay.new_bank();
+    for (id, voice) in (0..).zip(chord(random).voices) {
+        replay.step(Step::Add(id, voice));
+    }
+    for damage in Damage::TWICE {
+        let mut call = chord(random);
+        damage.put_into(random, &mut call, Builder::StereoPrecomputed);
+        let record = replay.reading(&call);
+        replay.add(record);
+    }
+    replay.list
+}
+
+/// Lists of calls of every kind, until the list is full; at the end readings on damaged curves.
 pub fn list() -> List {
+    let damaged = damaged();
     let random = &mut Random::new(SEED);
-    let mut replay = Replay {
-        list: List::default(),
-        bank: Bank::new(),
-        count: 0,
-        fits: true,
-    };
+    let mut replay = Replay::new(List::before(&damaged));
     emptied(&mut replay, random);
     (0..2).for_each(|_| full(&mut replay, random));
     all_forged(&mut replay, random);
@@ -330,5 +354,5 @@ pub fn list() -> List {
     while replay.fits {
         few(&mut replay, random);
     }
-    replay.list
+    replay.list.end_with(damaged)
 }
