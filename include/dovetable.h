@@ -205,8 +205,8 @@ uint32_t dovetable_note_emphasis_gain(float width_cents, float *gain, size_t *pl
 uint32_t dovetable_note_gate_gain(float note_depth_db, float width_cents, float openness,
                                   float *gain, size_t *place);
 
-/* The drawn curve's gain at a bin. Tests: 1, size; 2, bin at most 8,192; 4, a curve of 8,193
- * points. */
+/* The drawn curve's gain at a bin. A point of -144 dB or less, or NaN, mutes its bin: gain 0. One
+ * above 0 dB counts as 0. Tests: 1, size; 2, bin at most 8,192; 4, a curve of 8,193 points. */
 uint32_t dovetable_manual_gain_at_bin(const float *mask_db, size_t points, size_t bin,
                                       size_t fft_size, float *gain, size_t *place);
 
@@ -240,6 +240,9 @@ uint32_t dovetable_prepare(float *table, size_t entries, float sample_rate, size
                            size_t *place);
 
 /* ---- Masks: a gain for each of size/2 + 1 bins ----
+ *
+ * The points of a drawn curve are decibels, and any float is accepted. A point of -144 or less, or
+ * NaN, mutes its bin: gain 0, whatever the voices are. One above 0 counts as 0.
  *
  * Tests, of what the call is given: 1, size, rate; 2, every other setting; 3, at most 128 voices;
  * 4, masks and table of size/2 + 1 entries, curve of 8,193, levels of 128; 5, the voices; 6, the
@@ -334,7 +337,7 @@ struct DovetableSceneRead dovetable_read_scene(const uint8_t *record, size_t byt
  * by value and is handed back, as it came where the call is refused: 'bank = banked.bank' is right
  * after every call. Voices stand in the order in which they were added. The order is not audible:
  * two banks of the same voices, under whatever ids and however often, give equal masks with the
- * same settings and table and the same curve without NaN.
+ * same settings, table and curve.
  *
  * Whatever a bank holds, no call reads or writes outside it. Where its count is above 128, adding
  * is refused under 3, and so is reading unless 1 or 2 comes first; taking out and changing look at

@@ -8,8 +8,8 @@ use crate::sys;
 
 /// Up to 128 voices, each under an id of its own, which may be any `u16`. The voices stand in the
 /// order in which they were added, and the order is not audible: two banks of the same voices give
-/// equal masks with the same settings and table and the same curve without NaN. A bank is one block
-/// of fixed size, and no call allocates.
+/// equal masks with the same settings, table and curve. A bank is one block of fixed size, and no
+/// call allocates.
 ///
 /// ```
 /// use dovetable::*;

@@ -34,8 +34,8 @@ pub fn note_gate_gain(note_depth_db: f32, width_cents: f32, openness: f32) -> Re
     })
 }
 
-/// The drawn curve's gain at a bin. Tests: 1, size; 2, bin at most 8,192; 4, a curve of 8,193
-/// points.
+/// The drawn curve's gain at a bin. A point of -144 dB or less, or NaN, mutes its bin: gain 0. One
+/// above 0 dB counts as 0. Tests: 1, size; 2, bin at most 8,192; 4, a curve of 8,193 points.
 pub fn manual_gain_at_bin(mask_db: &[f32], bin: usize, fft_size: usize) -> Result<f32, Refused> {
     let (curve, points) = (mask_db.as_ptr(), mask_db.len());
     value(|gain, place| unsafe {

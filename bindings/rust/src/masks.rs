@@ -1,7 +1,10 @@
-//! The mask builders. Each tests, of what it is given: 1, size, rate; 2, every other setting; 3,
-//! at most 128 voices; 4, masks and table of size/2 + 1 entries, curve of 8,193, levels of 128; 5,
-//! the voices; 6, the table's entries; 7, levels in 0..1. In each unsafe block a pointer and a
-//! length are those of one slice.
+//! The mask builders. The points of a drawn curve are decibels, and any float is accepted. One of
+//! -144 or less, or NaN, mutes its bin: gain 0, whatever the voices are. One above 0 counts as 0.
+//!
+//! Each tests, of what it is given: 1, size, rate; 2, every other setting; 3, at most 128 voices;
+//! 4, masks and table of size/2 + 1 entries, curve of 8,193, levels of 128; 5, the voices; 6, the
+//! table's entries; 7, levels in 0..1. In each unsafe block a pointer and a length are those of one
+//! slice.
 
 use crate::processing::PreparedSpectrum;
 use crate::refused::{Refused, outcome};

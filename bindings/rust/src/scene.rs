@@ -2,7 +2,8 @@
 
 use crate::sys;
 
-/// The points of a drawn curve.
+/// The points of a drawn curve, any floats, in decibels. One of -144 or less, or NaN, mutes its
+/// bin; one above 0 counts as 0.
 pub const MANUAL_MASK_POINTS: usize = 8193;
 /// The levels of a bank.
 pub const MIDI_NOTES: usize = 128;
