@@ -347,10 +347,25 @@ fn signs_of_zero() {
     );
 }
 
+/// The smallest input with a damaged point.
+fn damaged_point() {
+    println!("\n## A NaN of the drawn curve");
+    let mut curve = [0.0; MANUAL_MASK_POINTS];
+    curve[0] = f32::NAN;
+    let rust = original::manual_gain_at_bin(&curve, 0, 64);
+    let agreed = oracle::calls::manual_gain_at_bin(&curve, 0, 64).expect("it is accepted");
+    println!(
+        "manual_gain_at_bin, point 0 of the curve NaN, bin 0 of size 64: {}, agreed {}",
+        both(rust),
+        both(agreed)
+    );
+}
+
 pub fn print(seed: u64, count: u64) {
     tally(seed, count);
     smallest_scenes();
     partial_at_nyquist();
     edge_of_a_lobe();
+    damaged_point();
     signs_of_zero();
 }

@@ -2,6 +2,7 @@
 
 use crate::measure::Distance;
 use crate::variants;
+use oracle::curves::point_of;
 use oracle::given;
 use oracle::random::Random;
 use oracle::scenes::Scene;
@@ -49,7 +50,7 @@ pub fn agreed(scene: &Scene) -> Masks {
     stereo!(scene, oracle::spectral_dsp)
 }
 
-/// The unaltered Rust, but the plain way always.
+/// The unaltered Rust, but the plain way always, and a NaN of the curve muted.
 pub fn plain(scene: &Scene) -> Masks {
     stereo!(scene, variants::plain::spectral_dsp)
 }
@@ -116,23 +117,44 @@ fn print_pair(name: &str, distance: &Distance) {
     );
 }
 
+/// A bin's part of a distance: the NaNs of a curve, which are muted here and are 0 dB in the Rust,
+/// are kept apart from all other causes.
+#[derive(Clone, Default)]
+struct Apart {
+    numbers: Distance,
+    nans: Distance,
+}
+
+impl Apart {
+    /// Counts the bins of one mask or of both, one behind the other.
+    fn count(&mut self, number: u64, scene: &Scene, one: &[f32], other: &[f32]) {
+        let (size, bins) = (scene.config.fft_size, scene.config.fft_size / 2 + 1);
+        for (entry, (&a, &b)) in one.iter().zip(other).enumerate() {
+            let (side, bin) = (entry / bins, entry % bins);
+            let part = match scene.curve[point_of(bin, size)].is_nan() {
+                true => &mut self.nans,
+                false => &mut self.numbers,
+            };
+            part.count(a, b, &|| describe(number, side, bin, scene));
+        }
+    }
+}
+
 fn compare(name: &str, draw: fn(&mut Random) -> Scene, seed: u64, count: u64) {
     println!("\n## Whole stereo masks, {count} scenes, {name}");
-    let mut distances = vec![Distance::default(); PAIRS.len()];
+    let mut distances = vec![Apart::default(); PAIRS.len()];
     let mut random = Random::new(seed);
     for number in 0..count {
         let scene = draw(&mut random);
         for (distance, (_, first, second)) in distances.iter_mut().zip(PAIRS) {
-            let (one, other) = (first(&scene), second(&scene));
-            for side in [0, 1] {
-                for (bin, (&a, &b)) in one[side].iter().zip(&other[side]).enumerate() {
-                    distance.count(a, b, &|| describe(number, side, bin, &scene));
-                }
-            }
+            let (one, other) = (first(&scene).concat(), second(&scene).concat());
+            distance.count(number, &scene, &one, &other);
         }
     }
+    print_pair("a NaN of the curve: unaltered, agreed", &distances[0].nans);
+    println!("bins whose curve point is a number:");
     for (distance, (name, ..)) in distances.iter().zip(PAIRS) {
-        print_pair(name, distance);
+        print_pair(name, &distance.numbers);
     }
 }
 
@@ -156,10 +178,11 @@ fn copied(seed: u64, count: u64) {
 }
 
 /// With two partials at most the compact way is never cheaper, and without a table never taken:
-/// there the ported text on std's functions writes what the unaltered Rust writes.
+/// there the ported text on std's functions writes what the unaltered Rust writes, but where the
+/// curve has a NaN.
 fn same_text(seed: u64, count: u64) {
     let mut random = Random::new(seed);
-    let mut distances = vec![Distance::default(); 3];
+    let mut distances = vec![Apart::default(); 3];
     for number in 0..count {
         let mut scene = Scene::anywhere_by_note(&mut random);
         scene.voices.truncate(8);
@@ -179,19 +202,18 @@ fn same_text(seed: u64, count: u64) {
             ],
         ];
         for (distance, [one, other]) in distances.iter_mut().zip(&pairs) {
-            for (bin, (&a, &b)) in one.iter().zip(other).enumerate() {
-                distance.count(a, b, &|| describe(number, 0, bin, &scene));
-            }
+            distance.count(number, &scene, one, other);
         }
     }
     println!("\n## The ported text on std's functions, {count} scenes without the compact way");
+    println!("bins whose curve point is a number:");
     let names = [
         "no table",
         "two partials at most",
         "a table of another rate",
     ];
     for (name, distance) in names.iter().zip(&distances) {
-        print_pair(name, distance);
+        print_pair(name, &distance.numbers);
     }
 }
 

@@ -1,4 +1,4 @@
-//! On std's functions: the Rust as it is, but the plain way always.
+//! On std's functions: the Rust as it is, but the plain way always, and a NaN of the curve muted.
 
 pub mod functions {
     pub use super::super::std_functions::*;
