@@ -2,9 +2,11 @@
 //! mostly short and sometimes the longest, so that many calls take little time.
 
 use linked::calls::Motion;
+use oracle::curves;
 use oracle::random::Random;
 use oracle::refusals::*;
 use oracle::scenes;
+use oracle::spectral_dsp::MANUAL_MASK_POINTS;
 
 /// Between limits, now and then at their ends, one step past them, or any number at all.
 pub fn setting(random: &mut Random, (low, high): (f32, f32)) -> f32 {
@@ -31,6 +33,13 @@ pub fn note(random: &mut Random) -> u8 {
         random.word() as u8
     } else {
         random.below(128) as u8
+    }
+}
+
+/// Damages a quarter of the curves that are accepted.
+pub fn damage(random: &mut Random, curve: &mut [f32]) {
+    if curve.len() == MANUAL_MASK_POINTS && random.once_in(4) {
+        curves::damage(random, curve);
     }
 }
 

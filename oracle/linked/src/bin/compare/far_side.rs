@@ -2,15 +2,15 @@
 //! Each scene is two accepted calls, and a side on which they have the same near voices, in one
 //! order, and far voices of their own among them.
 
+use crate::equal_numbers::{equal_numbers, zeros};
 use crate::run::Run;
-use crate::stereo_calls::{accepted, masks, some_of};
+use crate::stereo_calls::{accepted, masks, same_bits, some_of};
 use crate::tally::count_met;
 use oracle::bank_calls::good_voice;
 use oracle::builders::{Lent, Masks};
 use oracle::random::Random;
-use oracle::record_calls::any_nan;
 use oracle::refusals::MAX_VOICES;
-use oracle::spectral_dsp::{MaskConfig, MaskVoice, Pitch};
+use oracle::spectral_dsp::MaskVoice;
 
 const SILENT: [&str; 6] = [
     "lists of other lengths",
@@ -126,10 +126,6 @@ impl Pair {
     }
 }
 
-fn same_bits(a: f32, b: f32) -> bool {
-    a.to_bits() == b.to_bits()
-}
-
 /// Leaves a call the voices that are near on a side, and answers the side.
 fn near_alone(random: &mut Random, call: &mut Lent) -> Side {
     let side = random.pick(&[Side::Left, Side::Right]);
@@ -156,79 +152,6 @@ fn silent(random: &mut Random, met: &mut [u64; SILENT.len()]) -> Result<(), Stri
     ];
     count_met(met, of_pair);
     pair.compare(same_bits)
-}
-
-/// What of the settings may be 0.
-fn of_settings(config: &mut MaskConfig) -> [&mut f32; 5] {
-    [
-        &mut config.note_depth_db,
-        &mut config.harmonic_rolloff_db_per_octave,
-        &mut config.motion.depth_db,
-        &mut config.motion.phase,
-        &mut config.motion.size_octaves,
-    ]
-}
-
-/// What of a voice may be 0.
-fn of_voice(voice: &mut MaskVoice) -> Vec<&mut f32> {
-    let mut numbers = vec![
-        &mut voice.level,
-        &mut voice.pressure,
-        &mut voice.timbre,
-        &mut voice.volume_gain,
-        &mut voice.expression_gain,
-        &mut voice.pan,
-    ];
-    if let Pitch::Note(_, semitones) = &mut voice.pitch {
-        numbers.push(semitones);
-    }
-    numbers
-}
-
-/// Puts a zero for one number of `rare`.
-fn put_zeros<'a>(random: &mut Random, rare: usize, numbers: impl IntoIterator<Item = &'a mut f32>) {
-    for number in numbers {
-        if random.once_in(rare) {
-            *number = random.pick(&[0.0, -0.0]);
-        }
-    }
-}
-
-/// Puts zeros into all that may hold them.
-fn zeros(random: &mut Random, call: &mut Lent) {
-    let rare = [2, 16, 256, usize::MAX];
-    let (points, entries) = (random.pick(&rare), random.pick(&rare));
-    put_zeros(random, 4, of_settings(&mut call.config));
-    put_zeros(random, 8, call.voices.iter_mut().flat_map(of_voice));
-    put_zeros(random, points, &mut call.curve);
-    put_zeros(random, entries, &mut call.table);
-}
-
-/// Turns the sign of half of the zeros, and answers whether of any.
-fn turn_zeros<'a>(random: &mut Random, numbers: impl IntoIterator<Item = &'a mut f32>) -> bool {
-    let mut turned = false;
-    for number in numbers {
-        if *number == 0.0 && random.once_in(2) {
-            *number = -*number;
-            turned = true;
-        }
-    }
-    turned
-}
-
-/// Puts equal numbers for those of a call, and answers whether zeros are turned in a voice, in the
-/// settings, in the curve and in the table. No call reads entry 0 of the table.
-fn equal_numbers(random: &mut Random, call: &mut Lent) -> [bool; 4] {
-    for point in call.curve.iter_mut().filter(|point| point.is_nan()) {
-        *point = any_nan(random);
-    }
-    call.table[0] = random.float();
-    [
-        turn_zeros(random, call.voices.iter_mut().flat_map(of_voice)),
-        turn_zeros(random, of_settings(&mut call.config)),
-        turn_zeros(random, &mut call.curve),
-        turn_zeros(random, &mut call.table[1..]),
-    ]
 }
 
 /// What the two calls share is equal as f32 compares, NaN standing against NaN in the curve: so are

@@ -11,8 +11,10 @@
 //! scene, a place of a bank or of a line, a counter, and of each entry of a slice that the call may
 //! write. So is a scene on which a law does not hold. Exits 1 where there is one.
 
+mod chord_law;
 mod draw;
 mod envelopes;
+mod equal_numbers;
 mod far_side;
 mod joined_lists;
 mod masks;
@@ -62,6 +64,7 @@ fn main() -> ExitCode {
     masks::compare(&mut run);
     far_side::compare(&mut run);
     joined_lists::compare(&mut run);
+    chord_law::compare(&mut run);
     if run.kinds == 0 {
         eprintln!("no function and no law has that name");
         return ExitCode::from(2);

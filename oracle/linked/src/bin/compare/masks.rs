@@ -1,12 +1,13 @@
 //! The mask builders on whole scenes: answers, places, and every bin of every mask.
 
-use crate::draw::NO_SHAPES;
+use crate::draw::{NO_SHAPES, damage};
 use crate::open_calls::note_slice;
 use crate::run::Run;
-use crate::tally::Tally;
+use crate::tally::{Tally, print_met};
 use linked::VoiceRecord;
 use linked::calls::{self as port, Crossing};
 use oracle::builders::{Builder, Lent, Masks, block_of};
+use oracle::curves::mutes_a_bin;
 use oracle::edges::around;
 use oracle::mask_calls::{Call, fault, other_table};
 use oracle::plain_pitch::{HERTZ, NOTE};
@@ -147,6 +148,7 @@ impl Drawn {
         if lent.curve.len() == MANUAL_MASK_POINTS {
             lent.curve = curve;
         }
+        damage(random, &mut lent.curve);
         if lent.config.fft_size > 256 || !random.once_in(4) {
             thin_out(random, &mut lent.levels);
         }
@@ -177,6 +179,11 @@ impl Drawn {
         builder.build(&self.lent, masks)
     }
 
+    /// Whether a bin of an accepted call reads a NaN.
+    fn mutes_a_bin(&self) -> bool {
+        mutes_a_bin(&self.lent.curve, self.lent.config.fft_size)
+    }
+
     /// Compares a call, and answers what the oracle answers.
     fn compare(&self, number: u64, builder: Builder, tally: &mut Tally) -> Outcome {
         let (mut ours, mut theirs) = (self.before.clone(), self.before.clone());
@@ -201,6 +208,7 @@ pub fn compare(run: &mut Run) {
     let mut random = Random::new(run.seed);
     let mut tallies: Vec<Tally> = builders.iter().map(|one| Tally::new(one.name())).collect();
     let mut forms = Forms::default();
+    let mut muted = [0; Builder::ALL.len()];
     for number in 0..run.scenes {
         let drawn = Drawn::new(&mut random);
         for (&builder, tally) in builders.iter().zip(&mut tallies) {
@@ -208,8 +216,11 @@ pub fn compare(run: &mut Run) {
             if builder.takes_voices() {
                 forms.count(&drawn.crossing.voices, answer);
             }
+            muted[builder as usize] += u64::from(answer.is_ok() && drawn.mutes_a_bin());
         }
     }
     tallies.into_iter().for_each(|tally| run.close(tally));
     forms.print();
+    let names = Builder::ALL.map(Builder::name);
+    print_met("calls done with a NaN at a bin's point, of", names, muted);
 }

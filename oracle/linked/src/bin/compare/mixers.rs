@@ -9,6 +9,7 @@ use crate::tally::{Tally, count_met, print_met};
 use linked::calls::{self as port, has_line};
 use linked::{Mixer, dovetable_new_mixer, dovetable_request, dovetable_turn};
 use oracle::builders::{Lent, Masks};
+use oracle::curves::mutes_a_bin;
 use oracle::mixer::{self, STRIPS};
 use oracle::mixer_calls::{Answer, Step, no_strip, steps};
 use oracle::numbers::first_difference;
@@ -35,7 +36,12 @@ const TURNS: [&str; 5] = [
     "a number that is no strip",
     "the highest counter",
 ];
-const SERVED: [&str; 3] = ["nobody", "a refused scene", "a scene of another size"];
+const SERVED: [&str; 4] = [
+    "nobody",
+    "a refused scene",
+    "a scene of another size",
+    "a NaN at a bin's point, done",
+];
 
 /// How many calls have met what.
 #[derive(Default)]
@@ -73,10 +79,15 @@ impl Reached {
         count_met(&mut self.turns, met);
     }
 
-    /// A turn that serves: whether it named a strip, and whether that strip's scene has another
-    /// size than the builder.
-    fn served(&mut self, named: bool, outcome: Outcome, other_size: bool) {
-        count_met(&mut self.served, [!named, outcome.is_err(), other_size]);
+    /// A turn that serves: whether it named a strip, whether that strip's scene has another size
+    /// than the builder, and what the builder was lent.
+    fn served(&mut self, named: bool, outcome: Outcome, other_size: bool, lent: &Lent) {
+        let built = named && outcome.is_ok();
+        let muted = built && mutes_a_bin(&lent.curve, lent.config.fft_size);
+        count_met(
+            &mut self.served,
+            [!named, outcome.is_err(), other_size, muted],
+        );
     }
 
     fn print(&self) {
@@ -278,7 +289,8 @@ impl Tallies {
         let right = mixers.keep(given.mixer, served.mixer);
         let scene = named.and_then(|strip| strips.expected.get(strip));
         let other_size = scene.is_some_and(|one| one.config.fft_size != lent.config.fft_size);
-        self.reached.served(named.is_some(), outcome, other_size);
+        self.reached
+            .served(named.is_some(), outcome, other_size, lent);
         let number = answer_of(outcome).0 as usize;
         self.serve
             .note(number, same && right && entry.is_none(), || {

@@ -5,6 +5,7 @@ use crate::tally::Tally;
 use crate::{draw, envelopes};
 use linked::calls::{self as port, BEFORE, Given, Motion};
 use oracle::calls;
+use oracle::curves::point_of;
 use oracle::numbers::{bits_of, first_difference};
 use oracle::random::Random;
 use oracle::refusals::*;
@@ -87,9 +88,6 @@ fn tuning(run: &mut Run) {
 }
 
 fn gates(run: &mut Run) {
-    let mut random = Random::new(run.seed);
-    let curves: Vec<Vec<f32>> = (0..64).map(|_| scenes::curve(&mut random)).collect();
-    let longest = vec![0.0; MANUAL_MASK_POINTS + 1];
     run.calls_of("note_emphasis_gain", |random, tally| {
         let width = draw::setting(random, WIDTH);
         let answer = calls::note_emphasis_gain(width);
@@ -108,7 +106,21 @@ fn gates(run: &mut Run) {
         let answer = calls::note_gate_gain(depth, width, openness);
         note_value(tally, (depth, width, openness), given, answer);
     });
-    run.calls_of("manual_gain_at_bin", |random, tally| {
+}
+
+/// Curves from all over, some of them damaged.
+fn curves(random: &mut Random) -> Vec<Vec<f32>> {
+    let mut curves: Vec<Vec<f32>> = (0..64).map(|_| scenes::curve(random)).collect();
+    curves.iter_mut().for_each(|one| draw::damage(random, one));
+    curves
+}
+
+fn drawn_curve(run: &mut Run) {
+    let name = "manual_gain_at_bin";
+    let curves = curves(&mut Random::new(run.seed));
+    let longest = vec![0.0; MANUAL_MASK_POINTS + 1];
+    let mut damaged = 0;
+    run.calls_of(name, |random, tally| {
         let size = draw::size(random);
         let bin = match random.below(16) {
             0 => random.pick(&[8192, 8193, 8194, usize::MAX]),
@@ -123,8 +135,13 @@ fn gates(run: &mut Run) {
         };
         let given = port::manual_gain_at_bin(curve, bin, size);
         let answer = calls::manual_gain_at_bin(curve, bin, size);
+        let is_damaged = answer.is_ok() && curve[point_of(bin, size)].is_nan();
+        damaged += u64::from(is_damaged);
         note_value(tally, (curve.len(), bin, size), given, answer);
     });
+    if run.takes(name) {
+        println!("{name}, calls done with  a NaN at the bin's point: {damaged}");
+    }
 }
 
 /// The settings with the shape of this number; refusal 2 where there is none.
@@ -251,6 +268,7 @@ fn windows(run: &mut Run) {
 pub fn compare(run: &mut Run) {
     tuning(run);
     gates(run);
+    drawn_curve(run);
     motions(run);
     envelopes::compare(run);
     tables(run);

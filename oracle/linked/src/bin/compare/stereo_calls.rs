@@ -1,22 +1,12 @@
 //! Accepted stereo calls from all over the limits, on which the laws are tried, and their masks by
 //! the library.
 
+use crate::draw;
 use crate::masks::{odd_notes, scene, strew};
 use linked::calls::{self as port, Crossing};
 use oracle::bank_calls::good_voice;
 use oracle::builders::{Builder, Lent, Masks};
 use oracle::random::Random;
-use oracle::record_calls::any_nan;
-
-/// Damages runs of a curve's points.
-fn damage(random: &mut Random, curve: &mut [f32]) {
-    for _ in 0..random.pick(&[1, 1, 2, 8]) {
-        let first = random.below(curve.len());
-        let length = random.pick(&[1, 1, 16, 256, curve.len()]);
-        let run = curve[first..].iter_mut().take(length);
-        run.for_each(|point| *point = any_nan(random));
-    }
-}
 
 /// What an accepted call is lent.
 pub fn accepted(random: &mut Random) -> Lent {
@@ -32,9 +22,7 @@ pub fn accepted(random: &mut Random) -> Lent {
     if random.once_in(4) {
         strew(random, &mut lent.table);
     }
-    if random.once_in(4) {
-        damage(random, &mut lent.curve);
-    }
+    draw::damage(random, &mut lent.curve);
     lent
 }
 
@@ -57,4 +45,8 @@ pub fn masks(random: &mut Random, lent: &Lent) -> Result<Masks, String> {
         0 => Ok(masks),
         _ => Err(format!("{crossing:?}: {given:?}")),
     }
+}
+
+pub fn same_bits(a: f32, b: f32) -> bool {
+    a.to_bits() == b.to_bits()
 }

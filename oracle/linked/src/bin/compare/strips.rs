@@ -1,6 +1,6 @@
 //! What the strips of a mixer are served with: their scenes, and the slices of the one builder.
 
-use crate::draw::NO_SHAPES;
+use crate::draw::{NO_SHAPES, damage};
 use crate::masks::odd_forms;
 use linked::calls::{passed, voice_of};
 use linked::{Scene, StripScenes};
@@ -113,5 +113,7 @@ pub fn any_lent(random: &mut Random, fft_size: usize) -> (Lent, Masks) {
     }
     let before = call.masks();
     let before = before.map(|mask| mask.iter().map(|_| random.float()).collect());
-    (call.lent(), before)
+    let mut lent = call.lent();
+    damage(random, &mut lent.curve);
+    (lent, before)
 }

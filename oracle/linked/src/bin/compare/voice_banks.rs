@@ -2,7 +2,7 @@
 //! that counts, and after a refusal the whole block; the masks read in between; and that the order
 //! of arrival is not audible.
 
-use crate::draw::NO_SHAPES;
+use crate::draw::{NO_SHAPES, damage};
 use crate::masks::odd_forms;
 use crate::open_calls::note_slice;
 use crate::run::Run;
@@ -14,6 +14,7 @@ use oracle::bank_calls::{Step, bad_voice, good_voice, ids, reaching, steps};
 use oracle::builders::{Lent, Masks};
 use oracle::calls;
 use oracle::config_in;
+use oracle::curves::mutes_a_bin;
 use oracle::mask_calls::{Call, fault, other_table};
 use oracle::random::Random;
 use oracle::refusals::{self as refuse, MAX_VOICES, Outcome};
@@ -40,7 +41,12 @@ const CHANGED: [&str; 6] = [
     "one at the first place",
     "one at the last",
 ];
-const READINGS: [&str; 2] = ["127 or 128 voices", "a greater count"];
+const READINGS: [&str; 3] = [
+    "127 or 128 voices",
+    "a greater count",
+    "a NaN at a bin's point, done",
+];
+const PAIRS: [&str; 2] = ["audible voices", "a NaN at a bin's point"];
 
 /// How many calls have met what.
 #[derive(Default)]
@@ -61,10 +67,11 @@ impl Reached {
         count_met(&mut self.changed, met);
     }
 
-    fn reading(&mut self, present: &Present) {
+    /// A reading, and whether it was done on a damaged curve.
+    fn reading(&mut self, present: &Present, muted: bool) {
         let over = present.len() > MAX_VOICES;
         let full = present.len() + 1 >= MAX_VOICES && !over;
-        count_met(&mut self.readings, [full, over]);
+        count_met(&mut self.readings, [full, over, muted]);
     }
 
     fn print(&self) {
@@ -207,7 +214,8 @@ impl Reading {
         faults
             .iter()
             .for_each(|&number| fault(random, number, &mut call));
-        let lent = call.lent();
+        let mut lent = call.lent();
+        damage(random, &mut lent.curve);
         let settings = config_in!(lent.config, dovetable).into();
         let masks = call.masks();
         let before = masks.map(|mask| mask.iter().map(|_| random.float()).collect());
@@ -238,7 +246,13 @@ impl Reading {
         calls::read_masks(left, right, curve, present, config, &self.lent.table)
     }
 
-    fn compare(&self, banks: &Banks, tally: &mut Tally) {
+    /// Whether a bin of an accepted reading reads a NaN.
+    fn mutes_a_bin(&self) -> bool {
+        mutes_a_bin(&self.lent.curve, self.lent.config.fft_size)
+    }
+
+    /// Compares a reading, and answers what the oracle answers.
+    fn compare(&self, banks: &Banks, tally: &mut Tally) -> Outcome {
         let (mut ours, mut theirs) = (self.before.clone(), self.before.clone());
         let given = port::read_masks(banks.block, &self.lent, self.settings, &mut ours);
         let answer = self.agreed(&banks.present, &mut theirs);
@@ -247,6 +261,7 @@ impl Reading {
         let slices = slices.each_ref().map(Vec::as_slice);
         let arguments = (lengths, self.settings, banks.block.count);
         note_slice(tally, arguments, given, answer.map(|()| []), slices);
+        answer
     }
 }
 
@@ -281,8 +296,10 @@ impl Tallies {
     }
 
     fn read(&mut self, random: &mut Random, banks: &Banks) {
-        self.reached.reading(&banks.present);
-        Reading::any(random).compare(banks, &mut self.read);
+        let reading = Reading::any(random);
+        let answer = reading.compare(banks, &mut self.read);
+        let muted = answer.is_ok() && reading.mutes_a_bin();
+        self.reached.reading(&banks.present, muted);
     }
 
     /// Makes calls until there is a difference, since every later call would differ too.
@@ -369,7 +386,7 @@ fn order(run: &mut Run) {
     }
     let random = &mut Random::new(run.seed);
     let mut tally = Tally::new(ORDER);
-    let mut audible = 0;
+    let mut met = [0; PAIRS.len()];
     for _ in 0..run.scenes {
         let count = random.pick(&[1, 2, 3, 6, 12, 40, 110]);
         let voices: Vec<MaskVoice> = (0..count).map(|_| good_voice(random)).collect();
@@ -378,10 +395,11 @@ fn order(run: &mut Run) {
         let [one, other] = lists.each_ref().map(|list| masks(&reading, played(list)));
         let same = one.is_some() && one == other;
         tally.note(0, same, || format!("{:?}: {lists:?}", reading.settings));
-        audible += u64::from(one != masks(&reading, dovetable_new_bank()));
+        let audible = one != masks(&reading, dovetable_new_bank());
+        count_met(&mut met, [audible, reading.mutes_a_bin()]);
     }
     run.close(tally);
-    println!("banks of voices, audible: {audible}");
+    print_met("banks of voices, pairs with", PAIRS, met);
 }
 
 pub fn compare(run: &mut Run) {
