@@ -1,5 +1,6 @@
 //! Random scenes: arguments of the mask builders that every test accepts.
 
+use crate::curves::damage;
 use crate::random::Random;
 use crate::refusals::{HERTZ, MAX_VOICES, within};
 use crate::spectral_dsp::{
@@ -51,6 +52,21 @@ impl Scene {
             voices: (0..count).map(|_| voice(random)).collect(),
             curve: curve(random),
         }
+    }
+
+    /// From all over the limits at one of the least sizes, in half of the cases on a damaged curve;
+    /// and a table of any kind.
+    pub fn small(random: &mut Random, sizes: usize) -> (Self, Vec<f32>) {
+        let mut scene = Self::anywhere(random);
+        scene.config.fft_size = 64 << random.below(sizes);
+        if random.once_in(2) {
+            damage(random, &mut scene.curve);
+        }
+        let table = match random.once_in(2) {
+            true => scene.table(),
+            false => unprepared(random, scene.config.fft_size / 2 + 1),
+        };
+        (scene, table)
     }
 
     /// As in a studio: common rates and sizes, a chord of notes in tune, a flat curve.

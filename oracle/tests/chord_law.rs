@@ -3,9 +3,9 @@
 //! nowhere above B's, no bin of A's masks is above B's. A NaN point ranks below every number.
 
 use oracle::calls::build_stereo_masks_with_voices_precomputed as stereo;
-use oracle::curves::{damage, equal as equal_curve, is_above, lowered, point_of};
+use oracle::curves::{equal as equal_curve, is_above, lowered, point_of};
 use oracle::random::Random;
-use oracle::scenes::{Scene, unprepared, voice};
+use oracle::scenes::{Scene, voice};
 use oracle::spectral_dsp::{MaskVoice, Pitch};
 
 fn masks(scene: &Scene, table: &[f32]) -> Vec<f32> {
@@ -49,18 +49,10 @@ fn raised(random: &mut Random, voice: &MaskVoice) -> MaskVoice {
     }
 }
 
-/// A small scene, in half of the cases on a damaged curve, and a table of any kind.
+/// A small scene of few voices, and its table.
 fn small(random: &mut Random) -> (Scene, Vec<f32>) {
-    let mut scene = Scene::anywhere(random);
-    scene.config.fft_size = 64 << random.below(4);
+    let (mut scene, table) = Scene::small(random, 4);
     scene.voices.truncate(8);
-    if random.once_in(2) {
-        damage(random, &mut scene.curve);
-    }
-    let table = match random.once_in(2) {
-        true => scene.table(),
-        false => unprepared(random, scene.config.fft_size / 2 + 1),
-    };
     (scene, table)
 }
 

@@ -4,11 +4,11 @@
 use oracle::bank_calls::{Step, after, bad_voice, good_voice, reaching, steps};
 use oracle::calls::build_stereo_masks_with_voices_precomputed as stereo;
 use oracle::calls::{add_voice, change_voice, read_masks, remove_voice};
-use oracle::curves::{damage, mutes_a_bin};
+use oracle::curves::mutes_a_bin;
 use oracle::plain_words::voice_words;
 use oracle::random::Random;
 use oracle::refusals::{Outcome, Refusal};
-use oracle::scenes::{Scene, unprepared};
+use oracle::scenes::Scene;
 use oracle::spectral_dsp::{MANUAL_MASK_POINTS, MaskConfig, MaskVoice, Pitch};
 use oracle::voice_bank::Bank;
 use std::collections::{BTreeMap, BTreeSet};
@@ -225,20 +225,6 @@ fn a_reading_tests_1_to_6() {
     assert!(masks.iter().all(|&x| x != BEFORE));
 }
 
-/// A scene's settings and curve at a small size; half of the curves are damaged.
-fn small(random: &mut Random) -> (Scene, Vec<f32>) {
-    let mut scene = Scene::anywhere(random);
-    scene.config.fft_size = 64 << random.below(2);
-    if random.once_in(2) {
-        damage(random, &mut scene.curve);
-    }
-    let table = match random.once_in(2) {
-        true => scene.table(),
-        false => unprepared(random, scene.config.fft_size / 2 + 1),
-    };
-    (scene, table)
-}
-
 /// The voices present by their ids, each with the number of the call that added it.
 #[derive(Default)]
 struct Present {
@@ -305,7 +291,7 @@ fn the_masks_read_are_those_of_the_voices_then_present() {
             *numbers.entry((step.name(), number)).or_insert(0) += 1;
             bank = back;
         }
-        let (scene, table) = small(random);
+        let (scene, table) = Scene::small(random, 2);
         let voices: Vec<MaskVoice> = present.in_order().iter().map(|entry| entry.1).collect();
         let mut sides = [vec![BEFORE; table.len()], vec![BEFORE; table.len()]];
         let [left, right] = &mut sides;
@@ -336,7 +322,7 @@ fn the_order_of_arrival_is_not_audible() {
     let random = &mut Random::new(3);
     let (mut reordered, mut repeated, mut audible, mut damaged) = (0, 0, 0, 0);
     for _ in 0..400 {
-        let (scene, table) = small(random);
+        let (scene, table) = Scene::small(random, 2);
         let count = random.pick(&[0, 1, 2, 3, 6, 12, 40]);
         let voices: Vec<MaskVoice> = (0..count).map(|_| good_voice(random)).collect();
         let banks = [0, 1].map(|_| after(Bank::new(), &reaching(random, &voices)));

@@ -7,7 +7,7 @@ use native.Mathlib.Nat.{le-trans, le-of-eq}
 use lib.Dec.{T, lit≤}
 use lib.ListN.{getD}
 use lib.Ieee.{Float, nan, isNan, binary32, fits, le, lt, sub, ofBits}
-use Rattle.float_laws.specs.Units.{mag, real}
+use Rattle.float_laws.specs.Units.{mag}
 use Rattle.float_laws.specs.Mono.{sizes}
 use Rattle.float_laws.specs.Power.{power, mag-power, real-power}
 use Rattle.float_laws.specs.Rise.{Upto, Rise, upto-level, upto-weaken, rise-refl, rise-weaken, rise-mul, rise-add}

@@ -1,8 +1,7 @@
 -- A bin whose curve point is a NaN has gain 0: the curve's gain there is 0, and the moving field's
 -- and the gate's are finite, so both products are a zero. Assumes nothing.
-use mathlib.Core.Path.{_≡_, refl, sym, ap, _∙_, subst}
+use mathlib.Core.Path.{_≡_, refl, sym, subst}
 use mathlib.Core.Bool.{Bool, true, false}
-use mathlib.Core.List.{List}
 use Prim.Native.Nat.{ℕ, _+_, _/_, _<_}
 use lib.Dec.{T, lit≤}
 use lib.ListN.{length, getD}
@@ -25,12 +24,11 @@ use Rattle.lobes.specs.Pan.{Side, left, right}
 use Rattle.lobes.specs.Distance.{lent}
 use Rattle.openness.proofs.RaisedVoices.{RaisedIn, raised-self}
 use Rattle.openness.proofs.SilentVoices.{Nought, times-zero}
-use Rattle.bin_gains.specs.Gains.{motionAt, ceilingAt, gateAt}
+use Rattle.bin_gains.specs.Gains.{motionAt, ceilingAt}
 use Rattle.bin_gains.proofs.Rising.{manual-upto, motion-upto}
-use Rattle.mask_builder.specs.Mask.{opennessAt, maskAt}
+use Rattle.mask_builder.specs.Mask.{maskAt}
 use Rattle.mask_builder.proofs.Rising.{mask-rises}
 use Rattle.chord_law.specs.Calls.{WholeCall, Call, F32Call, Accepted, given, whole, maskOn}
-use Rattle.chord_law.specs.Calls.{wholeLent}
 use Rattle.chord_law.specs.Erased.{Erased, ErasedMuted, ErasedLaw, LentErasedLaw}
 use Rattle.chord_law.proofs.Acceptance.{size-accepted, settings-accepted, all-real}
 use Rattle.chord_law.proofs.CurvePoints.{point-f32}

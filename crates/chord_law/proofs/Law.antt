@@ -1,7 +1,7 @@
 -- The chord law: where two stereo calls are accepted, on the same settings and table entries, and
--- each voice of A is matched by one of B and A's curve is nowhere above B's, then on every bin, left
--- and right, A's mask is not above B's. Where B is matched in A too and the curves are equal, the
--- masks are equal: the first part, both ways round. A's mask is that on B's settings and table
+-- each voice of A is matched by one of B and A's curve is nowhere above B's, then on every bin,
+-- left and right, A's mask is not above B's. Where B is matched in A too and the curves are equal,
+-- the masks are equal: the first part, both ways round. A's mask is that on B's settings and table
 -- (`mask-on`); there each bin rises with the voices and with the curve (`mask-rises`). Assumes
 -- nothing.
 use mathlib.Core.Path.{_≡_, sym, subst}
@@ -21,7 +21,7 @@ use Rattle.lobes.specs.Distance.{lent}
 use Rattle.openness.proofs.RaisedVoices.{RaisedIn}
 use Rattle.mask_builder.specs.Mask.{maskAt}
 use Rattle.mask_builder.proofs.Rising.{mask-rises}
-use Rattle.chord_law.specs.Calls.{Call, Accepted, F32Call, given, whole, maskOn}
+use Rattle.chord_law.specs.Calls.{Call, F32Call, given, whole, maskOn}
 use Rattle.chord_law.specs.Voices.{MatchedIn}
 use Rattle.chord_law.specs.Curves.{EqualCurves}
 use Rattle.chord_law.specs.Masks.{NotAbove, EqualMasks, MasksNotAbove, MasksEqual}

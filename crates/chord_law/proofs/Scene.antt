@@ -215,7 +215,8 @@ module _ (curve : List Float) (long : length curve ≡ MANUAL-MASK-POINTS) (f32 
       at-each (λ (x : Float). T (fits binary32 x)) curve place i nan-f32
       (f32 i (omega (arith, length-set curve place nan)))
 
-  pub erased-in-both : MasksNotAbove (whole (call without chord)) (whole (call without with-one-more))
+  pub erased-in-both :
+      MasksNotAbove (whole (call without chord)) (whole (call without with-one-more))
   erased-in-both =
       the-larger-chord-is-above without without without-long without-long without-f32 without-f32
       (level-curve without without-long without-f32)

@@ -22,8 +22,8 @@ pub record SameScene (side : Side) (a b : WholeCall) : Type 0 where
   pub settings : a .config ≡ b .config
   pub voices : near side (a .voices) ≡ near side (b .voices)
 
--- ---- as f32 compares: -0 and +0 are equal, and entry 0 of the table is not read; of the curves, two
--- NaN points are equal
+-- ---- as f32 compares: -0 and +0 are equal, and entry 0 of the table is not read; two NaN points
+-- of the curves are equal
 pub record EqualScene (side : Side) (a b : WholeCall) : Type 0 where
   pub a-accepted : Accepted a
   pub b-accepted : Accepted b

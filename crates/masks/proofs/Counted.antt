@@ -4,7 +4,8 @@ use mathlib.Core.Path.{_≡_, refl}
 use mathlib.Core.Bool.{Bool, true, false, not, cond}
 use lib.Dec.{T}
 use lib.Count.{trailingZeros}
-use lib.Ieee.{Float, nan, inf, fin, ofBits, isNan, lt, mul, div, round, size, span, climb, units, odd}
+use lib.Ieee.{Float, nan, inf, fin, ofBits, isNan, lt, mul, div, round, size, span, climb, units}
+use lib.Ieee.{odd}
 use Rattle.float32.specs.Order.{minimum}
 use Rattle.float32.specs.Remainder.{zero}
 use Rattle.float32.specs.Value.{moved}

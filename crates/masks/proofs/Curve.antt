@@ -65,42 +65,63 @@ unfolding fits le
 limited-mono a b p q h =
     rw (minimum-smaller binary32 a zero p, minimum-smaller binary32 b zero q, zero-is) (order.smaller-mono binary32 a b plus-zero plus-zero p q tt tt h tt)
 
-ordered : (s t : Bool) (g k : Float) → (T t → T s) → T (le plus-zero k) → (T (not s) → T (le g k)) → T (le (cond s zero g) (cond t zero k))
+ordered :
+    (s t : Bool) (g k : Float) → (T t → T s) → T (le plus-zero k) → (T (not s) → T (le g k))
+    → T (le (cond s zero g) (cond t zero k))
 unfolding ofBits le
 ordered true true g k i l h = tt
 ordered true false g k i l h = l
 ordered false true g k i l h = absurd (i tt)
 ordered false false g k i l h = h tt
 
--- what is above -144 is a number
-not-muted : (x : Float) → T (fits binary32 x) → T (lt MANUAL-CURVE-MUTE-DB x) → T (not (isNan x)) × T (number binary32 x)
+-- above -144
+abbrev Open : Float → Type 0
+Open x = T (lt MANUAL-CURVE-MUTE-DB x)
+
+no-nan-open : (x : Float) → Open x → T (not (isNan x))
 unfolding ofBits lt isNan
-not-muted nan f m = absurd m
-not-muted (inf s) f m = (tt, tt)
-not-muted (fin s k e) f m = (tt, f)
+no-nan-open nan o = absurd o
+no-nan-open (inf s) o = tt
+no-nan-open (fin s m e) o = tt
+
+twice-not : (c : Bool) → T (not (not c)) → T c
+twice-not true t = tt
+twice-not false t = t
 
 -- b is at or above a, where a is a number; where a is a NaN, b may be anything
-pub curve-gain-never-falls : (a b : Float) → T (fits binary32 a) → T (fits binary32 b) → (T (not (isNan a)) → T (le a b)) → T (le (curveGain a) (curveGain b))
-unfolding curveGain
-curve-gain-never-falls a b p q h =
-    ordered (muted a) (muted b) (gainOf (minimum a zero)) (gainOf (minimum b zero))
-    (λ (m : T (muted b)). not-T (lt MANUAL-CURVE-MUTE-DB a) (λ (l : T (lt MANUAL-CURVE-MUTE-DB a)). T-not (lt MANUAL-CURVE-MUTE-DB b) m (on l)))
-    (gain-nonneg _)
-    (λ (m : T (not (muted a))). rises (twice (lt MANUAL-CURVE-MUTE-DB a) m))
-  where
-    twice : (c : Bool) → T (not (not c)) → T c
-    twice true t = tt
-    twice false t = t
+module _ (a b : Float) (p : T (fits binary32 a)) (q : T (fits binary32 b))
+    (h : T (not (isNan a)) → T (le a b)) where
+  -- where a is open, both are numbers
+  record Numbers : Type 0 where
+    first : T (number binary32 a)
+    second : T (number binary32 b)
+    up : T (le a b)
 
-    -- a is a number, and so is b, which is not below it
-    on : T (lt MANUAL-CURVE-MUTE-DB a) → T (lt MANUAL-CURVE-MUTE-DB b)
-    on l =
-        let n = not-muted a p l in
-        let u = h (n .0) in
-        lt-of-lt-of-le-f binary32 MANUAL-CURVE-MUTE-DB a b mute-number (n .1) (le-right binary32 a b q u) l u
+  numbers : Open a → Numbers
+  numbers o =
+      let n = no-nan-open a o in
+      record {
+        first = order.fits-number binary32 a p n;
+        second = le-right binary32 a b q (h n);
+        up = h n;
+      }
 
-    rises : T (lt MANUAL-CURVE-MUTE-DB a) → T (le (gainOf (minimum a zero)) (gainOf (minimum b zero)))
-    rises l =
-        let n = not-muted a p l in
-        let u = h (n .0) in
-        gain-never-falls _ _ (limited-mono a b (n .1) (le-right binary32 a b q u) u)
+  stays-open : Open a → Open b
+  stays-open o =
+      let n = numbers o in
+      lt-of-lt-of-le-f binary32 MANUAL-CURVE-MUTE-DB a b mute-number (n .first) (n .second) o
+      (n .up)
+
+  open-rises : Open a → T (le (gainOf (minimum a zero)) (gainOf (minimum b zero)))
+  open-rises o =
+      let n = numbers o in
+      gain-never-falls _ _ (limited-mono a b (n .first) (n .second) (n .up))
+
+  pub curve-gain-never-falls : T (le (curveGain a) (curveGain b))
+  unfolding curveGain
+  curve-gain-never-falls =
+      ordered (muted a) (muted b) (gainOf (minimum a zero)) (gainOf (minimum b zero))
+      (λ (m : T (muted b)). not-T (lt MANUAL-CURVE-MUTE-DB a)
+      (λ (o : Open a). T-not (lt MANUAL-CURVE-MUTE-DB b) m (stays-open o)))
+      (gain-nonneg _)
+      (λ (m : T (not (muted a))). open-rises (twice-not (lt MANUAL-CURVE-MUTE-DB a) m))
