@@ -1,7 +1,8 @@
 -- What the calls on the gate and the drawn curve answer to accepted input, and the range of it: an
 -- emphasis from 1 to 2; a gate from the floor to 3, the floor from 0 to 1; a manual gain from 0 to
--- 1. The tests pass, and the rest is a law of the core. Assumes nothing.
-use mathlib.Core.Path.{_≡_, refl}
+-- 1, and 0 at a NaN of the curve. The tests pass, and the rest is a law of the core. Assumes
+-- nothing.
+use mathlib.Core.Path.{_≡_, refl, ap, _∙_}
 use mathlib.Core.Bool.{false}
 use mathlib.Core.List.{List, [], _∷_}
 use Prim.Native.Nat.{ℕ}
@@ -9,10 +10,11 @@ use borrow.Author.Tests.{eq-eqb}
 use lib.Dec.{T}
 use lib.IntN.{pos}
 use lib.ListN.{length, getD}
-use lib.Ieee.{Float, nan, fin, binary32, fits, le}
+use lib.Ieee.{Float, nan, fin, binary32, fits, isNan, le}
 use lib.Ieee.Bits.{is-true}
 use Rattle.answer.specs.Reply.{done}
 use Rattle.float_laws.specs.Bounds.{one}
+use Rattle.float_laws.specs.Round.{plus-zero}
 use Rattle.float32.specs.Order.{finite}
 use Rattle.float32.proofs.Limits.{finite-real}
 use Rattle.limits.specs.Limits as limits
@@ -23,7 +25,7 @@ use Rattle.masks.specs.Manual.{curvePoint, manualGain}
 use Rattle.float32.proofs.InUnit.{InUnit}
 use Rattle.masks.proofs.Emphasis.{emphasis-at-least-one, emphasis-at-most-two}
 use Rattle.masks.proofs.Gated.{note-gate-at-least-floor, note-gate-at-most-three}
-use Rattle.masks.proofs.Curve.{curve-gain-in-unit}
+use Rattle.masks.proofs.Curve.{manual-nan, curve-gain-in-unit}
 use Rattle.number_calls.specs.Gates.{noteEmphasisGain, noteGateGain, manualGainAtBin}
 
 module _ (width : Float) (a : T (limits.width width)) where
@@ -71,3 +73,10 @@ module _ (curve : List Float) (bin size : ℕ) (s : T (limits.size size)) (b : T
       T (fits binary32 (getD curve (curvePoint bin size) nan)) → InUnit (manualGain curve bin size)
   unfolding manualGain
   manual-in-unit f = curve-gain-in-unit (getD curve (curvePoint bin size) nan) f
+
+  -- "a NaN in the drawn curve now mutes its bin, gain 0"
+  pub manual-muted :
+      T (isNan (getD curve (curvePoint bin size) nan))
+      → manualGainAtBin curve bin size ≡ done (plus-zero ∷ [])
+  manual-muted e =
+      manual-answered ∙ ap (λ (gain : Float). done (gain ∷ [])) (manual-nan curve bin size e)

@@ -1,11 +1,11 @@
 -- A bin whose curve point is a NaN has gain 0: the curve's gain there is 0, and the moving field's
 -- and the gate's are finite, so both products are a zero. Assumes nothing.
-use mathlib.Core.Path.{_≡_, refl, sym, subst}
+use mathlib.Core.Path.{sym, subst}
 use mathlib.Core.Bool.{Bool, true, false}
 use Prim.Native.Nat.{ℕ, _+_, _/_, _<_}
 use lib.Dec.{T, lit≤}
 use lib.ListN.{length, getD}
-use lib.Ieee.{Float, nan, inf, fin, binary32, isNan, eq, mul, ofBits}
+use lib.Ieee.{Float, nan, binary32, eq, mul, ofBits}
 use Rattle.lists.specs.Maps.{getD-tabulate}
 use Rattle.lists.specs.Totals.{all-at}
 use Rattle.float_laws.specs.Units.{real}
@@ -18,8 +18,8 @@ use Rattle.scene.specs.Accepted.{noVoice}
 use Rattle.scene.specs.Voices.{RealVoice}
 use Rattle.scene.proofs.SettingsNumbers as numbers
 use Rattle.scene.proofs.SettingsNumbers.{RealSettings}
-use Rattle.masks.specs.Manual.{curvePoint, manualGain}
-use Rattle.masks.proofs.Curve.{curve-nan}
+use Rattle.masks.specs.Manual.{manualGain}
+use Rattle.masks.proofs.Curve.{manual-nan}
 use Rattle.lobes.specs.Pan.{Side, left, right}
 use Rattle.lobes.specs.Distance.{lent}
 use Rattle.openness.proofs.RaisedVoices.{RaisedIn, raised-self}
@@ -33,12 +33,6 @@ use Rattle.chord_law.specs.Erased.{Erased, ErasedMuted, ErasedLaw, LentE
 use Rattle.chord_law.proofs.Acceptance.{size-accepted, settings-accepted, all-real}
 use Rattle.chord_law.proofs.CurvePoints.{point-f32}
 use Rattle.chord_law.proofs.LentCalls.{inArray, all-count}
-
-is-nan : (x : Float) → T (isNan x) → x ≡ nan
-unfolding isNan
-is-nan nan h = refl
-is-nan (inf s) h = absurd h
-is-nan (fin s m e) h = absurd h
 
 equal-zeros : (s : Bool) → T (eq (nought s) zero)
 unfolding ofBits eq
@@ -68,12 +62,8 @@ module _ (call : Call) (f : F32Call call) (p : Accepted (whole call)) (bin : ℕ
       (f .settings-f32)
 
   curve-zero : Nought (manualGain (call .curve) bin (config .«fft_size»))
-  unfolding manualGain
   curve-zero =
-      record {
-        of-sign = false;
-        is = rw (is-nan (getD (call .curve) (curvePoint bin (config .«fft_size»)) nan) e) curve-nan;
-      }
+      record { of-sign = false; is = manual-nan (call .curve) bin (config .«fft_size») e }
 
   ceiling-zero : Nought (ceilingAt (call .curve) config bin)
   unfolding ceilingAt

@@ -4,8 +4,11 @@
 -- fall. Assumes nothing.
 use mathlib.Core.Path.{_≡_, refl}
 use mathlib.Core.Bool.{Bool, true, false, not, cond}
+use mathlib.Core.List.{List}
+use Prim.Native.Nat.{ℕ}
 use lib.Dec.{T, T-not, not-T}
 use lib.IntN.{pos}
+use lib.ListN.{getD}
 use lib.Count.{trailingZeros}
 use lib.Ieee.{Float, nan, inf, fin, binary32, le, lt, isNan, ofBits, fits, mul, div, round, size, span, climb, units, odd}
 use Rattle.float_laws.specs.Units.{number}
@@ -23,6 +26,7 @@ use Rattle.power.specs.Power.{powerAt, powerOf, E2}
 use Rattle.decibels.specs.Gain.{gainOf}
 use Rattle.decibels.proofs.Gains.{gain-nonneg, gain-number, gain-at-most-one, gain-never-falls}
 use Rattle.masks.specs.Manual.{MANUAL-CURVE-MUTE-DB, muted, curveGain}
+use Rattle.masks.specs.Manual.{curvePoint, manualGain}
 use Rattle.float32.proofs.InUnit.{InUnit, in-unit, zero-in-unit, zero-is}
 
 -- ---- "curve -144 gives 0, +6 gives 1"
@@ -38,6 +42,18 @@ curve-six = refl
 pub curve-nan : curveGain nan ≡ plus-zero
 unfolding curveGain ofBits le lt
 curve-nan = refl
+
+is-nan : (x : Float) → T (isNan x) → x ≡ nan
+unfolding isNan
+is-nan nan h = refl
+is-nan (inf s) h = absurd h
+is-nan (fin s m e) h = absurd h
+
+pub manual-nan :
+    (curve : List Float) (bin size : ℕ) → T (isNan (getD curve (curvePoint bin size) nan))
+    → manualGain curve bin size ≡ plus-zero
+unfolding manualGain
+manual-nan curve bin size h = rw (is-nan (getD curve (curvePoint bin size) nan) h) curve-nan
 
 -- ---- the range
 at-most-zero : (db : Float) → T (fits binary32 db) → T (le (minimum db zero) plus-zero)
