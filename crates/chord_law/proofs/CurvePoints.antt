@@ -31,7 +31,7 @@ number-itself : (x : Float) → T (number binary32 x) → T (not (lt x x))
 number-itself x n = le→not-lt-f binary32 x x n n (le-refl-f binary32 x n)
 
 pub not-above-itself : (x : Float) → T (fits binary32 x) → T (not (above x x))
-unfolding isNan
+unfolding isNan lt
 not-above-itself nan f = tt
 not-above-itself (inf s) f = number-itself (inf s) (fits-number binary32 (inf s) f tt)
 not-above-itself (fin s m e) f = number-itself (fin s m e) (fits-number binary32 (fin s m e) f tt)
