@@ -1,5 +1,7 @@
 // What a call answers: the number asked for or that it is done, or a refusal with document 01's
 // number and the place it names.
+#![tactic(auto)]
+
 ghost use Rattle.std.specs.Prelude.{◌≡◌};
 ghost use Rattle.answer.specs.Reply.{number, place, of_answer, of_outcome, of_prepared};
 
@@ -8,28 +10,28 @@ use limits::lengths::MIDI_NOTES;
 pub mod refusal;
 
 // The answer of a call for a single number.
-#[derive(Drop)]
+#[derive(Clone, Copy)]
 pub enum Answer {
     Gain(f32),
     Refused(u8, usize),
 }
 
 // The answer of a call that writes lent slices.
-#[derive(Drop)]
+#[derive(Clone, Copy)]
 pub enum Outcome {
     Done,
     Refused(u8, usize),
 }
 
 // The answer of `PreparedSpectrum::new`: the coherent gains of the window and of the smooth window.
-#[derive(Drop)]
+#[derive(Clone, Copy)]
 pub enum Prepared {
     Gains(f32, f32),
     Refused(u8, usize),
 }
 
 // The answer of `advance_note_envelopes`, with the bank that was passed by value beside it.
-#[derive(Drop)]
+#[derive(Clone, Copy)]
 pub struct Envelopes {
     pub outcome: Outcome,
     pub levels: [f32; MIDI_NOTES],

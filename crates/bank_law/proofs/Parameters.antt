@@ -13,14 +13,14 @@ use mir.Val.{Val}
 use denote.Laws.{Is}
 use denote.Shadow.{shadow}
 use denote.Struct.Declared.{row}
-use denote.Struct.Field.{array_field}
+use denote.Array.{Array}
 use Rattle.float32.specs.Remainder.{zero}
 use Rattle.scene.specs.declared.MaskVoice.{MaskVoice}
 use Rattle.scene.specs.declared.Pitch.TheVariants.{Note, Hertz}
 use Rattle.scene.specs.Accepted.{no_voice}
 use Rattle.scene.specs.F32.{F32, F32Pitch, F32Voice, F32Voices}
 use Rattle.scene.specs.PitchNumbers.{note_form, hertz_form, pitch_of}
-use Rattle.refusals.proofs.Parameters.{held, each-into}
+use Rattle.refusals.proofs.Parameters.{held, each_at}
 use Rattle.voice_records.specs.declared.VoiceRecord.{VoiceRecord}
 use Rattle.voice_records.specs.VoiceRecords.{voice_of, voices_of_record, no_record}
 use Rattle.voice_records.specs.contracts.VoiceRecord as record-type
@@ -40,7 +40,7 @@ pitch-f32 form note x f = go (eqb form note_form) (eqb form hertz_form)
 -- the fields in their order
 voice-f32 :
     (given : VoiceRecord) (vs : List Val)
-    → shadow ((record-type.the_field).row.own_val ((record-type.the_field).into given) vs)
+    → Is (row record-type.the_type) given vs
     → F32Voice (voice_of given)
 unfolding voice_of
 voice-f32 given vs told =
@@ -59,13 +59,12 @@ voice-f32 given vs told =
 
 voices-f32 :
     (n : ℕ) (records : List VoiceRecord) (vs : List Val)
-    → shadow
-    ((array_field record-type.the_field n).row.own_val (map (record-type.the_field).into records) vs)
+    → Is (Array (row record-type.the_type) n) records vs
     → F32Voices (voices_of_record records)
 voices-f32 n records vs told i h =
     let l : i < length records = omega (arith, length-voices records) in
     let e =
-    each-into VoiceRecord _ (record-type.the_field).into (record-type.the_field).row.own_val records
+    each_at VoiceRecord (row record-type.the_type).own_val records
     told.0 told.1.1 i no_record l in
     rw (voice-at records i) (voice-f32 (get_or records i no_record) (e.0 ∷ []) e.1)
 

@@ -2,6 +2,8 @@
 //
 // Method. The bins are done in rows: first the ceilings, that is the gains where the gate is 1, and
 // then each side from that one row of ceilings.
+#![tactic(auto)]
+
 ghost use Rattle.std.specs.Prelude.{◌≡◌, ◌+◌, ◌-◌, ◌^◌, ◌≤◌, length, get_or};
 ghost use Rattle.std.specs.Float.{nan, binary32};
 ghost use Rattle.std.specs.Float.Ieee.{mul};
@@ -23,7 +25,7 @@ use sine::table::SineTable;
 const ROW: usize = 256;
 
 // What all bins of a mask share, computed once from its settings.
-#[derive(Drop)]
+#[derive(Clone, Copy)]
 pub struct Shared {
     pub bin_hz: f32,
     // The moving field's settings as `motion::field::settled` gives them.

@@ -1,6 +1,8 @@
 // The most that any lobe of a tone opens at each bin of a block. The lobes are joined in a row of
 // 64; one that cannot raise any bin of the row is skipped. The chunk holds the openings of one lobe
 // until they are joined, and is then scratch space for the search of the row's least number.
+#![tactic(auto)]
+
 ghost use Rattle.std.specs.Prelude.{◌≡◌, ◌+◌, ◌-◌, length, take};
 ghost use Rattle.lists.specs.Maps.{map_range};
 ghost use Rattle.float32.specs.Remainder.{one};

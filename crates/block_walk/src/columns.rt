@@ -14,7 +14,7 @@ use lobes::{Grid, Lobe};
 
 // The first and the last bin that any of the lobes reaches, and how many bins the plain way
 // computes.
-#[derive(Drop)]
+#[derive(Clone, Copy)]
 pub struct Span {
     pub first_bin: usize,
     pub last_bin: usize,

@@ -1,4 +1,6 @@
 // The minimum and maximum of each block of 64 bins, so that whole blocks can be skipped.
+#![tactic(auto)]
+
 ghost use Rattle.std.specs.Prelude.{◌≡◌, ◌+◌, ◌*◌, ◌≤◌, ◌<◌, length};
 ghost use Rattle.blocks.specs.Least.{Numbers, Least, Greatest, largest, lowest};
 ghost use Rattle.blocks.specs.Row.{RowOf};

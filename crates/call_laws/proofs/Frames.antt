@@ -14,7 +14,8 @@ use lib.Ieee.{Float, nan, binary32, fits}
 use lib.Ieee.Bits.{is_true}
 use Rattle.float_laws.specs.Units.{real-number}
 use Rattle.float_laws.specs.Order.{le-refl-f}
-use Rattle.lists.specs.Folds.{fold, fold-keeps, first_bad, bad-none}
+use Rattle.lists.specs.Folds.{fold, fold-keeps, first_bad}
+use Rattle.lists.proofs.Folds.{bad-none}
 use Rattle.float32.proofs.InUnit.{InUnit, unit-within}
 use Rattle.answer.specs.Refusal.{SETTING, LIST_VALUE}
 use Rattle.answer.specs.Reply.{done, refused}

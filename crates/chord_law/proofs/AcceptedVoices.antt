@@ -10,7 +10,8 @@ use lib.Seq.{take-length}
 use lib.Ieee.{Float}
 use borrow.Author.Tests.{le-ltb}
 use native.Mathlib.Nat.{le_refl}
-use Rattle.lists.specs.Folds.{first_bad, bad-none}
+use Rattle.lists.specs.Folds.{first_bad}
+use Rattle.lists.proofs.Folds.{bad-none}
 use Rattle.lists.specs.Totals.{All, all-at}
 use Rattle.lists.specs.Entries.{all-places}
 use Rattle.answer.specs.Refusal.{LENGTH}

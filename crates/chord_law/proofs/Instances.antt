@@ -53,17 +53,17 @@ voice pitch level = placed pitch level remainder.zero
 abbrev in_tune : ℕ → Pitch
 in_tune note = Note note remainder.zero
 
-abbrev 330_hertz : Float
-330_hertz = of_bits binary32 0x43a5_0000
+abbrev hertz_330 : Float
+hertz_330 = of_bits binary32 0x43a5_0000
 
-abbrev 440_hertz : Float
-440_hertz = of_bits binary32 0x43dc_0000
+abbrev hertz_440 : Float
+hertz_440 = of_bits binary32 0x43dc_0000
 
 abbrev pub C : MaskVoice
 C = voice (in_tune 60) half
 
 abbrev pub E : MaskVoice
-E = voice (Hertz 330_hertz) half
+E = voice (Hertz hertz_330) half
 
 abbrev pub G : MaskVoice
 G = voice (in_tune 67) half
@@ -75,7 +75,7 @@ abbrev pub A : MaskVoice
 A = voice (in_tune 69) half
 
 abbrev pub a_by_hertz : MaskVoice
-a_by_hertz = voice (Hertz 440_hertz) half
+a_by_hertz = voice (Hertz hertz_440) half
 
 abbrev pub chord : List MaskVoice
 chord = C ∷ E ∷ G ∷ []
@@ -93,7 +93,7 @@ with_g_raised = C ∷ E ∷ louder_g ∷ []
 record Kind : Type 0 where
   same-zero : T (eq remainder.zero remainder.zero)
   same_half : T (eq half half)
-  same-330 : T (eq 330_hertz 330_hertz)
+  same-330 : T (eq hertz_330 hertz_330)
   one-no-lower : T (not (lt remainder.one remainder.one))
   half-no-lower : T (not (lt half half))
   one-above-half : T (not (lt remainder.one half))
@@ -134,7 +134,7 @@ C-itself : Matched C C
 C-itself = itself (in_tune 60) (same-note 60)
 
 E-itself : Matched E E
-E-itself = itself (Hertz 330_hertz) kind.same-330
+E-itself = itself (Hertz hertz_330) kind.same-330
 
 G-itself : Matched G G
 G-itself = itself (in_tune 67) (same-note 67)

@@ -2,6 +2,8 @@
 // Method: x = mant * 2^(expo - 149), so its integer part is mant shifted left for an expo of 149 or
 // more, else right. To round up, 2^places - 1 is added before the right shift. From 2^64 up, and
 // for infinity, the result is the largest usize.
+#![tactic(auto)]
+
 ghost use Rattle.std.specs.Prelude.{◌≡◌, ◌≤◌, ◌<◌, ◌^◌, min, max};
 ghost use Rattle.counts.specs.Counts.{whole, count_of, floor_count, ceil_count, millionths};
 

@@ -22,7 +22,7 @@ pub fn motion_of(shape: u32, depth_db: f32, phase: f32, size_octaves: f32) -> Mo
 
 // A mask's settings, with those of its motion. The shape is a number, 0..7 in the Rust's order.
 #[repr(C)]
-#[derive(Drop)]
+#[derive(Clone, Copy)]
 pub struct Settings {
     pub sample_rate: f32,
     pub fft_size: usize,

@@ -1,5 +1,7 @@
 // The calls on a bank of voices for a caller in C, who holds the bank itself: it has C's layout and
 // is passed and returned by value.
+#![tactic(auto)]
+
 ghost use Rattle.std.specs.Prelude.{◌≡◌, length};
 ghost use Rattle.answer.specs.Reply.{of_outcome};
 ghost use Rattle.answer.specs.Written.{written};
@@ -20,7 +22,7 @@ use voice_records::{VoiceRecord, voice_of};
 
 // What a call on a bank answers, with C's layout: a number, 0 when done, a place, and the bank.
 #[repr(C)]
-#[derive(Drop)]
+#[derive(Clone, Copy)]
 pub struct PlainBanked {
     pub number: u32,
     pub place: usize,

@@ -1,5 +1,7 @@
 // The mask builders from plain numbers: the settings as one record with C's layout, the voices as
 // the core's array. A shape outside 0..7 is refusal 2, after refusal 1.
+#![tactic(auto)]
+
 ghost use Rattle.std.specs.Prelude.{◌≡◌, ◌*◌, length, take, drop};
 ghost use Rattle.answer.specs.Written.{written};
 ghost use Rattle.lobes.specs.Distance.{lent, none};

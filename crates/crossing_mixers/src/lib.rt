@@ -1,5 +1,7 @@
 // The calls on a mixer for a caller in C, who holds the mixer itself: it has C's layout and is
 // passed and returned by value, and so are the sixteen scenes.
+#![tactic(auto)]
+
 ghost use Rattle.std.specs.Prelude.{◌≡◌, length};
 ghost use Rattle.answer.specs.Reply.{of_outcome};
 ghost use Rattle.answer.specs.Written.{written};
@@ -18,7 +20,7 @@ use mixer_masks::{build_scene, scene_place};
 
 // What a request answers, with C's layout: a number, 0 when done, a place, and the mixer.
 #[repr(C)]
-#[derive(Drop)]
+#[derive(Clone, Copy)]
 pub struct PlainFiled {
     pub number: u32,
     pub place: usize,
@@ -27,7 +29,7 @@ pub struct PlainFiled {
 
 // What a turn answers, with C's layout: whether it named a strip, which one, else 0, and the mixer.
 #[repr(C)]
-#[derive(Drop)]
+#[derive(Clone, Copy)]
 pub struct PlainTurned {
     pub named: bool,
     pub strip: usize,
@@ -36,7 +38,7 @@ pub struct PlainTurned {
 
 // What a turn with its scene answers, with C's layout.
 #[repr(C)]
-#[derive(Drop)]
+#[derive(Clone, Copy)]
 pub struct PlainServed {
     pub number: u32,
     pub place: usize,
@@ -47,7 +49,7 @@ pub struct PlainServed {
 
 // The scenes by the number of the strip.
 #[repr(C)]
-#[derive(Drop)]
+#[derive(Clone, Copy)]
 pub struct StripScenes {
     pub scenes: [PlainScene; STRIPS],
 }

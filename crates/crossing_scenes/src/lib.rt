@@ -1,4 +1,6 @@
 // Scenes for a caller in C: one plain record with C's layout, passed and returned by value.
+#![tactic(auto)]
+
 ghost use Rattle.std.specs.Prelude.{◌≡◌, map, length};
 ghost use Rattle.answer.specs.Written.{written};
 ghost use Rattle.crossing.specs.Given.{Given};
@@ -17,7 +19,7 @@ use voice_records::{VoiceRecord, plain_voice, voices_of};
 
 // A scene with C's layout. The voices that count stand first.
 #[repr(C)]
-#[derive(Drop)]
+#[derive(Clone, Copy)]
 pub struct PlainScene {
     pub settings: Settings,
     pub count: usize,
@@ -26,7 +28,7 @@ pub struct PlainScene {
 
 // What reading a record answers, with C's layout: a number, 0 when done, a place, and the scene.
 #[repr(C)]
-#[derive(Drop)]
+#[derive(Clone, Copy)]
 pub struct PlainSceneRead {
     pub number: u32,
     pub place: usize,

@@ -1,4 +1,6 @@
 // The voices of a lent slice of records, as a caller in C passes them.
+#![tactic(auto)]
+
 ghost use Rattle.std.specs.Prelude.{◌≡◌, ◌<◌, length, get_or};
 ghost use Rattle.scene.specs.Gathered.{gathered};
 ghost use Rattle.voice_records.specs.VoiceRecords.{no_record, voices_of_record};

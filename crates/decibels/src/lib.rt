@@ -1,4 +1,6 @@
 // Decibels to linear gains.
+#![tactic(auto)]
+
 pub mod rows;
 
 ghost use Rattle.std.specs.Prelude.{◌≡◌};

@@ -1,5 +1,7 @@
 // The functions of one number by name, for callers that apply one of them to a whole list: the
 // static library and the replay program.
+#![tactic(auto)]
+
 ghost use Rattle.std.specs.Prelude.{◌≡◌};
 ghost use Rattle.lists.specs.Maps.{map_at};
 ghost use Rattle.power.specs.Table.{power_table};
@@ -9,7 +11,7 @@ ghost use Rattle.elementary.specs.Functions.{value_of};
 use power::table::PowerTable;
 use sine::table::SineTable;
 
-#[derive(Drop)]
+#[derive(Clone, Copy)]
 pub enum Function {
     Exp2,
     Log2,

@@ -47,12 +47,12 @@ silence-is : (x : Float) → lt (magnitude x) SILENCE ≡ (lt x SILENCE && lt mi
 unfolding of_bits of_fields odd count_trailing_zeros
 silence-is x = two-sided 8796093 (negsuc 42) x
 
-first_of : (a : Bool) {b : Bool} → b ≡ true → (a && b) ≡ a
-first_of true e = e
-first_of false e = refl
+and_first : (a : Bool) {b : Bool} → b ≡ true → (a && b) ≡ a
+and_first true e = e
+and_first false e = refl
 
 pub silence-from-zero : (x : Float) → T (fits binary32 x) → T (le zero x) → lt (magnitude x) SILENCE ≡ lt x SILENCE
 unfolding of_bits fits lt
 silence-from-zero x F l =
     silence-is x
-    ∙ first_of (lt x SILENCE) (is_true (lt minus_silence x) (lt-of-lt-of-le-f binary32 minus_silence zero x tt tt (le_right binary32 zero x F l) tt l))
+    ∙ and_first (lt x SILENCE) (is_true (lt minus_silence x) (lt-of-lt-of-le-f binary32 minus_silence zero x tt tt (le_right binary32 zero x F l) tt l))

@@ -1,5 +1,7 @@
 // The envelopes of the 128 notes: each level moves toward 1 while its note is held and toward 0
 // while it is not. The sixteen bytes of held notes are read as two words of 64 notes each.
+#![tactic(auto)]
+
 ghost use Rattle.std.specs.Prelude.{◌≡◌, ◌+◌, ◌-◌, ◌*◌, ◌%◌, ◌<◌, T, length, get_or};
 ghost use Rattle.std.specs.Float.Ieee.{le};
 ghost use Rattle.lists.specs.Maps.{map_at, map_range};

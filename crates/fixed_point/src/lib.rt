@@ -1,5 +1,7 @@
 // A float in fixed point: its floor in steps of 2^-24, by one f64 addition. exp2 (`power`,
 // `power_rows`) and the sine (`sine`, `sine_rows`) reduce their arguments with it.
+#![tactic(auto)]
+
 ghost use Rattle.std.specs.Prelude.{◌≡◌, ◌^◌, T};
 ghost use Rattle.std.specs.Float.Ieee.{neg, le};
 ghost use Rattle.float32.specs.Value.{moved};

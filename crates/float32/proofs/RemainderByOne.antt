@@ -13,7 +13,7 @@ use Rattle.float32.specs.Remainder as remainder
 use Rattle.float32.specs.Remainder.{rem_euclid_one, whole_part, all_whole}
 use Rattle.float32.proofs.Magnitude.{magnitude-clear, magnitude-size, magnitude-is-real, magnitude-fits}
 use Rattle.float32.proofs.WholePart.{half, in-exponents, whole_above, whole_below}
-use Rattle.float32.proofs.Remainders.{euclid, part, nothing_left, all_whole, no_part, left_below, left-above, size-less-whole}
+use Rattle.float32.proofs.Remainders.{euclid, part, nothing_left, all_whole_lem, no_part, left_below, left-above, size-less-whole}
 
 -- ---- the code's constants
 constants : (all_whole ≡ power 23) × (remainder.one ≡ power 0) × (remainder.zero ≡ plus_zero)
@@ -93,7 +93,7 @@ not_finite (fin s m e) h g = absurd (h g)
 large : (v : Float) → T (real binary32 v) → (T (lt (magnitude v) (power 23)) → ⊥) → mul binary32 v plus_zero ≡ rem_euclid_one v
 large v p h =
     let n = real-number binary32 (magnitude v) (magnitude-is-real binary32 v p) in
-    nothing_left binary32 v p (all_whole binary32 v p (le_trans (not-under binary32 (magnitude v) (magnitude-clear v) n h) (le_of_eq (magnitude-size binary32 v)))) ∙ is-euclid v
+    nothing_left binary32 v p (all_whole_lem binary32 v p (le_trans (not-under binary32 (magnitude v) (magnitude-clear v) n h) (le_of_eq (magnitude-size binary32 v)))) ∙ is-euclid v
 
 whole-or-not : (v : Float) → T (fits binary32 v) → (T (lt (magnitude v) (power 23)) → ⊥) → mul binary32 v plus_zero ≡ rem_euclid_one v
 whole-or-not nan g h = not_finite nan (λ p. p) g

@@ -77,8 +77,8 @@ module _ (f : Format) (v : Float) (p : T (real f v)) where
       ∙ ap (λ (t : Bool). fin t 0 (pos 0)) (unlike-clear (sign v) false refl) in
       rw (r, none_below (sign v)) product
 
-  pub all_whole : half f * L ≤ mag f v → rest ≡ 0
-  all_whole h =
+  pub all_whole_lem : half f * L ≤ mag f v → rest ≡ 0
+  all_whole_lem h =
       let (q, e) = held-multiple f (mag f v) (low f) (held-real f v p)
       (let d = doubled f in
       let e : 2 ^ (prec f + low f) ≡ 2 ^ prec f * L = pow-add 2 (prec f) (low f) in

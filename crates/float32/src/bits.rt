@@ -25,7 +25,7 @@ pub fn of_bits(n: u32) -> f32
 
 // A float other than NaN as mant * 2^(expo - 149), negative where neg is true. Infinity counts as
 // 2^128.
-#[derive(Drop)]
+#[derive(Clone, Copy)]
 pub struct Parts {
     pub neg: bool,
     pub mant: u32,

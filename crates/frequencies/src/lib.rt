@@ -1,5 +1,7 @@
 // The frequencies of the bins of a spectrum, and the table of their logarithms. Preparing the table
 // outside the audio callback removes the logarithm from the bins x partials loop.
+#![tactic(auto)]
+
 pub mod rows;
 
 ghost use Rattle.std.specs.Prelude.{◌≡◌, ◌^◌, ◌≤◌, length};

@@ -6,6 +6,8 @@
 // exp(-i/128), that is exp(-square/2) at 64 entries per unit of the square, by the exp of `power`;
 // its rule is proved for all entries together in specs/Rule.antt. `line` interpolates linearly.
 // Error, measured over squares from 0 to 16: from -9e-9 to 8.3e-6, the line being above the curve.
+#![tactic(auto)]
+
 ghost use Rattle.std.specs.Prelude.{◌≡◌, ◌≤◌};
 ghost use Rattle.gaussian.specs.Table.{gaussian_table};
 ghost use Rattle.gaussian.specs.Bell.{Place, position, index_of, part_of, line};
@@ -41,7 +43,7 @@ pub fn position(square: f32) -> f32
 }
 
 // The entry on the left of a position, and the fraction of a step from there.
-#[derive(Drop)]
+#[derive(Clone, Copy)]
 pub struct Step {
     pub index: u32,
     pub part: f32,

@@ -1,2 +1,1 @@
 pub mod Heard
-pub mod Lent

@@ -1,4 +1,6 @@
 // The stereo call on a lent slice of voice records, as the Rust takes them.
+#![tactic(auto)]
+
 ghost use Rattle.std.specs.Prelude.{◌≡◌, ◌<◌, length, get_or};
 ghost use Rattle.answer.specs.Reply.{of_outcome};
 ghost use Rattle.answer.specs.Written.{written};

@@ -1,5 +1,7 @@
 // Document 01's limits, ends included: one test for each, false of NaN. A limit's two ends are
 // constants.
+#![tactic(auto)]
+
 ghost use Rattle.std.specs.Prelude.{◌≡◌};
 ghost use Rattle.limits.specs.Limits.{decibels, frequency, note_depth, width, rolloff};
 ghost use Rattle.limits.specs.Limits.{motion_depth, motion_size, elapsed, fade, rate, level};

@@ -8,7 +8,8 @@ use native.Mathlib.Nat.{lt_of_lt_of_le}
 use borrow.Author.Tests.{eq-eqb}
 use lib.ListN.{length}
 use lib.Ieee.{Float, nan}
-use Rattle.lists.specs.Folds.{first_bad, bad-before}
+use Rattle.lists.specs.Folds.{first_bad}
+use Rattle.lists.proofs.Folds.{bad-before}
 use Rattle.answer.specs.Reply.{of_outcome}
 use Rattle.answer.specs.declared.Outcome.{Outcome}
 use Rattle.answer.specs.Written.{written}

@@ -1,6 +1,8 @@
 // The open calls that fill the frequency table and move the bank of note levels. Each tests what it
 // is given, in the order of document 01's numbers, and then makes one call of the core.
 // `spectral_dsp` passes them on under the Rust's paths.
+#![tactic(auto)]
+
 ghost use Rattle.std.specs.Prelude.{◌≡◌, length};
 ghost use Rattle.answer.specs.Reply.{of_outcome};
 ghost use Rattle.answer.specs.Written.{written};
@@ -15,7 +17,7 @@ use limits::lengths;
 use limits::lengths::{HELD_BYTES, MIDI_NOTES};
 
 // The frequency table, which the caller holds and lends.
-#[derive(Drop)]
+#[derive(Clone, Copy)]
 pub struct MaskWorkspace {}
 
 impl MaskWorkspace {

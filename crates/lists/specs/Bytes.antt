@@ -46,8 +46,9 @@ number-back (suc n) number rest h =
     let p : 256 ^ suc n ≡ 256 ^ n * 256 = pow-suc 256 n in
     let whole = div-add-mod' number 256 in
     let low : number / 256 < 256 ^ n = omega arith in
-    rw (
-      append_assoc front (number % 256 ∷ []) rest,
+    ap (λ (bytes : List ℕ). number_at bytes 0 n * 256 + get_or bytes (0 + n) 0)
+    (append_assoc front (number % 256 ∷ []) rest)
+    ∙ rw (
       zero-add n,
       number-back n (number / 256) (number % 256 ∷ rest) low,
       get_or_at front (number % 256) rest 0 n (length-bytes n (number / 256)),

@@ -1,1 +1,2 @@
 // Laws of lists, for the proofs of other crates: they are in specs/. There is no code.
+#![tactic(auto)]

@@ -6,6 +6,8 @@
 // rises, and interpolation is never above the left entry: so the entry at the least distance bounds
 // the bell at every bin. Two short loops run over the partials of a voice; the first has no table
 // lookup and is vectorized.
+#![tactic(auto)]
+
 ghost use Rattle.std.specs.Prelude.{◌≡◌, cond, ◌≤◌, ◌<◌, length, get_or};
 ghost use Rattle.std.specs.Float.{nan};
 ghost use Rattle.std.specs.Float.Ieee.{lt};

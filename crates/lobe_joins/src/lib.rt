@@ -1,4 +1,6 @@
 // What a lobe opens over a row of bins, joined by maximum to what the bins hold.
+#![tactic(auto)]
+
 ghost use Rattle.std.specs.Prelude.{◌≡◌, ◌+◌, ◌-◌, ◌≤◌, length, get_or};
 ghost use Rattle.std.specs.Float.{nan};
 ghost use Rattle.lists.specs.Maps.{map_range};

@@ -1,4 +1,6 @@
 // One lobe of a mask: the openness that a partial of a voice gives the bins around it.
+#![tactic(auto)]
+
 pub mod distances;
 pub mod grids;
 pub mod octaves;
@@ -6,7 +8,7 @@ pub mod pan;
 pub mod tones;
 
 // What all lobes of a mask share, computed once from its settings.
-#[derive(Drop)]
+#[derive(Clone, Copy)]
 pub struct Grid {
     pub nyquist: f32,
     // The bin spacing in hertz.
@@ -21,7 +23,7 @@ pub struct Grid {
 }
 
 // What all partials of a voice share.
-#[derive(Drop)]
+#[derive(Clone, Copy)]
 pub struct Tone {
     pub fundamental: f32,
     pub level: f32,
@@ -29,7 +31,7 @@ pub struct Tone {
 }
 
 // A partial's lobe.
-#[derive(Drop)]
+#[derive(Clone, Copy)]
 pub struct Lobe {
     pub center: f32,
     // The centre's logarithm, computed once for all bins.

@@ -21,6 +21,7 @@ use Rattle.mask_builder.specs.Centered.{centered, all_centered}
 
 is_true : (b : Bool) → T b → b ≡ true
 is_true true t = refl
+is_true false t = elim t [ ]
 
 -- at the centre every side has the gain of the mono mask
 same-gain : (side : Side) (voice : MaskVoice) → T (eq (pan_of voice) zero) → channel_gain side voice ≡ channel_gain mono voice

@@ -1,5 +1,7 @@
 // The real, non-negative gain masks for an RFFT spectrum: the gain of every bin. Nothing is
 // allocated, so the audio thread may call this.
+#![tactic(auto)]
+
 pub mod centers;
 
 ghost use Rattle.std.specs.Prelude.{◌≡◌, true, ◌+◌, ◌/◌, ◌≤◌, length, take};

@@ -1,6 +1,8 @@
 // The stereo mask builders: the first tests what it is given, and then makes one call of the core;
 // the second lends it the table of its block. `spectral_dsp` passes them on under the Rust's paths;
 // the mono builders are in `mono_calls`.
+#![tactic(auto)]
+
 ghost use Rattle.std.specs.Prelude.{◌≡◌, ◌*◌, min, length, take, drop};
 ghost use Rattle.answer.specs.Reply.{of_outcome};
 ghost use Rattle.answer.specs.Written.{written};

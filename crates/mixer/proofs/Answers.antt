@@ -7,7 +7,7 @@ use lib.ListN.{length, get_or, take, drop}
 use lib.Seq.{length-take-le, drop-cons, get_or-take}
 use Rattle.mixer.specs.declared.Mixer.{Mixer}
 use Rattle.mixer.specs.declared.Named.TheVariants.{Strip, Nobody}
-use Rattle.mixer.specs.Mixers.{strip_count, held_in, line, first_of, turn_names, turned_by}
+use Rattle.mixer.specs.Mixers.{strip_count, held_in, line, first_waiting, turn_names, turned_by}
 use Rattle.mixer.specs.Mixers.{without_first, mixer_turned}
 
 module _ (mixer : Mixer) where
@@ -25,7 +25,7 @@ module _ (mixer : Mixer) where
 
   -- with nobody waiting
   pub names-nobody : held_in mixer ≡ 0 → turn_names mixer ≡ Nobody
-  names-nobody e = ap first_of (line-none e)
+  names-nobody e = ap first_waiting (line-none e)
 
   pub turned-nobody : held_in mixer ≡ 0 → mixer_turned mixer ≡ mixer
   turned-nobody e = ap (λ named. turned_by named mixer) (names-nobody e)
@@ -34,7 +34,7 @@ module _ (mixer : Mixer) where
   pub names-first :
       length mixer.strips ≡ strip_count → 0 < held_in mixer
       → turn_names mixer ≡ Strip (get_or mixer.strips 0 0)
-  names-first whole some = ap first_of (line-some whole some)
+  names-first whole some = ap first_waiting (line-some whole some)
 
   pub turned-first :
       length mixer.strips ≡ strip_count → 0 < held_in mixer → mixer_turned mixer ≡ without_first mixer

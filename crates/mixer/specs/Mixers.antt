@@ -64,12 +64,12 @@ mixer_asked mixer strip = written (request_reply strip) (with_request mixer stri
 -- ---- a turn
 
 -- "a turn names the strip that has waited longest", and with nobody waiting it "names none"
-abbrev pub first_of : List ℕ → Named
-first_of [] = Nobody
-first_of (strip ∷ others) = Strip strip
+abbrev pub first_waiting : List ℕ → Named
+first_waiting [] = Nobody
+first_waiting (strip ∷ others) = Strip strip
 
 abbrev pub turn_names : Mixer → Named
-turn_names mixer = first_of (line mixer)
+turn_names mixer = first_waiting (line mixer)
 
 -- "at its highest value it stays"
 abbrev pub counted : ℕ → ℕ

@@ -1,6 +1,8 @@
 // A mixer of sixteen strips that share one mask builder: the strips that wait for it, in the order
 // in which they asked, and the open calls that file a request and take a turn. What is built is not
 // known here. A mixer is passed by value and handed back beside the answer.
+#![tactic(auto)]
+
 ghost use Rattle.std.specs.Prelude.{◌≡◌, ◌≤◌, ◌<◌, min, take};
 ghost use Rattle.lists.specs.Closing.{closed};
 ghost use Rattle.answer.specs.Reply.{of_outcome};
@@ -16,7 +18,7 @@ pub const STRIPS: usize = 16;
 const MOST_TURNS: u64 = 0xffff_ffff_ffff_ffff;
 
 #[repr(C)]
-#[derive(Drop)]
+#[derive(Clone, Copy)]
 pub struct Mixer {
     // The strips that wait, the one that has waited longest first. What stands from `count` on does
     // not count.
@@ -27,21 +29,21 @@ pub struct Mixer {
 }
 
 // Whom a turn names.
-#[derive(Drop)]
+#[derive(Clone, Copy)]
 pub enum Named {
     Strip(usize),
     Nobody,
 }
 
 // What a request answers, with the mixer beside it.
-#[derive(Drop)]
+#[derive(Clone, Copy)]
 pub struct Filed {
     pub outcome: Outcome,
     pub mixer: Mixer,
 }
 
 // What a turn answers, with the mixer beside it.
-#[derive(Drop)]
+#[derive(Clone, Copy)]
 pub struct Turned {
     pub named: Named,
     pub mixer: Mixer,

@@ -13,7 +13,7 @@ use borrow.Author.Tests.{eqb-true}
 use Rattle.mixer.specs.declared.Mixer.{Mixer}
 use Rattle.mixer.specs.declared.Named.{Named}
 use Rattle.mixer.specs.declared.Named.TheVariants.{Strip}
-use Rattle.mixer.specs.Mixers.{strip_count, line, has, first_of, mixer_asked, turn_names, mixer_turned}
+use Rattle.mixer.specs.Mixers.{strip_count, line, has, first_waiting, mixer_asked, turn_names, mixer_turned}
 use Rattle.mixer_law.specs.Calls.{Call, request, turn, turns}
 use Rattle.mixer_law.specs.Waits.{Event, named, turns_of}
 use Rattle.mixer_law.specs.Mixers.{events_from, told, after}
@@ -82,10 +82,10 @@ in-turn (request other ∷ calls) mixer w s xs ys e h =
     in-turn calls (mixer_asked mixer other) (whole-asked mixer w other) s xs p.0
     (line-asked mixer w other ∙ p.1) h
 in-turn (turn ∷ calls) mixer w s [] ys e h =
-    this-turn s 0 (turn_names mixer) (events_from (mixer_turned mixer) calls) (ap first_of e)
+    this-turn s 0 (turn_names mixer) (events_from (mixer_turned mixer) calls) (ap first_waiting e)
 in-turn (turn ∷ calls) mixer w s (x ∷ xs) ys e h =
     later-turn s (suc (length xs)) (turn_names mixer) (events_from (mixer_turned mixer) calls) x
-    (ap first_of e)
+    (ap first_waiting e)
     (in-turn calls (mixer_turned mixer) (whole-turned mixer w) s xs ys
     (line-turned mixer w ∙ ap (drop 1) e) (omega arith))
 

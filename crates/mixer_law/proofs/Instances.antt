@@ -10,7 +10,7 @@ use Rattle.lists.specs.Folds.{range}
 use Rattle.mixer.specs.declared.Mixer.{Mixer}
 use Rattle.mixer.specs.declared.Named.{Named}
 use Rattle.mixer.specs.declared.Named.TheVariants.{Strip}
-use Rattle.mixer.specs.Mixers.{line, has, first_of, turn_names, mixer_turned}
+use Rattle.mixer.specs.Mixers.{line, has, first_waiting, turn_names, mixer_turned}
 use Rattle.mixer_law.specs.Calls.{Call, request, turn}
 use Rattle.mixer_law.specs.Waits.{Event, named, wait_from, turns_of}
 use Rattle.mixer_law.specs.Mixers.{told, run, events_from, after}
@@ -25,7 +25,7 @@ unfolding events_from turns_of
 turns_alone zero mixer w l e h = refl
 turns_alone (suc n) mixer w [] e h = absurd (omega arith)
 turns_alone (suc n) mixer w (x ∷ xs) e h =
-    first (turn_names mixer) (ap first_of e)
+    first (turn_names mixer) (ap first_waiting e)
     (turns_alone n (mixer_turned mixer) (whole-turned mixer w) xs
     (line-turned mixer w ∙ ap (drop 1) e) (omega arith))
   where

@@ -5,7 +5,7 @@ use Prim.Native.Nat.{ℕ, ◌<◌}
 use native.Mathlib.Omega.{arith}
 use borrow.Author.Tests.{eq-eqb, ne_eqb, lt-leb}
 use Rattle.mixer.specs.declared.Named.TheVariants.{Strip, Nobody}
-use Rattle.mixer.specs.Mixers.{strip_count, line, has, first_of, turn_names, turned_by}
+use Rattle.mixer.specs.Mixers.{strip_count, line, has, first_waiting, turn_names, turned_by}
 use Rattle.mixer_law.specs.Calls.{Call}
 use Rattle.mixer_law.specs.Waits.{Wait, none, since, wait_of}
 use Rattle.mixer_law.specs.Mixers.{after, events}
@@ -19,13 +19,13 @@ module _ (calls : List Call) where
   abbrev f : Fit (fits calls).then (λ strip. wait_of strip (events calls)) (after calls)
   f = (fits calls).fit
 
-  names-entry : turn_names (after calls) ≡ first_of (strips f.entries)
-  names-entry = ap first_of f.line-is
+  names-entry : turn_names (after calls) ≡ first_waiting (strips f.entries)
+  names-entry = ap first_waiting f.line-is
 
   -- the first entry, where a strip is named
   longest-entry :
       (strip : ℕ) (es : List Entry) → f.entries ≡ es → Rising es
-      → first_of (strips es) ≡ Strip strip → Longest calls strip
+      → first_waiting (strips es) ≡ Strip strip → Longest calls strip
   unfolding Rising look
   longest-entry strip [] p r q = let z : ◌≡◌ {A = ℕ} 0 1 = cc in absurd (omega arith)
   longest-entry strip (e ∷ es) p r q =
@@ -44,7 +44,7 @@ module _ (calls : List Call) where
 
   -- no entry, where nobody is
   none-entry :
-      (es : List Entry) → f.entries ≡ es → first_of (strips es) ≡ Nobody → f.entries ≡ []
+      (es : List Entry) → f.entries ≡ es → first_waiting (strips es) ≡ Nobody → f.entries ≡ []
   none-entry [] p q = p
   none-entry (e ∷ es) p q = let z : ◌≡◌ {A = ℕ} 0 1 = cc in absurd (omega arith)
 
@@ -88,5 +88,5 @@ pub nobody-named : NobodyNamed
 nobody-named calls w =
     let empty = no-entry calls w (f calls).entries refl in
     let e : turn_names (after calls) ≡ Nobody =
-    names-entry calls ∙ ap (λ (es : List Entry). first_of (strips es)) empty in
+    names-entry calls ∙ ap (λ (es : List Entry). first_waiting (strips es)) empty in
     (e, ap (λ named. turned_by named (after calls)) e)

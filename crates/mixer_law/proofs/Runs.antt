@@ -13,7 +13,7 @@ use borrow.Author.Tests.{leb-true, leb-false, lt-leb}
 use Rattle.lists.specs.Totals.{All, all_append, all_drop}
 use Rattle.lists.specs.Mapped.{map-append}
 use Rattle.mixer.specs.declared.Mixer.{Mixer}
-use Rattle.mixer.specs.Mixers.{strip_count, fresh, line, has, first_of, mixer_asked, mixer_turned}
+use Rattle.mixer.specs.Mixers.{strip_count, fresh, line, has, first_waiting, mixer_asked, mixer_turned}
 use Rattle.mixer_law.specs.Calls.{Call, request, turn}
 use Rattle.mixer_law.specs.Waits.{Wait, none, wait_after, wait_from, wait_of, asked}
 use Rattle.mixer_law.specs.Mixers.{event_of, stepped, run, events_from, told, after, events}
@@ -135,7 +135,7 @@ module _ (now : ℕ) (waits : ℕ → Wait) (mixer : Mixer) (f : Fit now waits m
     where
       taken :
           (s : ℕ) (es : List Entry) → Once (strips es)
-          → wait_after s now (look s es) (told (first_of (strips es))) ≡ look s (drop 1 es)
+          → wait_after s now (look s es) (told (first_waiting (strips es))) ≡ look s (drop 1 es)
       taken s [] o = refl
       taken s (e ∷ es) o = named-first now s e es (once-first e.strip (strips es) o)
 

@@ -1,5 +1,7 @@
 // The strips of a mixer and one mask builder: the open call that takes a turn and builds the masks
 // of the strip that it names.
+#![tactic(auto)]
+
 ghost use Rattle.std.specs.Prelude.{◌≡◌, ◌<◌, length};
 ghost use Rattle.answer.specs.Reply.{of_outcome};
 ghost use Rattle.answer.specs.Written.{written};
@@ -15,7 +17,7 @@ use scene::Scene;
 
 // What a turn with its scene answers: whom it named, what the stereo call answered to that strip's
 // scene, and the mixer.
-#[derive(Drop)]
+#[derive(Clone, Copy)]
 pub struct Served {
     pub named: Named,
     pub outcome: Outcome,

@@ -1,5 +1,7 @@
 // The mono mask builders: each tests what it is given, and then makes one call of the core.
 // `spectral_dsp` passes them on under the Rust's paths; the stereo builders are in `mask_calls`.
+#![tactic(auto)]
+
 ghost use Rattle.std.specs.Prelude.{◌≡◌, length, take};
 ghost use Rattle.answer.specs.Reply.{of_outcome};
 ghost use Rattle.answer.specs.Written.{written};

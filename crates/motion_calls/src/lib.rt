@@ -1,5 +1,7 @@
 // The open calls on the moving field: each tests what it is given and then makes one call of the
 // core. `spectral_dsp` passes them on under the Rust's paths.
+#![tactic(auto)]
+
 ghost use Rattle.std.specs.Prelude.{◌≡◌};
 ghost use Rattle.answer.specs.Reply.{of_answer};
 ghost use Rattle.motion_calls.specs.Motion.{openness_reply, attenuation_reply};

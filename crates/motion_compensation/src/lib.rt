@@ -5,6 +5,8 @@
 // highest-frequency bins. The cap prevents very narrow, deep Scan or Harmonic settings from
 // producing unsafe boosts. The sample positions do not depend on the field, so they are constants
 // (octaves.rt).
+#![tactic(auto)]
+
 mod octaves;
 
 ghost use Rattle.std.specs.Prelude.{◌≡◌, false, length};

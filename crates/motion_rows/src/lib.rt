@@ -2,6 +2,8 @@
 //
 // Method. One short loop per stage over the same row: frequencies relative to the lowest shown,
 // their octaves, the openness, decibels, gains.
+#![tactic(auto)]
+
 pub mod shapes;
 
 ghost use Rattle.std.specs.Prelude.{◌≡◌, cond, ◌+◌, ◌^◌, ◌≤◌, length};

@@ -33,7 +33,7 @@ const ROW: usize = 256;
 fn angles(row: &mut [f32], size: f32, phase: f32, count: usize)
     requires { count ≤ length row.old }
     ensures { row.new ≡ map_range
-        (λ k x. mul binary32 constants.TAU (sub binary32 (div binary32 x size) phase)) 0 count
+        (λ k x. mul binary32 constants.tau (sub binary32 (div binary32 x size) phase)) 0 count
         row.old }
 {
     let mut k: usize = 0;

@@ -1,19 +1,17 @@
 // Prints the frequency of each of the 128 notes in whole micro-hertz, rounded down.
-use libc::STDOUT_FILENO;
+#![tactic(auto)]
 
-fn print_note(note: u8) {
-    io::print_decimal(STDOUT_FILENO, note as u64);
-    io::write_all(STDOUT_FILENO, b" ");
-    io::print_decimal(
-        STDOUT_FILENO,
-        counts::millionths(pitch::note_hertz(note, 0.0)),
-    );
-    io::write_all(STDOUT_FILENO, b"\n");
+use std::io;
+
+fn print_note(rt: &impl Print, note: u8) -> io::Result<()> {
+    let microhertz = counts::millionths(pitch::note_hertz(note, 0.0));
+    println!(rt; "{note} {microhertz}")
 }
 
-fn main() {
-    io::write_all(STDOUT_FILENO, b"note microhertz\n");
+fn main(rt: HostRuntime) -> io::Result<()> {
+    println!(rt; "note microhertz")?;
     for note in 0u8..128 {
-        print_note(note);
+        print_note(&rt, note)?;
     }
+    Ok(())
 }

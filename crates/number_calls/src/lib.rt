@@ -1,6 +1,8 @@
 // The open calls that answer a gain of the gate or of the drawn curve: each tests what it is given,
 // in the order of document 01's numbers, and then makes one call of the core. `spectral_dsp` passes
 // them on under the Rust's paths; those on the moving field are in `motion_calls`.
+#![tactic(auto)]
+
 ghost use Rattle.std.specs.Prelude.{◌≡◌};
 ghost use Rattle.answer.specs.Reply.{of_answer};
 ghost use Rattle.number_calls.specs.Gates.{note_emphasis_gain, note_gate_gain, manual_gain_at_bin};

@@ -1,5 +1,7 @@
 // The open calls of oiko-dsp: each tests its arguments and answers with the number or with the
 // refusal.
+#![tactic(auto)]
+
 ghost use Rattle.std.specs.Prelude.{◌≡◌};
 ghost use Rattle.answer.specs.Reply.{of_answer};
 ghost use Rattle.oiko_dsp.specs.Calls.{db_to_gain, note_frequency, note_frequency_with_tuning};

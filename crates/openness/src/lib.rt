@@ -1,4 +1,6 @@
 // How far the voices open each bin.
+#![tactic(auto)]
+
 ghost use Rattle.std.specs.Prelude.{◌≡◌, true, length, take};
 ghost use Rattle.lists.specs.Maps.{tabulate};
 ghost use Rattle.lobes.specs.Pan as side;
@@ -23,7 +25,7 @@ pub mod raise;
 pub mod voices;
 
 // How the voices of a scene are raised: the same for all of them.
-#[derive(Drop)]
+#[derive(Clone, Copy)]
 pub struct Way {
     // bins by a lent table of logarithms
     pub tabled: bool,

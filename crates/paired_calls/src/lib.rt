@@ -1,6 +1,8 @@
 // Two calls made one after the other on lent buffers, with a law on the two as the contract: the
 // chord law, that the order of arrival in a bank of voices is not audible, and that a prepared
 // block gives the stereo call the prepared table.
+#![tactic(auto)]
+
 ghost use Rattle.std.specs.Prelude.{◌≡◌, length};
 ghost use Rattle.answer.specs.Reply.{of_outcome, of_prepared};
 ghost use Rattle.prepared_law.specs.Calls.{new_of, stereo_of, built_of, new_reply};
@@ -22,7 +24,7 @@ use scene::{MaskConfig, MaskVoice};
 use voice_bank::Bank;
 
 // What two calls answer.
-#[derive(Drop)]
+#[derive(Clone, Copy)]
 pub struct Outcomes {
     pub a: Outcome,
     pub b: Outcome,
@@ -99,7 +101,7 @@ pub fn read_two_banks(
 }
 
 // What a call that fills a block and a stereo call by it answer.
-#[derive(Drop)]
+#[derive(Clone, Copy)]
 pub struct Answers {
     pub prepared: Prepared,
     pub masks: Outcome,

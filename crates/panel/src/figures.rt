@@ -1,50 +1,52 @@
 // Prints text, right-aligned numbers and gains in decibels on standard output.
-use libc::STDOUT_FILENO;
+use std::io;
 
-pub fn print(text: &[u8]) {
-    io::write_all(STDOUT_FILENO, text);
+pub fn print(rt: &impl Print, text: &[u8]) -> io::Result<()> {
+    rt.write_all(text)
 }
 
-pub fn print_count(n: usize) {
-    io::print_decimal(STDOUT_FILENO, n as u64);
+pub fn print_count(rt: &impl Print, n: usize) -> io::Result<()> {
+    print!(rt; "{n}")
 }
 
-fn print_spaces(count: usize) {
-    let mut left = count;
-    while 0 < left {
-        print(b" ");
-        left -= 1;
+fn print_spaces(rt: &impl Print, count: usize) -> io::Result<()> {
+    for _ in 0..count {
+        print(rt, b" ")?;
     }
+    Ok(())
 }
 
 // The spaces that right-align a text of that length in the column.
-fn print_margin(width: usize, length: usize) {
+fn print_margin(rt: &impl Print, width: usize, length: usize) -> io::Result<()> {
     if length < width {
-        print_spaces(width - length);
+        print_spaces(rt, width - length)?;
     }
+    Ok(())
 }
 
-pub fn print_in_column(width: usize, n: u64) {
-    let mut text = [0u8; 20];
-    let digits = io::decimal(n, &mut text);
-    print_margin(width, digits);
-    print(&text[..digits]);
+pub fn print_in_column(rt: &impl Print, width: usize, n: u64) -> io::Result<()> {
+    print!(rt; "{n:>width$}")
 }
 
 pub fn decibels(gain: f32) -> f32 {
     20.0 * single_power::log10(gain)
 }
 
+// The number of decimal digits; 0 has one.
+fn digits(n: u64) -> usize {
+    match n.checked_ilog10() {
+        Some(below) => below as usize + 1,
+        None => 1,
+    }
+}
+
 // n hundredths, with two decimals.
-fn print_hundredths(width: usize, sign: &[u8], n: u64) {
-    let mut text = [0u8; 20];
-    let digits = io::decimal(n / 100, &mut text);
-    print_margin(width, std::num::wrapping_add_usize(digits, sign.len() + 3));
-    print(sign);
-    print(&text[..digits]);
-    print(b".");
-    print_in_column(1, n / 10 % 10);
-    print_in_column(1, n % 10);
+fn print_hundredths(rt: &impl Print, width: usize, sign: &[u8], n: u64) -> io::Result<()> {
+    let whole = n / 100;
+    let length = digits(whole).wrapping_add(sign.len() + 3);
+    print_margin(rt, width, length)?;
+    print(rt, sign)?;
+    print!(rt; "{whole}.{:02}", n % 100)
 }
 
 // The magnitude in hundredths, rounded to the nearest, halves away from 0.
@@ -53,16 +55,14 @@ fn hundredths(db: f32) -> u64 {
 }
 
 // To the nearest hundredth; silence has no logarithm.
-pub fn print_decibels(width: usize, gain: f32) {
+pub fn print_decibels(rt: &impl Print, width: usize, gain: f32) -> io::Result<()> {
     if gain == 0.0 {
-        print_margin(width, 4);
-        print(b"-inf");
-        return;
+        print_margin(rt, width, 4)?;
+        return print(rt, b"-inf");
     }
     let db = decibels(gain);
     if db < 0.0 {
-        print_hundredths(width, b"-", hundredths(db));
-        return;
+        return print_hundredths(rt, width, b"-", hundredths(db));
     }
-    print_hundredths(width, b"", hundredths(db));
+    print_hundredths(rt, width, b"", hundredths(db))
 }

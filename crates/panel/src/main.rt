@@ -1,5 +1,7 @@
 // Builds both masks of a chord and prints their gains at its partials; with the argument --plot it
 // writes a drawing of them in SVG.
+#![tactic(auto)]
+
 mod chord;
 mod figures;
 mod plot;
@@ -7,25 +9,28 @@ mod rows;
 
 use answer::Outcome;
 use chord::BINS;
-use figures::{print, print_count};
+use figures::print;
+use std::env::{Env, FillError};
+use std::io;
 
-fn print_refusal(number: u8, place: usize) {
-    print(b"refused ");
-    print_count(number as usize);
-    print(b" ");
-    print_count(place);
-    print(b"\n");
+fn print_refusal(rt: &impl Print, number: u8, place: usize) -> io::Result<()> {
+    println!(rt; "refused {number} {place}")
 }
 
-fn show(plotted: bool, table: &[f32; BINS], left: &[f32; BINS], right: &[f32; BINS]) {
+fn show(
+    rt: &impl Print,
+    plotted: bool,
+    table: &[f32; BINS],
+    left: &[f32; BINS],
+    right: &[f32; BINS],
+) -> io::Result<()> {
     if plotted {
-        plot::print_plot(table, left, right);
-        return;
+        return plot::print_plot(rt, table, left, right);
     }
-    rows::print_rows(left, right);
+    rows::print_rows(rt, left, right)
 }
 
-fn build_and_show(plotted: bool, table: &[f32; BINS]) {
+fn build_and_show(rt: &impl Print, plotted: bool, table: &[f32; BINS]) -> io::Result<()> {
     let mut left = [0.0f32; BINS];
     let mut right = [0.0f32; BINS];
     let curve = chord::curve();
@@ -39,12 +44,12 @@ fn build_and_show(plotted: bool, table: &[f32; BINS]) {
         table,
     );
     match outcome {
-        Outcome::Done => show(plotted, table, &left, &right),
-        Outcome::Refused(number, place) => print_refusal(number, place),
+        Outcome::Done => show(rt, plotted, table, &left, &right),
+        Outcome::Refused(number, place) => print_refusal(rt, number, place),
     }
 }
 
-fn run(plotted: bool) {
+fn run(rt: &impl Print, plotted: bool) -> io::Result<()> {
     let mut table = [0.0f32; BINS];
     let outcome = spectral_dsp::MaskWorkspace::prepare(
         &mut table,
@@ -52,35 +57,32 @@ fn run(plotted: bool) {
         chord::FFT_SIZE,
     );
     match outcome {
-        Outcome::Done => build_and_show(plotted, &table),
-        Outcome::Refused(number, place) => print_refusal(number, place),
+        Outcome::Done => build_and_show(rt, plotted, &table),
+        Outcome::Refused(number, place) => print_refusal(rt, number, place),
     }
 }
 
 fn same(a: &[u8], b: &[u8]) -> bool {
-    if a.len() != b.len() {
-        return false;
-    }
-    let mut i: usize = 0;
-    while i < a.len() {
-        if a[i] != b[i] {
-            return false;
-        }
-        i += 1;
-    }
-    true
+    a == b
 }
 
-fn main() {
-    if os::arg_count() < 2 {
-        run(false);
-        return;
+fn print_usage(rt: &impl Print) -> io::Result<()> {
+    print(rt, b"usage: panel [--plot]\n")
+}
+
+// Does what the argument says.
+fn run_with(rt: &impl Print, word: &[u8]) -> io::Result<()> {
+    if same(word, b"--plot") {
+        return run(rt, true);
     }
-    let mut word = io::buffer();
-    let n = os::arg(1, &mut word);
-    if same(&word[..n], b"--plot") {
-        run(true);
-        return;
+    print_usage(rt)
+}
+
+fn main(rt: HostRuntime) -> io::Result<()> {
+    let mut word = [0u8; 4096];
+    match rt.arg(1, &mut word) {
+        Ok(n) => run_with(&rt, &word[..n]),
+        Err(FillError::NotPresent) => run(&rt, false),
+        Err(FillError::TooLong) => print_usage(&rt),
     }
-    print(b"usage: panel [--plot]\n");
 }

@@ -5,6 +5,7 @@ use crate::figures::{print, print_decibels, print_in_column};
 use answer::Answer;
 use counts::floor_to_count;
 use scene::{MaskVoice, Pitch};
+use std::io;
 
 fn mark(marked: &mut [bool; BINS], bin: usize) {
     if bin < BINS {
@@ -44,30 +45,40 @@ fn mark_chord(marked: &mut [bool; BINS]) {
     }
 }
 
-fn print_row(bin: u16, left: f32, right: f32) {
-    print_in_column(4, bin as u64);
-    print_in_column(7, floor_to_count(bin as f32 * BIN_HZ) as u64);
-    print_in_column(12, counts::millionths(left));
-    print_in_column(12, counts::millionths(right));
-    print_decibels(10, left);
-    print_decibels(10, right);
-    print(b"\n");
+fn print_row(rt: &impl Print, bin: u16, left: f32, right: f32) -> io::Result<()> {
+    print_in_column(rt, 4, bin as u64)?;
+    print_in_column(rt, 7, floor_to_count(bin as f32 * BIN_HZ) as u64)?;
+    print_in_column(rt, 12, counts::millionths(left))?;
+    print_in_column(rt, 12, counts::millionths(right))?;
+    print_decibels(rt, 10, left)?;
+    print_decibels(rt, 10, right)?;
+    print(rt, b"\n")
 }
 
-fn print_heading() {
-    print(b"C minor seventh at 48000 Hz, size 8192: the bins closest to its partials\n");
-    print(b"                   gain, millionths            decibels\n");
-    print(b" bin  hertz        left       right      left     right\n");
+fn print_heading(rt: &impl Print) -> io::Result<()> {
+    print(
+        rt,
+        b"C minor seventh at 48000 Hz, size 8192: the bins closest to its partials\n",
+    )?;
+    print(
+        rt,
+        b"                   gain, millionths            decibels\n",
+    )?;
+    print(
+        rt,
+        b" bin  hertz        left       right      left     right\n",
+    )
 }
 
-pub fn print_rows(left: &[f32; BINS], right: &[f32; BINS]) {
-    print_heading();
+pub fn print_rows(rt: &impl Print, left: &[f32; BINS], right: &[f32; BINS]) -> io::Result<()> {
+    print_heading(rt)?;
     let mut marked = [false; BINS];
     mark_chord(&mut marked);
     for bin in 0u16..4097 {
         let at = bin as usize;
         if marked[at] {
-            print_row(bin, left[at], right[at]);
+            print_row(rt, bin, left[at], right[at])?;
         }
     }
+    Ok(())
 }

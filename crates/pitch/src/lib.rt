@@ -1,4 +1,6 @@
 // The pitch of a note.
+#![tactic(auto)]
+
 ghost use Rattle.std.specs.Prelude.{◌≡◌};
 ghost use Rattle.pitch.specs.Pitch.{note_hertz};
 

@@ -14,7 +14,7 @@ use lib.Ieee.Fits.{and_l, and_r}
 use Rattle.lists.specs.Tested.{every, every-at, all_below, below_at}
 use Rattle.lists.specs.Interpolation.{here_or_on}
 use Rattle.power.specs.Table.{high_bits, power_table, P}
-use Rattle.power.specs.Rules.{P-rule}
+use Rattle.power.proofs.Rules.{P-rule}
 use Rattle.power.specs.Log.{greatest}
 use Rattle.power.specs.Stages.{guessed, guess_of}
 use Rattle.power.proofs.Interpolated.{p-mono}

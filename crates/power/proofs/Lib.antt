@@ -1,3 +1,4 @@
+pub mod Rules
 pub mod Entries
 pub mod Interpolated
 pub mod Rising

@@ -11,7 +11,7 @@ use lib.Ieee.{Float, size}
 use lib.Ieee.Bits.{is_true}
 use lib.Ieee.Digits.{size-lt}
 use Rattle.power.specs.Table.{low_bits, P, I}
-use Rattle.power.specs.Rules.{P-rule}
+use Rattle.power.proofs.Rules.{P-rule}
 use Rattle.power.specs.Log.{greatest, positive_normal, units_of, rounded, log_at, log_of, L2}
 use Rattle.power.specs.Stages.{guess_of}
 use Rattle.power.proofs.Division.{found-by-division}

@@ -17,7 +17,8 @@ use Rattle.float_laws.specs.Units.{number, real}
 use Rattle.float_laws.specs.Round.{round_number}
 use Rattle.float_laws.specs.Bounds.{real-between}
 use Rattle.power.specs.Table.{power_table, I}
-use Rattle.power.specs.Rules.{Roots, P-rule}
+use Rattle.power.specs.Rules.{Roots}
+use Rattle.power.proofs.Rules.{P-rule}
 use Rattle.power.specs.Power.{positive_zero, largest, lowest, limit}
 use Rattle.power.specs.Log.{greatest, least_normal, positive_normal, units_of, rounded, log_at, log_of, L2}
 use Rattle.power.proofs.Division.{found-by-division}

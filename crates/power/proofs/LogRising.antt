@@ -17,7 +17,8 @@ use lib.Ieee.Scale.{overflow}
 use Rattle.float_laws.specs.Units.{keyed, key→le}
 use Rattle.float_laws.specs.Round.{rnd, rnd-mono, round_number, key-round}
 use Rattle.lists.specs.Interpolation.{interp}
-use Rattle.power.specs.Rules.{Roots, P-rule}
+use Rattle.power.specs.Rules.{Roots}
+use Rattle.power.proofs.Rules.{P-rule}
 use Rattle.power.specs.Log.{greatest, positive_normal, units_of, rounded, log_at, log_of, L2}
 use Rattle.power.proofs.Interpolated.{interp-first}
 use Rattle.power.proofs.Greatest.{greatest-mono}

@@ -16,7 +16,8 @@ use lib.Ieee.Exact.{HasValue}
 use borrow.Author.Tests.{lt-ltb, le-ltb}
 use Rattle.lists.specs.Interpolation.{interp}
 use Rattle.power.specs.Table.{low_bits, P, I}
-use Rattle.power.specs.Rules.{Roots, P-rule}
+use Rattle.power.specs.Rules.{Roots}
+use Rattle.power.proofs.Rules.{P-rule}
 use Rattle.power.specs.Power.{positive_zero}
 use Rattle.power.specs.Log.{greatest, positive_normal, rounded, log_at, log_of, L2}
 use Rattle.power.proofs.Interpolated.{interp-first}

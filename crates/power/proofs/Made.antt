@@ -13,7 +13,7 @@ use lib.Ieee.Bits.{cond_no}
 use Rattle.float32.specs.Value.{moved}
 use Rattle.float32.proofs.Made.{made, made-no-nan}
 use Rattle.power.specs.Table.{low_bits, P, I}
-use Rattle.power.specs.Rules.{P-rule}
+use Rattle.power.proofs.Rules.{P-rule}
 use Rattle.power.specs.Power.{positive_zero, largest, power_at, power_of, E2}
 use Rattle.power.proofs.Interpolated.{interp-low, interp-high}
 

@@ -20,7 +20,7 @@ use Rattle.float32.specs.Value.{moved}
 use Rattle.float32.proofs.Made.{made}
 use Rattle.lists.specs.Interpolation.{interp}
 use Rattle.power.specs.Table.{low_bits, power_table, P, I}
-use Rattle.power.specs.Rules.{P-rule}
+use Rattle.power.proofs.Rules.{P-rule}
 use Rattle.power.specs.Power.{positive_zero, largest, power_at, power_of, E2, lowest, limit}
 use Rattle.power.specs.Log.{least_normal, positive_normal}
 use Rattle.power.proofs.Interpolated.{interp-low, interp-high}

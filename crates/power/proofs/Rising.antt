@@ -16,7 +16,8 @@ use Rattle.float32.specs.Value.{moved}
 use Rattle.float32.proofs.Floor.{moved-mono}
 use Rattle.lists.specs.Interpolation.{interp}
 use Rattle.power.specs.Table.{high_bits, P}
-use Rattle.power.specs.Rules.{Roots, P-rule}
+use Rattle.power.specs.Rules.{Roots}
+use Rattle.power.proofs.Rules.{P-rule}
 use Rattle.power.specs.Power.{positive_zero, largest, power_at, power_of, E2}
 use Rattle.power.specs.Rising.{PowersNeverFall, E2NeverFalls}
 use Rattle.power.proofs.Interpolated.{interp-low, interp-high, interp-mono}

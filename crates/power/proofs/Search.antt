@@ -9,7 +9,7 @@ use native.Mathlib.Omega.{arith}
 use lib.Pow.{pow_pos}
 use Rattle.lists.specs.Interpolation.{here_or_on}
 use Rattle.power.specs.Table.{high_bits, low_bits, power_table, P, I}
-use Rattle.power.specs.Rules.{P-rule}
+use Rattle.power.proofs.Rules.{P-rule}
 use Rattle.power.specs.Log.{greatest}
 use Rattle.power.proofs.Interpolated.{p-mono, p-top}
 use Rattle.power.proofs.Greatest.{Greatest, is-greatest, greatest-unique}

@@ -14,7 +14,7 @@ use lib.Seq.{drop_at}
 use lib.Ieee.{Float, nan, binary32, fits}
 use lib.Ieee.Bits.{is_true}
 use Rattle.lists.specs.Maps.{tabulate, length-tab}
-use Rattle.lists.specs.Folds.{bad-none}
+use Rattle.lists.proofs.Folds.{bad-none}
 use Rattle.float_laws.specs.Classes.{dual_at}
 use Rattle.answer.specs.Reply.{Reply, done, refused}
 use Rattle.answer.specs.Written.{written}

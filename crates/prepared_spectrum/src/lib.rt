@@ -1,6 +1,8 @@
 // Prepared analysis/synthesis windows and frequency lookup for one FFT size, in one block: window,
 // its dual, smooth window, its dual, logarithms. Filled during activation; processing only reads
 // it.
+#![tactic(auto)]
+
 ghost use Rattle.std.specs.Prelude.{◌≡◌, ◌*◌, ◌≤◌, ◌<◌, length};
 ghost use Rattle.limits.specs.Lengths.{most_size, block_length};
 ghost use Rattle.prepared_spectrum.specs.Block.{pair_of, block_of};

@@ -11,9 +11,9 @@ use lib.Dec.{T}
 use lib.ListN.{length, get_or}
 use lib.Ieee.{Float, nan, binary32, fits, le, of_bits, of_fields, odd}
 use lib.Ieee.Fits.{and_l, and_r}
-use Rattle.lists.specs.Folds.{bad-before}
+use Rattle.lists.proofs.Folds.{bad-before}
 use Rattle.float_laws.specs.Window.{sixteen}
-use Rattle.float_laws.specs.Classes.{dual-window-bound}
+use Rattle.float_laws.proofs.Classes.{dual-window-bound}
 use Rattle.float32.specs.Order.{within}
 use Rattle.limits.specs.Limits as limits
 use Rattle.windows.specs.Windows.{dual_of}

@@ -1,6 +1,8 @@
 // The open calls on windows and gain lists, and `PreparedSpectrum`. Each tests what it is given, in
 // the order of document 01's numbers, and then makes one call of the core. `spectral_dsp` passes
 // them on under the Rust's paths.
+#![tactic(auto)]
+
 ghost use Rattle.std.specs.Prelude.{◌≡◌, [], length};
 ghost use Rattle.answer.specs.Reply.{done, of_outcome, of_prepared};
 ghost use Rattle.answer.specs.Written.{written};
@@ -95,7 +97,7 @@ pub fn smooth_mask_in_db(current: &mut [f32], target: &[f32], elapsed_seconds: f
 
 // Prepared analysis and synthesis windows and frequency lookup for one size, in a block that the
 // caller holds and lends.
-#[derive(Drop)]
+#[derive(Clone, Copy)]
 pub struct PreparedSpectrum {}
 
 impl PreparedSpectrum {

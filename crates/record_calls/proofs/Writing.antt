@@ -9,7 +9,7 @@ use lib.Dec.{T, eqb, eqb→eq, ltb, leb, leb→le}
 use lib.Ieee.Fits.{and_l, and_r}
 use lib.ListN.{length, get_or, length-append, length-take}
 use Rattle.lists.specs.Totals.{All}
-use Rattle.lists.specs.Folds.{bad-le}
+use Rattle.lists.proofs.Folds.{bad-le}
 use Rattle.lists.specs.Entries.{all-places}
 use Rattle.lists.specs.Stores.{stored, stored-append, stored-all}
 use Rattle.answer.specs.Reply.{Reply}

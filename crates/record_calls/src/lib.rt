@@ -1,5 +1,7 @@
 // Scene records: the open calls that write a scene as bytes and read it back. Each tests what it is
 // given first.
+#![tactic(auto)]
+
 ghost use Rattle.std.specs.Prelude.{◌≡◌, length};
 ghost use Rattle.answer.specs.Reply.{of_outcome};
 ghost use Rattle.answer.specs.Written.{written};
@@ -15,7 +17,7 @@ use refusals::{first, of_settings, of_voices};
 use scene::{Scene, blank_scene, held};
 
 // What `read_scene` answers, with the record's scene beside it; where it is refused, a blank one.
-#[derive(Drop)]
+#[derive(Clone, Copy)]
 pub struct SceneRead {
     pub outcome: Outcome,
     pub scene: Scene,

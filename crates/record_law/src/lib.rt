@@ -1,5 +1,7 @@
 // The promises of scene records, each as the contract of two calls made one after the other. The
 // statements are in specs/.
+#![tactic(auto)]
+
 ghost use Rattle.std.specs.Prelude.{◌≡◌, length};
 ghost use Rattle.answer.specs.Reply.{of_outcome};
 ghost use Rattle.record_calls.specs.Records.{read_reply, write_reply, scene_read};
@@ -10,7 +12,7 @@ use record_calls::{SceneRead, read_scene, write_scene};
 use scene::Scene;
 
 // What a write answers, and a read.
-#[derive(Drop)]
+#[derive(Clone, Copy)]
 pub struct Answers {
     pub written: Outcome,
     pub read: SceneRead,
@@ -47,7 +49,7 @@ pub fn read_then_write(record: &[u8], copy: &mut [u8]) -> Answers
 }
 
 // What two reads answer.
-#[derive(Drop)]
+#[derive(Clone, Copy)]
 pub struct TwoRead {
     pub a: SceneRead,
     pub b: SceneRead,

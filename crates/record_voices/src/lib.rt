@@ -1,4 +1,6 @@
 // The voices of a scene record: a byte for the pitch's form and note, then seven floats.
+#![tactic(auto)]
+
 ghost use Rattle.std.specs.Prelude.{◌≡◌, ◌+◌, ◌*◌, ◌≤◌, length, take, drop};
 ghost use Rattle.lists.specs.Totals.{All};
 ghost use Rattle.lists.specs.Stores.{stored};

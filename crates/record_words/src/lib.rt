@@ -1,4 +1,6 @@
 // The bytes of a scene record: whole numbers and floats, the most significant byte first.
+#![tactic(auto)]
+
 ghost use Rattle.std.specs.Prelude.{◌≡◌, ◌+◌, ◌/◌, ◌%◌, ◌^◌, ◌≤◌, ◌<◌, length, drop};
 ghost use Rattle.lists.specs.Bytes.{number_at, bytes_of};
 ghost use Rattle.lists.specs.Stores.{stored};

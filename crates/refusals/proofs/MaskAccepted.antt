@@ -11,7 +11,7 @@ use lib.Ieee.{Float, nan}
 use lib.Ieee.Fits.{and_l, and_r}
 use lib.ListN.{length, get_or, take, length-take}
 use lib.Pow.{pow_mono}
-use Rattle.lists.specs.Folds.{bad-before}
+use Rattle.lists.proofs.Folds.{bad-before}
 use Rattle.answer.specs.Reply.{Reply, done, refused}
 use Rattle.limits.specs.Limits as limits
 use Rattle.limits.proofs.Sizes.{size-power}

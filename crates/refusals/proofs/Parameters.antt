@@ -31,7 +31,7 @@ use Rattle.scene.specs.F32.{F32Pitch, F32Voice, F32Settings, F32Voices}
 pub held : {b : Bool} → b ≡ true → T b
 held e = subst T (sym e) tt
 
-each_at : (d : Type 0) (f : d → List Val → Fml) (xs : List d) (us : List Val) → shadow (each d f xs us) → (i : ℕ) (e : d) → i < length xs → (u : Val) × shadow (f (get_or xs i e) (u ∷ []))
+pub each_at : (d : Type 0) (f : d → List Val → Fml) (xs : List d) (us : List Val) → shadow (each d f xs us) → (i : ℕ) (e : d) → i < length xs → (u : Val) × shadow (f (get_or xs i e) (u ∷ []))
 each_at d f [] us s i e h = absurd (not-suc-le-zero h)
 each_at d f (x ∷ xs) [] s i e h = absurd s
 each_at d f (x ∷ xs) (u ∷ us) s zero e h = (u, s.0)
@@ -61,20 +61,6 @@ voices-f32 n voices vs told i h =
     let e = each_at MaskVoice (row voice-type.the_type).own_val voices told.0 told.1.1 i no_voice h in
     voice-f32 (get_or voices i no_voice) (e.0 ∷ []) e.1
 
--- the same of an array that is a field of a struct, where each voice stands as the tuple of its
--- fields
-pub each-into : (d e : Type 0) (g : d → e) (f : e → List Val → Fml) (xs : List d) (us : List Val) → shadow (each e f (map g xs) us) → (i : ℕ) (x : d) → i < length xs → (u : Val) × shadow (f (g (get_or xs i x)) (u ∷ []))
-each-into d e g f [] us s i z h = absurd (not-suc-le-zero h)
-each-into d e g f (x ∷ xs) [] s i z h = absurd s
-each-into d e g f (x ∷ xs) (u ∷ us) s zero z h = (u, s.0)
-each-into d e g f (x ∷ xs) (u ∷ us) s (suc i) z h = each-into d e g f xs us s.1 i z (le_of_suc-le-suc h)
-
-scene-voices-f32 : (n : ℕ) (voices : List MaskVoice) (vs : List Val)
-    → shadow ((array_field voice-type.the_field n).row.own_val (map (voice-type.the_field).into voices) vs) → F32Voices voices
-scene-voices-f32 n voices vs told i h =
-    let e = each-into MaskVoice _ (voice-type.the_field).into (voice-type.the_field).row.own_val voices told.0 told.1.1 i no_voice h in
-    voice-f32 (get_or voices i no_voice) (e.0 ∷ []) e.1
-
 -- the fields in their order: the last is the motion, whose first is the shape
 pub settings-f32 : (config : MaskConfig) (vs : List Val) → Is (row config-type.the_type) config vs → F32Settings config
 settings-f32 config vs told =
@@ -93,4 +79,4 @@ settings-f32 config vs told =
 -- a whole scene: settings, then voices
 pub scene-f32 : (scene : Scene) (vs : List Val) → Is (row scene-type.the_type) scene vs → F32Settings scene.config × F32Voices scene.voices
 scene-f32 scene vs told =
-    (settings-f32 scene.config _ told.1.1.0, scene-voices-f32 128 scene.voices _ told.1.1.1.0)
+    (settings-f32 scene.config _ told.1.1.0, voices-f32 128 scene.voices _ told.1.1.1.0)

@@ -1,4 +1,6 @@
 // The tests that the mask builders share, in the order of document 01's numbers.
+#![tactic(auto)]
+
 ghost use Rattle.std.specs.Prelude.{◌≡◌, true, length};
 ghost use Rattle.answer.specs.Reply.{of_outcome};
 ghost use Rattle.refusals.specs.Masks.{first, settings_reply, voices_reply, table_reply};

@@ -1,10 +1,11 @@
 // The list `voice_banks`. A bank, empty at first, is kept from each record to the next. After the
 // call's number stands an id, an id and a voice, or what a stereo call takes before its voices. The
 // last number is no call: it puts a bank as a caller in C can make one.
-use crate::masks::Voices;
-use crate::{list, masks, settings, text};
+use crate::mask_records::Voices;
+use crate::{list, mask_records, settings, text};
 use limits::lengths::MOST_VOICES;
 use spectral_dsp::{Bank, Banked};
+use std::io;
 use voice_records::plain_voice;
 
 fn id_of(word: u32) -> u16 {
@@ -44,51 +45,55 @@ fn hash_of_bank(bank: Bank) -> u64 {
     hash
 }
 
-fn print_bank(bank: Bank) {
-    text::print_count(bank.count);
-    text::print_made(hash_of_bank(bank));
+fn print_bank(rt: &impl Print, bank: Bank) -> io::Result<()> {
+    text::print_count(rt, bank.count)?;
+    text::print_made(rt, hash_of_bank(bank))
 }
 
 // Prints the line of a bank that is new or given, and hands it on.
-fn print_made(name: &[u8], bank: Bank) -> Bank {
-    text::print(name);
-    print_bank(bank);
-    bank
+fn print_made(rt: &impl Print, name: &[u8], bank: Bank) -> io::Result<Bank> {
+    text::print(rt, name)?;
+    print_bank(rt, bank)?;
+    Ok(bank)
 }
 
 // Prints the line of a call that answers a bank, and hands that on.
-fn print_banked(name: &[u8], banked: Banked) -> Bank {
+fn print_banked(rt: &impl Print, name: &[u8], banked: Banked) -> io::Result<Bank> {
     let outcome = banked.outcome;
     let bank = banked.bank;
-    text::print(name);
-    text::print_outcome(outcome);
-    print_bank(bank);
-    bank
+    text::print(rt, name)?;
+    text::print_outcome(rt, outcome)?;
+    print_bank(rt, bank)?;
+    Ok(bank)
 }
 
-fn print_read_masks(bytes: &[u8], at: usize, bank: Bank) -> Bank {
-    text::print(b"read_masks");
-    masks::print_stereo_masks(bytes, at, Voices::Banked, bank);
-    bank
+fn print_read_masks(rt: &impl Print, bytes: &[u8], at: usize, bank: Bank) -> io::Result<Bank> {
+    text::print(rt, b"read_masks")?;
+    mask_records::print_stereo_masks(rt, bytes, at, Voices::Banked, bank)?;
+    Ok(bank)
 }
 
-fn print_none(bank: Bank) -> Bank {
-    text::print(b"no such call");
-    bank
+fn print_none(rt: &impl Print, bank: Bank) -> io::Result<Bank> {
+    text::print(rt, b"no such call")?;
+    Ok(bank)
 }
 
 // Makes the call of the record at a place, prints its line, and answers the bank after it.
-fn print_call(call: u32, bytes: &[u8], at: usize, bank: Bank) -> Bank {
+fn print_call(rt: &impl Print, call: u32, bytes: &[u8], at: usize, bank: Bank) -> io::Result<Bank> {
     let id = id_of(list::word(bytes, at, 1));
     let voice = settings::voice_at(bytes, at, 2);
     match call {
-        0 => print_made(b"new_bank", spectral_dsp::new_bank()),
-        1 => print_banked(b"add_voice", spectral_dsp::add_voice(bank, id, voice)),
-        2 => print_banked(b"remove_voice", spectral_dsp::remove_voice(bank, id)),
-        3 => print_banked(b"change_voice", spectral_dsp::change_voice(bank, id, voice)),
-        4 => print_read_masks(bytes, at, bank),
-        5 => print_made(b"given", given_bank(bytes, at)),
-        _ => print_none(bank),
+        0 => print_made(rt, b"new_bank", spectral_dsp::new_bank()),
+        1 => print_banked(rt, b"add_voice", spectral_dsp::add_voice(bank, id, voice)),
+        2 => print_banked(rt, b"remove_voice", spectral_dsp::remove_voice(bank, id)),
+        3 => print_banked(
+            rt,
+            b"change_voice",
+            spectral_dsp::change_voice(bank, id, voice),
+        ),
+        4 => print_read_masks(rt, bytes, at, bank),
+        5 => print_made(rt, b"given", given_bank(bytes, at)),
+        _ => print_none(rt, bank),
     }
 }
 
@@ -106,14 +111,15 @@ fn words_of(call: u32, bytes: &[u8], at: usize) -> usize {
 }
 
 // Replays the records in turn, each on the bank that the one before left.
-pub fn print_all(bytes: &[u8]) {
+pub fn print_all(rt: &impl Print, bytes: &[u8]) -> io::Result<()> {
     let end = list::words(bytes);
     let mut bank = spectral_dsp::new_bank();
     let mut at: usize = 0;
     while at < end {
         let call = list::word(bytes, at, 0);
-        bank = print_call(call, bytes, at, bank);
-        text::end_line();
+        bank = print_call(rt, call, bytes, at, bank)?;
+        text::end_line(rt)?;
         at = list::after(at, words_of(call, bytes, at), end);
     }
+    Ok(())
 }

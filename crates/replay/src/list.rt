@@ -1,7 +1,12 @@
 // A list of calls: words of 32 bits, most significant byte first. A word is found by the place of a
 // record and the word's place past it.
-ghost use Rattle.std.specs.Prelude.{◌<◌, ◌≤◌};
-ghost use Rattle.io.specs.Counts.{IsPrefixLen};
+ghost use Rattle.std.specs.Prelude.{◌≡◌, ◌<◌, ◌≤◌, length, IfOk, OnErr};
+ghost use Rattle.replay.specs.Counts.{IsPrefixLen};
+
+use std::fs::File;
+use std::io;
+use std::io::Read;
+use std::rt::Files;
 
 fn wide(byte: u8) -> u32
     ensures { result < 256 }
@@ -88,11 +93,18 @@ pub fn after(at: usize, words: usize, end: usize) -> usize
 }
 
 // Reads a file into the start of the bytes, and answers how many it read.
-pub fn read(path: &[u8], bytes: &mut [u8]) -> usize
-    ensures { IsPrefixLen result bytes.new }
+pub fn read(rt: &impl Files, path: &str, bytes: &mut [u8]) -> io::Result<usize>
+    ensures ok { IfOk result (λ n. IsPrefixLen n bytes.new) }
+    ensures err { OnErr result (length bytes.new ≡ length bytes.old) }
 {
-    let fd = os::open_read(path);
-    let n = io::read_full(fd, bytes);
-    libc::close(fd);
-    n
+    let mut file = File::open(rt, path)?;
+    let mut done: usize = 0;
+    while done < bytes.len() {
+        let n = file.read(&mut bytes[done..])?;
+        if n == 0 {
+            break;
+        }
+        done += n;
+    }
+    Ok(done)
 }

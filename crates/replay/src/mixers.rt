@@ -2,16 +2,17 @@
 // to the next. After the call's number stands a strip, or what serving takes besides the scenes.
 // The last two numbers are no calls: they put a mixer as a caller in C can make one, and the scene
 // of a strip.
-use crate::{list, masks, settings, slice, text};
+use crate::{list, mask_records, settings, slice, text};
 use mixer::STRIPS;
 use scene::Scene;
 use spectral_dsp::{Filed, Mixer, Named, Turned};
+use std::io;
 
 // The number of the record that gives a strip a scene.
 const SCENE: u32 = 5;
 
 // The scenes of the strips. A loop can keep a struct that a call answers, but not a bare array.
-#[derive(Drop)]
+#[derive(Clone, Copy)]
 struct Scenes {
     by_strip: [Scene; STRIPS],
 }
@@ -66,56 +67,56 @@ fn given_mixer(bytes: &[u8], at: usize) -> Mixer {
 }
 
 // Prints the strips that wait.
-fn print_line(strips: [usize; STRIPS], count: usize) {
-    let mut place: usize = 0;
-    while place < STRIPS {
+fn print_line(rt: &impl Print, strips: [usize; STRIPS], count: usize) -> io::Result<()> {
+    for place in 0..STRIPS {
         if place < count {
-            text::print_count(strips[place]);
+            text::print_count(rt, strips[place])?;
         }
-        place += 1;
     }
+    Ok(())
 }
 
-fn print_mixer(mixer: Mixer) {
+fn print_mixer(rt: &impl Print, mixer: Mixer) -> io::Result<()> {
     let strips = mixer.strips;
-    text::print_count(mixer.count);
-    text::print_count(mixer.served as usize);
-    print_line(strips, mixer.count);
+    text::print_count(rt, mixer.count)?;
+    text::print_count(rt, mixer.served as usize)?;
+    print_line(rt, strips, mixer.count)
 }
 
-fn print_named(named: Named) {
+fn print_named(rt: &impl Print, named: Named) -> io::Result<()> {
     match named {
-        Named::Strip(strip) => text::print_count(strip),
-        Named::Nobody => text::print(b" nobody"),
+        Named::Strip(strip) => text::print_count(rt, strip),
+        Named::Nobody => text::print(rt, b" nobody"),
     }
 }
 
 // Prints the line of a mixer that is new or given, and hands it on.
-fn print_made(name: &[u8], mixer: Mixer) -> Mixer {
-    text::print(name);
-    print_mixer(mixer);
-    mixer
+fn print_made(rt: &impl Print, name: &[u8], mixer: Mixer) -> io::Result<Mixer> {
+    text::print(rt, name)?;
+    print_mixer(rt, mixer)?;
+    Ok(mixer)
 }
 
-fn print_filed(filed: Filed) -> Mixer {
+fn print_filed(rt: &impl Print, filed: Filed) -> io::Result<Mixer> {
     let outcome = filed.outcome;
     let mixer = filed.mixer;
-    text::print(b"request");
-    text::print_outcome(outcome);
-    print_mixer(mixer);
-    mixer
+    text::print(rt, b"request")?;
+    text::print_outcome(rt, outcome)?;
+    print_mixer(rt, mixer)?;
+    Ok(mixer)
 }
 
-fn print_turned(turned: Turned) -> Mixer {
+fn print_turned(rt: &impl Print, turned: Turned) -> io::Result<Mixer> {
     let named = turned.named;
     let mixer = turned.mixer;
-    text::print(b"turn");
-    print_named(named);
-    print_mixer(mixer);
-    mixer
+    text::print(rt, b"turn")?;
+    print_named(rt, named)?;
+    print_mixer(rt, mixer)?;
+    Ok(mixer)
 }
 
 fn print_serve_on(
+    rt: &impl Print,
     bytes: &[u8],
     at: usize,
     scenes: Scenes,
@@ -124,27 +125,33 @@ fn print_serve_on(
     right: &mut [f32],
     curve: &mut [f32],
     table: &mut [f32],
-) -> Mixer {
+) -> io::Result<Mixer> {
     slice::fill(bytes, at, 4, curve);
-    masks::fill_table(bytes, at, 12, list::count(bytes, at, 1), table);
+    mask_records::fill_table(bytes, at, 12, list::count(bytes, at, 1), table);
     let by_strip = scenes.by_strip;
     let served = spectral_dsp::serve(left, right, curve, by_strip, table, mixer);
     let named = served.named;
     let outcome = served.outcome;
     let after = served.mixer;
-    print_named(named);
-    text::print_outcome(outcome);
-    print_mixer(after);
-    masks::print_mask(left);
-    masks::print_mask(right);
-    after
+    print_named(rt, named)?;
+    text::print_outcome(rt, outcome)?;
+    print_mixer(rt, after)?;
+    mask_records::print_mask(rt, left)?;
+    mask_records::print_mask(rt, right)?;
+    Ok(after)
 }
 
 // The longest slices of the list have 8,194 entries.
-fn print_serve(bytes: &[u8], at: usize, scenes: Scenes, mixer: Mixer) -> Mixer {
-    text::print(b"serve");
-    let mut left = [masks::BEFORE; 8194];
-    let mut right = [masks::BEFORE; 8194];
+fn print_serve(
+    rt: &impl Print,
+    bytes: &[u8],
+    at: usize,
+    scenes: Scenes,
+    mixer: Mixer,
+) -> io::Result<Mixer> {
+    text::print(rt, b"serve")?;
+    let mut left = [mask_records::BEFORE; 8194];
+    let mut right = [mask_records::BEFORE; 8194];
     let mut curve = [0.0f32; 8194];
     let mut table = [0.0f32; 8194];
     let n = slice::length(bytes, at, 2, &left);
@@ -152,6 +159,7 @@ fn print_serve(bytes: &[u8], at: usize, scenes: Scenes, mixer: Mixer) -> Mixer {
     let points = slice::length(bytes, at, 4, &curve);
     let entries = slice::length(bytes, at, 13, &table);
     print_serve_on(
+        rt,
         bytes,
         at,
         scenes,
@@ -163,28 +171,35 @@ fn print_serve(bytes: &[u8], at: usize, scenes: Scenes, mixer: Mixer) -> Mixer {
     )
 }
 
-fn print_scene(strip: usize, mixer: Mixer) -> Mixer {
-    text::print(b"scene");
-    text::print_count(strip);
-    mixer
+fn print_scene(rt: &impl Print, strip: usize, mixer: Mixer) -> io::Result<Mixer> {
+    text::print(rt, b"scene")?;
+    text::print_count(rt, strip)?;
+    Ok(mixer)
 }
 
-fn print_none(mixer: Mixer) -> Mixer {
-    text::print(b"no such call");
-    mixer
+fn print_none(rt: &impl Print, mixer: Mixer) -> io::Result<Mixer> {
+    text::print(rt, b"no such call")?;
+    Ok(mixer)
 }
 
 // Makes the call of the record at a place, prints its line, and answers the mixer after it.
-fn print_call(call: u32, bytes: &[u8], at: usize, scenes: Scenes, mixer: Mixer) -> Mixer {
+fn print_call(
+    rt: &impl Print,
+    call: u32,
+    bytes: &[u8],
+    at: usize,
+    scenes: Scenes,
+    mixer: Mixer,
+) -> io::Result<Mixer> {
     let strip = list::any_count(bytes, at, 1);
     match call {
-        0 => print_made(b"new_mixer", spectral_dsp::new_mixer()),
-        1 => print_filed(spectral_dsp::request(mixer, strip)),
-        2 => print_turned(spectral_dsp::turn(mixer)),
-        3 => print_serve(bytes, at, scenes, mixer),
-        4 => print_made(b"given", given_mixer(bytes, at)),
-        SCENE => print_scene(strip, mixer),
-        _ => print_none(mixer),
+        0 => print_made(rt, b"new_mixer", spectral_dsp::new_mixer()),
+        1 => print_filed(rt, spectral_dsp::request(mixer, strip)),
+        2 => print_turned(rt, spectral_dsp::turn(mixer)),
+        3 => print_serve(rt, bytes, at, scenes, mixer),
+        4 => print_made(rt, b"given", given_mixer(bytes, at)),
+        SCENE => print_scene(rt, strip, mixer),
+        _ => print_none(rt, mixer),
     }
 }
 
@@ -202,7 +217,7 @@ fn words_of(call: u32, bytes: &[u8], at: usize) -> usize {
 }
 
 // Replays the records in turn, each on the mixer and the scenes that the one before left.
-pub fn print_all(bytes: &[u8]) {
+pub fn print_all(rt: &impl Print, bytes: &[u8]) -> io::Result<()> {
     let end = list::words(bytes);
     let mut scenes = blank_scenes();
     let mut mixer = spectral_dsp::new_mixer();
@@ -210,8 +225,9 @@ pub fn print_all(bytes: &[u8]) {
     while at < end {
         let call = list::word(bytes, at, 0);
         scenes = scenes_for(call, bytes, at, scenes);
-        mixer = print_call(call, bytes, at, scenes, mixer);
-        text::end_line();
+        mixer = print_call(rt, call, bytes, at, scenes, mixer)?;
+        text::end_line(rt)?;
         at = list::after(at, words_of(call, bytes, at), end);
     }
+    Ok(())
 }

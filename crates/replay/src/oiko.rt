@@ -1,38 +1,49 @@
 // The list `oiko_dsp`. A record is three words: the call, and its arguments.
 use crate::{list, text};
+use std::io;
 
 // A note is a byte: the word's last.
 fn note_of(word: u32) -> u8 {
     (word % 256) as u8
 }
 
-fn print_db_to_gain(db: u32) {
-    text::print(b"db_to_gain");
-    text::print_word(db);
-    text::print_answer(oiko_dsp::db_to_gain(float32::bits::of_bits(db)));
+fn print_db_to_gain(rt: &impl Print, db: u32) -> io::Result<()> {
+    text::print(rt, b"db_to_gain")?;
+    text::print_word(rt, db)?;
+    text::print_answer(rt, oiko_dsp::db_to_gain(float32::bits::of_bits(db)))
 }
 
-fn print_note_frequency(note: u8) {
-    text::print(b"note_frequency");
-    text::print_count(note as usize);
-    text::print_answer(oiko_dsp::note_frequency(note));
+fn print_note_frequency(rt: &impl Print, note: u8) -> io::Result<()> {
+    text::print(rt, b"note_frequency")?;
+    text::print_count(rt, note as usize)?;
+    text::print_answer(rt, oiko_dsp::note_frequency(note))
 }
 
-fn print_note_frequency_with_tuning(note: u8, tuning: u32) {
-    text::print(b"note_frequency_with_tuning");
-    text::print_count(note as usize);
-    text::print_word(tuning);
-    text::print_answer(oiko_dsp::note_frequency_with_tuning(note, float32::bits::of_bits(tuning)));
+fn print_note_frequency_with_tuning(rt: &impl Print, note: u8, tuning: u32) -> io::Result<()> {
+    text::print(rt, b"note_frequency_with_tuning")?;
+    text::print_count(rt, note as usize)?;
+    text::print_word(rt, tuning)?;
+    text::print_answer(
+        rt,
+        oiko_dsp::note_frequency_with_tuning(note, float32::bits::of_bits(tuning)),
+    )
 }
 
-pub fn print_record(bytes: &[u8], at: usize) -> usize {
-    let first = list::word(bytes, at, 1);
-    let second = list::word(bytes, at, 2);
-    match list::word(bytes, at, 0) {
-        0 => print_db_to_gain(first),
-        1 => print_note_frequency(note_of(first)),
-        2 => print_note_frequency_with_tuning(note_of(first), second),
-        _ => text::print(b"no such call"),
+fn print_call(rt: &impl Print, call: u32, first: u32, second: u32) -> io::Result<()> {
+    match call {
+        0 => print_db_to_gain(rt, first),
+        1 => print_note_frequency(rt, note_of(first)),
+        2 => print_note_frequency_with_tuning(rt, note_of(first), second),
+        _ => text::print(rt, b"no such call"),
     }
-    3
+}
+
+pub fn print_record(rt: &impl Print, bytes: &[u8], at: usize) -> io::Result<usize> {
+    print_call(
+        rt,
+        list::word(bytes, at, 0),
+        list::word(bytes, at, 1),
+        list::word(bytes, at, 2),
+    )?;
+    Ok(3)
 }

@@ -3,116 +3,139 @@
 use crate::{list, slice, text};
 use spectral_dsp::processing;
 use spectral_dsp::processing::PreparedSpectrum;
+use std::io;
 
 fn print_build_dual_synthesis_window_on(
+    rt: &impl Print,
     bytes: &[u8],
     at: usize,
     analysis: &mut [f32],
     synthesis: &mut [f32],
-) {
+) -> io::Result<()> {
     slice::fill(bytes, at, 2, analysis);
     slice::fill(bytes, at, 10, synthesis);
     let overlap = list::count(bytes, at, 1);
-    text::print_outcome(processing::build_dual_synthesis_window(analysis, synthesis, overlap));
-    text::print_hash(synthesis);
+    text::print_outcome(
+        rt,
+        processing::build_dual_synthesis_window(analysis, synthesis, overlap),
+    )?;
+    text::print_hash(rt, synthesis)
 }
 
 // The list's longest windows have 16,386 values.
-fn print_build_dual_synthesis_window(bytes: &[u8], at: usize) {
-    text::print(b"build_dual_synthesis_window");
+fn print_build_dual_synthesis_window(rt: &impl Print, bytes: &[u8], at: usize) -> io::Result<()> {
+    text::print(rt, b"build_dual_synthesis_window")?;
     let mut analysis = [0.0f32; 16386];
     let mut synthesis = [0.0f32; 16386];
     let n = slice::length(bytes, at, 2, &analysis);
     let m = slice::length(bytes, at, 10, &synthesis);
-    print_build_dual_synthesis_window_on(bytes, at, &mut analysis[..n], &mut synthesis[..m]);
+    print_build_dual_synthesis_window_on(rt, bytes, at, &mut analysis[..n], &mut synthesis[..m])
 }
 
-fn print_soften_spectral_edges_on(bytes: &[u8], at: usize, source: &mut [f32], output: &mut [f32]) {
+fn print_soften_spectral_edges_on(
+    rt: &impl Print,
+    bytes: &[u8],
+    at: usize,
+    source: &mut [f32],
+    output: &mut [f32],
+) -> io::Result<()> {
     slice::fill(bytes, at, 1, source);
     slice::fill(bytes, at, 9, output);
-    text::print_outcome(processing::soften_spectral_edges(source, output));
-    text::print_hash(output);
+    text::print_outcome(rt, processing::soften_spectral_edges(source, output))?;
+    text::print_hash(rt, output)
 }
 
 // The list's longest gain lists have 8,195 entries.
-fn print_soften_spectral_edges(bytes: &[u8], at: usize) {
-    text::print(b"soften_spectral_edges");
+fn print_soften_spectral_edges(rt: &impl Print, bytes: &[u8], at: usize) -> io::Result<()> {
+    text::print(rt, b"soften_spectral_edges")?;
     let mut source = [0.0f32; 8195];
     let mut output = [0.0f32; 8195];
     let n = slice::length(bytes, at, 1, &source);
     let m = slice::length(bytes, at, 9, &output);
-    print_soften_spectral_edges_on(bytes, at, &mut source[..n], &mut output[..m]);
+    print_soften_spectral_edges_on(rt, bytes, at, &mut source[..n], &mut output[..m])
 }
 
-fn print_smooth_mask_in_db_on(bytes: &[u8], at: usize, current: &mut [f32], target: &mut [f32]) {
+fn print_smooth_mask_in_db_on(
+    rt: &impl Print,
+    bytes: &[u8],
+    at: usize,
+    current: &mut [f32],
+    target: &mut [f32],
+) -> io::Result<()> {
     slice::fill(bytes, at, 2, current);
     slice::fill(bytes, at, 10, target);
     let elapsed = list::float(bytes, at, 1);
-    text::print_outcome(processing::smooth_mask_in_db(current, target, elapsed));
-    text::print_hash(current);
+    text::print_outcome(rt, processing::smooth_mask_in_db(current, target, elapsed))?;
+    text::print_hash(rt, current)
 }
 
 // The list's longest gain lists have 8,195 entries.
-fn print_smooth_mask_in_db(bytes: &[u8], at: usize) {
-    text::print(b"smooth_mask_in_db");
+fn print_smooth_mask_in_db(rt: &impl Print, bytes: &[u8], at: usize) -> io::Result<()> {
+    text::print(rt, b"smooth_mask_in_db")?;
     let mut current = [0.0f32; 8195];
     let mut target = [0.0f32; 8195];
     let n = slice::length(bytes, at, 2, &current);
     let m = slice::length(bytes, at, 10, &target);
-    print_smooth_mask_in_db_on(bytes, at, &mut current[..n], &mut target[..m]);
+    print_smooth_mask_in_db_on(rt, bytes, at, &mut current[..n], &mut target[..m])
 }
 
 fn print_spectrum_on(
+    rt: &impl Print,
     bytes: &[u8],
     at: usize,
     window: &mut [f32],
     smooth: &mut [f32],
     block: &mut [f32],
-) {
+) -> io::Result<()> {
     slice::fill(bytes, at, 3, window);
     slice::fill(bytes, at, 11, smooth);
     slice::fill(bytes, at, 19, block);
     let rate = list::float(bytes, at, 1);
     let overlap = list::count(bytes, at, 2);
-    text::print_prepared(PreparedSpectrum::new(rate, window, smooth, overlap, block));
-    text::print_hash(block);
+    text::print_prepared(
+        rt,
+        PreparedSpectrum::new(rate, window, smooth, overlap, block),
+    )?;
+    text::print_hash(rt, block)
 }
 
 fn print_spectrum_in(
+    rt: &impl Print,
     bytes: &[u8],
     at: usize,
     window: &mut [f32],
     smooth: &mut [f32],
     block: &mut [f32],
-) {
+) -> io::Result<()> {
     let n = slice::length(bytes, at, 3, window);
     let m = slice::length(bytes, at, 11, smooth);
     let l = slice::length(bytes, at, 19, block);
     print_spectrum_on(
+        rt,
         bytes,
         at,
         &mut window[..n],
         &mut smooth[..m],
         &mut block[..l],
-    );
+    )
 }
 
 // The list's longest windows have 32,768 values.
-fn print_prepared_spectrum_new(bytes: &[u8], at: usize) {
-    text::print(b"prepared_spectrum_new");
+fn print_prepared_spectrum_new(rt: &impl Print, bytes: &[u8], at: usize) -> io::Result<()> {
+    text::print(rt, b"prepared_spectrum_new")?;
     let mut window = [0.0f32; 32768];
     let mut smooth = [0.0f32; 32768];
     let mut block = [0.0f32; 147457];
-    print_spectrum_in(bytes, at, &mut window, &mut smooth, &mut block);
+    print_spectrum_in(rt, bytes, at, &mut window, &mut smooth, &mut block)
 }
 
-fn print_call(call: u32, bytes: &[u8], at: usize) {
+fn print_call(rt: &impl Print, call: u32, bytes: &[u8], at: usize) -> io::Result<()> {
     match call {
-        0 => print_build_dual_synthesis_window(bytes, at),
-        1 => print_soften_spectral_edges(bytes, at),
-        2 => print_smooth_mask_in_db(bytes, at),
-        3 => print_prepared_spectrum_new(bytes, at),
-        _ => text::print(b"no such call"),
+        0 => print_build_dual_synthesis_window(rt, bytes, at),
+        1 => print_soften_spectral_edges(rt, bytes, at),
+        2 => print_smooth_mask_in_db(rt, bytes, at),
+        3 => print_prepared_spectrum_new(rt, bytes, at),
+        _ => text::print(rt, b"no such call"),
     }
 }
 
@@ -127,8 +150,8 @@ fn words_of(call: u32) -> usize {
     }
 }
 
-pub fn print_record(bytes: &[u8], at: usize) -> usize {
+pub fn print_record(rt: &impl Print, bytes: &[u8], at: usize) -> io::Result<usize> {
     let call = list::word(bytes, at, 0);
-    print_call(call, bytes, at);
-    words_of(call)
+    print_call(rt, call, bytes, at)?;
+    Ok(words_of(call))
 }

@@ -1,12 +1,13 @@
 // The list `scene_records`. What follows the call's number is a scene's settings, the length of the
 // record to write, and the voices; or the length of the record to read, and its stored bytes.
 ghost use Rattle.std.specs.Prelude.{◌≤◌};
-ghost use Rattle.io.specs.Counts.{IsPrefixLen};
+ghost use Rattle.replay.specs.Counts.{IsPrefixLen};
 
 use crate::{list, settings, text};
 use limits::lengths::MOST_VOICES;
 use scene::Scene;
 use spectral_dsp::SceneRead;
+use std::io;
 
 // The list's longest record has this many bytes.
 const LONGEST: usize = 8000;
@@ -25,17 +26,22 @@ fn length(bytes: &[u8], at: usize, past: usize, room: &[u8]) -> usize
     room.len()
 }
 
-fn print_write_scene_on(bytes: &[u8], at: usize, record: &mut [u8]) {
+fn print_write_scene_on(
+    rt: &impl Print,
+    bytes: &[u8],
+    at: usize,
+    record: &mut [u8],
+) -> io::Result<()> {
     let scene = settings::scene_at(bytes, at, 1, 13);
-    text::print_outcome(spectral_dsp::write_scene(record, scene));
-    text::print_hash_of_bytes(record);
+    text::print_outcome(rt, spectral_dsp::write_scene(record, scene))?;
+    text::print_hash_of_bytes(rt, record)
 }
 
-fn print_write_scene(bytes: &[u8], at: usize) {
-    text::print(b"write_scene");
+fn print_write_scene(rt: &impl Print, bytes: &[u8], at: usize) -> io::Result<()> {
+    text::print(rt, b"write_scene")?;
     let mut room = [BEFORE; LONGEST];
     let n = length(bytes, at, 12, &room);
-    print_write_scene_on(bytes, at, &mut room[..n]);
+    print_write_scene_on(rt, bytes, at, &mut room[..n])
 }
 
 // The stored byte with this number, or 0 past them.
@@ -69,31 +75,36 @@ fn hash_of_scene(scene: Scene) -> u64 {
     hash
 }
 
-fn print_scene_read(read: SceneRead) {
+fn print_scene_read(rt: &impl Print, read: SceneRead) -> io::Result<()> {
     let outcome = read.outcome;
     let scene = read.scene;
-    text::print_outcome(outcome);
-    text::print_count(scene.count);
-    text::print_made(hash_of_scene(scene));
+    text::print_outcome(rt, outcome)?;
+    text::print_count(rt, scene.count)?;
+    text::print_made(rt, hash_of_scene(scene))
 }
 
-fn print_read_scene_on(bytes: &[u8], at: usize, record: &mut [u8]) {
+fn print_read_scene_on(
+    rt: &impl Print,
+    bytes: &[u8],
+    at: usize,
+    record: &mut [u8],
+) -> io::Result<()> {
     fill(bytes, at, record);
-    print_scene_read(spectral_dsp::read_scene(record));
+    print_scene_read(rt, spectral_dsp::read_scene(record))
 }
 
-fn print_read_scene(bytes: &[u8], at: usize) {
-    text::print(b"read_scene");
+fn print_read_scene(rt: &impl Print, bytes: &[u8], at: usize) -> io::Result<()> {
+    text::print(rt, b"read_scene")?;
     let mut room = [0u8; LONGEST];
     let n = length(bytes, at, 1, &room);
-    print_read_scene_on(bytes, at, &mut room[..n]);
+    print_read_scene_on(rt, bytes, at, &mut room[..n])
 }
 
-fn print_call(call: u32, bytes: &[u8], at: usize) {
+fn print_call(rt: &impl Print, call: u32, bytes: &[u8], at: usize) -> io::Result<()> {
     match call {
-        0 => print_write_scene(bytes, at),
-        1 => print_read_scene(bytes, at),
-        _ => text::print(b"no such call"),
+        0 => print_write_scene(rt, bytes, at),
+        1 => print_read_scene(rt, bytes, at),
+        _ => text::print(rt, b"no such call"),
     }
 }
 
@@ -114,8 +125,8 @@ fn words_of(call: u32, bytes: &[u8], at: usize) -> usize {
     }
 }
 
-pub fn print_record(bytes: &[u8], at: usize) -> usize {
+pub fn print_record(rt: &impl Print, bytes: &[u8], at: usize) -> io::Result<usize> {
     let call = list::word(bytes, at, 0);
-    print_call(call, bytes, at);
-    words_of(call, bytes, at)
+    print_call(rt, call, bytes, at)?;
+    Ok(words_of(call, bytes, at))
 }

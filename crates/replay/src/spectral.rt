@@ -3,70 +3,88 @@ use crate::{list, settings, slice, text};
 use answer::Envelopes;
 use limits::lengths::{HELD_BYTES, MIDI_NOTES};
 use scene::MotionConfig;
+use std::io;
 
-fn print_note_emphasis_gain(bytes: &[u8], at: usize) {
-    text::print(b"note_emphasis_gain");
-    text::print_word(list::word(bytes, at, 1));
-    text::print_answer(spectral_dsp::note_emphasis_gain(list::float(bytes, at, 1)));
+fn print_note_emphasis_gain(rt: &impl Print, bytes: &[u8], at: usize) -> io::Result<()> {
+    text::print(rt, b"note_emphasis_gain")?;
+    text::print_word(rt, list::word(bytes, at, 1))?;
+    text::print_answer(
+        rt,
+        spectral_dsp::note_emphasis_gain(list::float(bytes, at, 1)),
+    )
 }
 
-fn print_note_gate_gain(bytes: &[u8], at: usize) {
-    text::print(b"note_gate_gain");
-    text::print_word(list::word(bytes, at, 1));
-    text::print_word(list::word(bytes, at, 2));
-    text::print_word(list::word(bytes, at, 3));
-    text::print_answer(spectral_dsp::note_gate_gain(
-        list::float(bytes, at, 1),
-        list::float(bytes, at, 2),
-        list::float(bytes, at, 3),
-    ));
+fn print_note_gate_gain(rt: &impl Print, bytes: &[u8], at: usize) -> io::Result<()> {
+    text::print(rt, b"note_gate_gain")?;
+    text::print_word(rt, list::word(bytes, at, 1))?;
+    text::print_word(rt, list::word(bytes, at, 2))?;
+    text::print_word(rt, list::word(bytes, at, 3))?;
+    text::print_answer(
+        rt,
+        spectral_dsp::note_gate_gain(
+            list::float(bytes, at, 1),
+            list::float(bytes, at, 2),
+            list::float(bytes, at, 3),
+        ),
+    )
 }
 
-fn print_manual_gain_on(bytes: &[u8], at: usize, curve: &mut [f32]) {
+fn print_manual_gain_on(
+    rt: &impl Print,
+    bytes: &[u8],
+    at: usize,
+    curve: &mut [f32],
+) -> io::Result<()> {
     slice::fill(bytes, at, 3, curve);
     let bin = list::count(bytes, at, 1);
     let size = list::count(bytes, at, 2);
-    text::print_answer(spectral_dsp::manual_gain_at_bin(curve, bin, size));
+    text::print_answer(rt, spectral_dsp::manual_gain_at_bin(curve, bin, size))
 }
 
 // The list's longest curve has 8,194 points.
-fn print_manual_gain_at_bin(bytes: &[u8], at: usize) {
-    text::print(b"manual_gain_at_bin");
-    text::print_count(list::count(bytes, at, 1));
-    text::print_count(list::count(bytes, at, 2));
+fn print_manual_gain_at_bin(rt: &impl Print, bytes: &[u8], at: usize) -> io::Result<()> {
+    text::print(rt, b"manual_gain_at_bin")?;
+    text::print_count(rt, list::count(bytes, at, 1))?;
+    text::print_count(rt, list::count(bytes, at, 2))?;
     let mut room = [0.0f32; 8194];
     let points = slice::length(bytes, at, 3, &room);
-    print_manual_gain_on(bytes, at, &mut room[..points]);
+    print_manual_gain_on(rt, bytes, at, &mut room[..points])
 }
 
 // The settings from four words, which are printed.
-fn motion_at(bytes: &[u8], at: usize, past: usize) -> MotionConfig {
+fn motion_at(rt: &impl Print, bytes: &[u8], at: usize, past: usize) -> io::Result<MotionConfig> {
     let first = std::num::wrapping_add_usize(at, past);
-    text::print_word(list::word(bytes, first, 0));
-    text::print_word(list::word(bytes, first, 1));
-    text::print_word(list::word(bytes, first, 2));
-    text::print_word(list::word(bytes, first, 3));
-    settings::motion_at(bytes, at, past)
+    text::print_word(rt, list::word(bytes, first, 0))?;
+    text::print_word(rt, list::word(bytes, first, 1))?;
+    text::print_word(rt, list::word(bytes, first, 2))?;
+    text::print_word(rt, list::word(bytes, first, 3))?;
+    Ok(settings::motion_at(bytes, at, past))
 }
 
-fn print_motion_openness(bytes: &[u8], at: usize) {
-    text::print(b"motion_openness");
-    text::print_word(list::word(bytes, at, 1));
-    let motion = motion_at(bytes, at, 2);
-    text::print_answer(spectral_dsp::motion_openness(list::float(bytes, at, 1), motion));
+fn print_motion_openness(rt: &impl Print, bytes: &[u8], at: usize) -> io::Result<()> {
+    text::print(rt, b"motion_openness")?;
+    text::print_word(rt, list::word(bytes, at, 1))?;
+    let motion = motion_at(rt, bytes, at, 2)?;
+    text::print_answer(
+        rt,
+        spectral_dsp::motion_openness(list::float(bytes, at, 1), motion),
+    )
 }
 
-fn print_motion_attenuation_db(bytes: &[u8], at: usize) {
-    text::print(b"motion_attenuation_db");
-    text::print_word(list::word(bytes, at, 1));
-    let motion = motion_at(bytes, at, 2);
-    text::print_answer(spectral_dsp::motion_attenuation_db(list::float(bytes, at, 1), motion));
+fn print_motion_attenuation_db(rt: &impl Print, bytes: &[u8], at: usize) -> io::Result<()> {
+    text::print(rt, b"motion_attenuation_db")?;
+    text::print_word(rt, list::word(bytes, at, 1))?;
+    let motion = motion_at(rt, bytes, at, 2)?;
+    text::print_answer(
+        rt,
+        spectral_dsp::motion_attenuation_db(list::float(bytes, at, 1), motion),
+    )
 }
 
-fn print_motion_compensation_gain(bytes: &[u8], at: usize) {
-    text::print(b"motion_compensation_gain");
-    let motion = motion_at(bytes, at, 1);
-    text::print_answer(spectral_dsp::motion_compensation_gain(motion));
+fn print_motion_compensation_gain(rt: &impl Print, bytes: &[u8], at: usize) -> io::Result<()> {
+    text::print(rt, b"motion_compensation_gain")?;
+    let motion = motion_at(rt, bytes, at, 1)?;
+    text::print_answer(rt, spectral_dsp::motion_compensation_gain(motion))
 }
 
 fn byte_of(word: u32, divisor: u32) -> u8 {
@@ -102,52 +120,55 @@ fn held_at(bytes: &[u8], at: usize) -> [u8; HELD_BYTES] {
     ]
 }
 
-fn print_envelopes(envelopes: Envelopes) {
+fn print_envelopes(rt: &impl Print, envelopes: Envelopes) -> io::Result<()> {
     let levels = envelopes.levels;
     let outcome = envelopes.outcome;
-    text::print_outcome(outcome);
-    text::print_hash(&levels);
+    text::print_outcome(rt, outcome)?;
+    text::print_hash(rt, &levels)
 }
 
-fn print_advance_note_envelopes(bytes: &[u8], at: usize) {
-    text::print(b"advance_note_envelopes");
+fn print_advance_note_envelopes(rt: &impl Print, bytes: &[u8], at: usize) -> io::Result<()> {
+    text::print(rt, b"advance_note_envelopes")?;
     let mut levels = [0.0f32; MIDI_NOTES];
     slice::fill(bytes, at, 7, &mut levels);
-    print_envelopes(spectral_dsp::advance_note_envelopes(
-        levels,
-        held_at(bytes, at),
-        list::float(bytes, at, 1),
-        list::float(bytes, at, 2),
-    ));
+    print_envelopes(
+        rt,
+        spectral_dsp::advance_note_envelopes(
+            levels,
+            held_at(bytes, at),
+            list::float(bytes, at, 1),
+            list::float(bytes, at, 2),
+        ),
+    )
 }
 
-fn print_prepare_on(bytes: &[u8], at: usize, table: &mut [f32]) {
+fn print_prepare_on(rt: &impl Print, bytes: &[u8], at: usize, table: &mut [f32]) -> io::Result<()> {
     slice::fill(bytes, at, 3, table);
     let rate = list::float(bytes, at, 1);
     let size = list::count(bytes, at, 2);
-    text::print_outcome(spectral_dsp::MaskWorkspace::prepare(table, rate, size));
-    text::print_hash(table);
+    text::print_outcome(rt, spectral_dsp::MaskWorkspace::prepare(table, rate, size))?;
+    text::print_hash(rt, table)
 }
 
 // The list's longest table has 16,386 entries.
-fn print_prepare(bytes: &[u8], at: usize) {
-    text::print(b"prepare");
+fn print_prepare(rt: &impl Print, bytes: &[u8], at: usize) -> io::Result<()> {
+    text::print(rt, b"prepare")?;
     let mut room = [0.0f32; 16386];
     let entries = slice::length(bytes, at, 3, &room);
-    print_prepare_on(bytes, at, &mut room[..entries]);
+    print_prepare_on(rt, bytes, at, &mut room[..entries])
 }
 
-fn print_call(call: u32, bytes: &[u8], at: usize) {
+fn print_call(rt: &impl Print, call: u32, bytes: &[u8], at: usize) -> io::Result<()> {
     match call {
-        0 => print_note_emphasis_gain(bytes, at),
-        1 => print_note_gate_gain(bytes, at),
-        2 => print_manual_gain_at_bin(bytes, at),
-        3 => print_motion_openness(bytes, at),
-        4 => print_motion_attenuation_db(bytes, at),
-        5 => print_motion_compensation_gain(bytes, at),
-        6 => print_advance_note_envelopes(bytes, at),
-        7 => print_prepare(bytes, at),
-        _ => text::print(b"no such call"),
+        0 => print_note_emphasis_gain(rt, bytes, at),
+        1 => print_note_gate_gain(rt, bytes, at),
+        2 => print_manual_gain_at_bin(rt, bytes, at),
+        3 => print_motion_openness(rt, bytes, at),
+        4 => print_motion_attenuation_db(rt, bytes, at),
+        5 => print_motion_compensation_gain(rt, bytes, at),
+        6 => print_advance_note_envelopes(rt, bytes, at),
+        7 => print_prepare(rt, bytes, at),
+        _ => text::print(rt, b"no such call"),
     }
 }
 
@@ -166,8 +187,8 @@ fn words_of(call: u32) -> usize {
     }
 }
 
-pub fn print_record(bytes: &[u8], at: usize) -> usize {
+pub fn print_record(rt: &impl Print, bytes: &[u8], at: usize) -> io::Result<usize> {
     let call = list::word(bytes, at, 0);
-    print_call(call, bytes, at);
-    words_of(call)
+    print_call(rt, call, bytes, at)?;
+    Ok(words_of(call))
 }

@@ -1,59 +1,57 @@
 // Words, answers and hashes of slices as text. A line is the call's name and parts that each begin
 // with a space.
 use answer::{Answer, Outcome, Prepared};
-use libc::STDOUT_FILENO;
+use std::io;
 
-pub fn print(text: &[u8]) {
-    io::write_all(STDOUT_FILENO, text);
+pub fn print(rt: &impl Print, text: &[u8]) -> io::Result<()> {
+    rt.write_all(text)
 }
 
-pub fn end_line() {
-    print(b"\n");
+pub fn end_line(rt: &impl Print) -> io::Result<()> {
+    print(rt, b"\n")
 }
 
-pub fn print_word(word: u32) {
-    print(b" ");
-    io::print_hex(STDOUT_FILENO, word as u64, 8);
+pub fn print_word(rt: &impl Print, word: u32) -> io::Result<()> {
+    print!(rt; " {word:08x}")
 }
 
-pub fn print_float(x: f32) {
-    print_word(float32::bits::bits_of(x));
+pub fn print_float(rt: &impl Print, x: f32) -> io::Result<()> {
+    print_word(rt, float32::bits::bits_of(x))
 }
 
-pub fn print_count(n: usize) {
-    print(b" ");
-    io::print_decimal(STDOUT_FILENO, n as u64);
+pub fn print_count(rt: &impl Print, n: usize) -> io::Result<()> {
+    print!(rt; " {n}")
 }
 
-pub fn print_refusal(number: u8, place: usize) {
-    print(b" refused");
-    print_count(number as usize);
-    print_count(place);
+pub fn print_refusal(rt: &impl Print, number: u8, place: usize) -> io::Result<()> {
+    print(rt, b" refused")?;
+    print_count(rt, number as usize)?;
+    print_count(rt, place)
 }
 
-pub fn print_answer(answer: Answer) {
+pub fn print_answer(rt: &impl Print, answer: Answer) -> io::Result<()> {
     match answer {
-        Answer::Gain(x) => print_float(x),
-        Answer::Refused(number, place) => print_refusal(number, place),
+        Answer::Gain(x) => print_float(rt, x),
+        Answer::Refused(number, place) => print_refusal(rt, number, place),
     }
 }
 
-pub fn print_outcome(outcome: Outcome) {
+pub fn print_outcome(rt: &impl Print, outcome: Outcome) -> io::Result<()> {
     match outcome {
-        Outcome::Done => print(b" done"),
-        Outcome::Refused(number, place) => print_refusal(number, place),
+        Outcome::Done => print(rt, b" done"),
+        Outcome::Refused(number, place) => print_refusal(rt, number, place),
     }
 }
 
-fn print_gains(first: f32, second: f32) {
-    print_float(first);
-    print_float(second);
+fn print_gains(rt: &impl Print, first: f32, second: f32) -> io::Result<()> {
+    print_float(rt, first)?;
+    print_float(rt, second)
 }
 
-pub fn print_prepared(prepared: Prepared) {
+pub fn print_prepared(rt: &impl Print, prepared: Prepared) -> io::Result<()> {
     match prepared {
-        Prepared::Gains(first, second) => print_gains(first, second),
-        Prepared::Refused(number, place) => print_refusal(number, place),
+        Prepared::Gains(first, second) => print_gains(rt, first, second),
+        Prepared::Refused(number, place) => print_refusal(rt, number, place),
     }
 }
 
@@ -119,15 +117,14 @@ pub fn with_words(hash: u64, words: &[u32]) -> u64 {
 }
 
 // Prints a hash that the caller has made, as one over several parts.
-pub fn print_made(hash: u64) {
-    print(b" ");
-    io::print_hex(STDOUT_FILENO, hash, 16);
+pub fn print_made(rt: &impl Print, hash: u64) -> io::Result<()> {
+    print!(rt; " {hash:016x}")
 }
 
-pub fn print_hash(xs: &[f32]) {
-    print_made(hash(xs));
+pub fn print_hash(rt: &impl Print, xs: &[f32]) -> io::Result<()> {
+    print_made(rt, hash(xs))
 }
 
-pub fn print_hash_of_bytes(bytes: &[u8]) {
-    print_made(hash_of_bytes(bytes));
+pub fn print_hash_of_bytes(rt: &impl Print, bytes: &[u8]) -> io::Result<()> {
+    print_made(rt, hash_of_bytes(bytes))
 }

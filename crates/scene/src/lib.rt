@@ -1,4 +1,6 @@
 // Voices and settings as plain values, and which of them are accepted.
+#![tactic(auto)]
+
 pub mod levels;
 pub mod pitches;
 
@@ -13,14 +15,14 @@ use limits::lengths::MOST_VOICES;
 
 // A pitch by number or by hertz: a note, with an offset in semitones from its equal-tempered pitch;
 // or a frequency, which is then the fundamental itself.
-#[derive(Drop)]
+#[derive(Clone, Copy)]
 pub enum Pitch {
     Note(u8, f32),
     Hertz(f32),
 }
 
 // A held pitch with its expression.
-#[derive(Drop)]
+#[derive(Clone, Copy)]
 pub struct MaskVoice {
     pub pitch: Pitch,
     // Note envelope level; 0 contributes nothing.
@@ -38,7 +40,7 @@ pub struct MaskVoice {
 }
 
 // The moving field's shapes, in the Rust's order.
-#[derive(Drop)]
+#[derive(Clone, Copy)]
 pub enum MotionShape {
     Ripple,
     Harmonic,
@@ -50,7 +52,7 @@ pub enum MotionShape {
     Cloud,
 }
 
-#[derive(Drop)]
+#[derive(Clone, Copy)]
 pub struct MotionConfig {
     pub shape: MotionShape,
     // Attenuation where the field is fully closed.
@@ -61,7 +63,7 @@ pub struct MotionConfig {
     pub size_octaves: f32,
 }
 
-#[derive(Drop)]
+#[derive(Clone, Copy)]
 pub struct MaskConfig {
     pub sample_rate: f32,
     pub fft_size: usize,
@@ -77,7 +79,7 @@ pub struct MaskConfig {
 
 // A whole scene: its settings, and the voices that count, which stand at the array's start. The
 // drawn curve is not part of it.
-#[derive(Drop)]
+#[derive(Clone, Copy)]
 pub struct Scene {
     pub config: MaskConfig,
     pub voices: [MaskVoice; MOST_VOICES],

@@ -1,3 +1,4 @@
+pub mod Rules
 pub mod Entries
 pub mod Places
 pub mod WholeTurns

@@ -7,6 +7,8 @@
 // of angles.
 // Error, measured over the positions of the first quarter, whose values the others repeat: at most
 // 4.8e-6.
+#![tactic(auto)]
+
 ghost use Rattle.std.specs.Prelude.{◌≡◌};
 ghost use Rattle.sine.specs.Table.{sine_table};
 ghost use Rattle.sine.specs.Sine.{sin_of, cos_of};

@@ -4,6 +4,8 @@
 // turn, steps of R, values read from R, signed results. All loops but the one that reads R are
 // vectorized: none branches, and an angle beyond 2^23 turns, infinite or NaN, counts as 0 turns.
 // Exact: each result is that of `sin`, bit for bit.
+#![tactic(auto)]
+
 ghost use Rattle.std.specs.Prelude.{◌≡◌, cond, ℕ, ◌+◌, ◌-◌, ◌^◌, ◌≤◌, ◌<◌, eqb, length, get_or};
 ghost use Rattle.std.specs.Float.{nan};
 ghost use Rattle.lists.specs.Maps.{map_range};
@@ -36,7 +38,7 @@ fn places(row: &[f32], found: &mut [u32], start: usize, count: usize, ahead: u64
 }
 
 // An entry of R, and the fraction of the step from there to the next, in units of 2^-14.
-#[derive(Drop)]
+#[derive(Clone, Copy)]
 struct Step {
     index: u32,
     part: u32,

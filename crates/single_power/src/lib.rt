@@ -1,5 +1,7 @@
 // Powers and logarithms of one number, without a copy of the table of `power`: a call that wants
 // one of them reads the two or three entries that it needs (entries.rt).
+#![tactic(auto)]
+
 ghost use Rattle.std.specs.Prelude.{◌≡◌, ◌^◌, ◌<◌, T};
 ghost use Rattle.std.specs.Float.Ieee.{le, lt};
 ghost use Rattle.power.specs.Table.{I};

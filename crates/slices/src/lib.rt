@@ -1,4 +1,6 @@
 // Rust's slice methods, as functions.
+#![tactic(auto)]
+
 ghost use Rattle.std.specs.Prelude.{◌≡◌, ◌≤◌, length};
 ghost use Rattle.lists.specs.Maps.{tabulate, map_range};
 

@@ -1,6 +1,8 @@
 // The open calls of spectral-dsp, under the Rust's names and paths, and those on scene records, on
 // a bank of voices and on a mixer of strips, which the Rust does not have. Each is defined, with
 // its contract and its tests, in the crate of its kind.
+#![tactic(auto)]
+
 pub mod processing;
 
 pub use bank_masks::read_masks;

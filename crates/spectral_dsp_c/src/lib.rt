@@ -3,6 +3,8 @@
 // When done it writes its results through the parameters lent for them; when refused it writes the
 // place and nothing else. Reading a scene record returns number, place and scene in one record, the
 // calls that change a bank of voices return number, place and bank, and those on a mixer likewise.
+#![tactic(auto)]
+
 mod banks;
 mod builders;
 mod mixers;

@@ -1,4 +1,4 @@
--- Document 01's sqrt, which is IEEE 754's square_root_of to the nearest value. A NaN, and every number
+-- Document 01's sqrt, which is IEEE 754's squareRoot to the nearest value. A NaN, and every number
 -- below zero, gives NaN; each of the two zeros gives itself; +infinity gives +infinity; any other
 -- number gives the value of the format that is nearest to its real root. Assumes nothing.
 use Rattle.std.specs.Prelude.{◌≡◌, true, false, cond, leb, Float}

@@ -5,13 +5,15 @@
 // fours is the result's exponent. The root is found bit by bit, without a table (`whole_root`), and
 // rounded by the remainder (`nearest_root`): no root lies midway between two values, so there are
 // no ties.
+#![tactic(auto)]
+
 ghost use Rattle.std.specs.Prelude.{◌≡◌, ◌*◌, ◌^◌, ◌<◌, ◌≤◌};
 ghost use Rattle.std.specs.Float.{binary32};
 ghost use Rattle.square_root.specs.Root.{IsRoot, IsNearestRoot, ByFours, nearest_root};
 ghost use Rattle.square_root.specs.Root.{square_root_of};
 
 // digits * 4^fours
-#[derive(Drop)]
+#[derive(Clone, Copy)]
 struct EvenPower {
     digits: u64,
     fours: u32,

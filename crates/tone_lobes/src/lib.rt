@@ -1,5 +1,7 @@
 // The lobes of a tone's partials, computed once: the plain and the compact way both start from
 // them.
+#![tactic(auto)]
+
 pub mod peaks;
 pub mod reach;
 

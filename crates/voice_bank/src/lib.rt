@@ -1,6 +1,8 @@
 // A bank of up to 128 voices, each with an id, in the order in which they came, and the open calls
 // that add one, take one out and change one. A bank is passed by value and handed back beside the
 // answer: as it came where the call is refused.
+#![tactic(auto)]
+
 ghost use Rattle.std.specs.Prelude.{◌≡◌, ◌≤◌, ◌<◌, set, take};
 ghost use Rattle.lists.specs.Closing.{closed};
 ghost use Rattle.answer.specs.Reply.{of_outcome, refused};
@@ -19,7 +21,7 @@ use voice_records::{VoiceRecord, plain_voice};
 // The voices are plain numbers, so that a caller in C can hold a bank. What stands from `count` on
 // does not count.
 #[repr(C)]
-#[derive(Drop)]
+#[derive(Clone, Copy)]
 pub struct Bank {
     pub ids: [u16; MOST_VOICES],
     pub voices: [VoiceRecord; MOST_VOICES],
@@ -27,7 +29,7 @@ pub struct Bank {
 }
 
 // What a call on a bank answers, with the bank beside it.
-#[derive(Drop)]
+#[derive(Clone, Copy)]
 pub struct Banked {
     pub outcome: Outcome,
     pub bank: Bank,

@@ -1,5 +1,7 @@
 // A voice as a record of plain numbers with C's layout, since an enum crosses to no caller in C: a
 // voice of its record, the record of a voice, and the core's array of voices.
+#![tactic(auto)]
+
 ghost use Rattle.std.specs.Prelude.{◌≡◌};
 ghost use Rattle.voice_records.specs.VoiceRecords.{voice_of, plain_voice, voices_of_record};
 
@@ -9,7 +11,7 @@ use scene::{MaskVoice, pitches, silent_voices};
 // A voice with C's layout. Its pitch is a form, 0 for a note or 1 for hertz, a note, and one more
 // number: the note's offset in semitones, or the hertz.
 #[repr(C)]
-#[derive(Drop)]
+#[derive(Clone, Copy)]
 pub struct VoiceRecord {
     pub pitch_form: u8,
     pub note: u8,

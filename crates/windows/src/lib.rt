@@ -1,4 +1,6 @@
 // The dual window and the coherent gain.
+#![tactic(auto)]
+
 ghost use Rattle.std.specs.Prelude.{◌≡◌, ◌+◌, ◌/◌, ◌%◌, ◌^◌, ◌≤◌, ◌<◌, length};
 ghost use Rattle.limits.specs.Lengths.{most_window};
 ghost use Rattle.windows.specs.Windows.{denominator_at, dual_of, sum_of, coherent_gain};

@@ -1,0 +1,56 @@
+-- `finish_two` meets its contract: on either side each bin below `start` has its gain, and the
+-- others their openness. Assumes nothing.
+use Prim.Native.Nat.{◌-◌, ◌≤◌}
+use native.Mathlib.Omega.{arith}
+use lib.ListN.{length}
+use lib.Ieee.{nan}
+use borrow.Author.Rules.{rules}
+use Rattle.lists.specs.Turned.{turned_none, turned_on, turned-all}
+use Rattle.bin_gains.proofs.RowCeilings.{finished}
+use Rattle.bin_gains.proofs.finish_two.Goals as goal
+
+pub loop-start-init : goal.loop-start-init
+loop-start-init c = (search rules, search rules, omega arith, turned_none _ _ _, turned_none _ _ _)
+
+pub ceilings-requires : goal.ceilings-requires
+ceilings-requires c = (
+  c.requires.0,
+  c.requires.1,
+  c.requires.2,
+  c.shared_of-shared.ensures,
+  omega (arith, c.lesser-count.ensures, c.loop-start.invariant.0),
+  omega (arith, c.lesser-count.ensures, c.loop-start.invariant.1),
+  omega (arith, c.lesser-count.ensures, c.requires.4, c.loop-start.invariant.2, c.loop-start.invariant.3.len),
+)
+
+pub finish_row-requires : goal.finish_row-requires
+finish_row-requires c =
+    (c.shared_of-shared.ensures, omega arith, omega (arith, c.lesser-count.ensures, c.loop-start.invariant.3.len), omega (arith, c.lesser-count.ensures, c.loop-start.invariant.0, c.ceilings.auto.row))
+
+pub finish_row-requires-in-loop-start : goal.finish_row-requires-in-loop-start
+finish_row-requires-in-loop-start c = (
+  c.shared_of-shared.ensures,
+  omega arith,
+  omega (arith, c.lesser-count.ensures, c.requires.5, c.loop-start.invariant.3.len, c.loop-start.invariant.4.len),
+  omega (arith, c.lesser-count.ensures, c.loop-start.invariant.0, c.ceilings.auto.row),
+)
+
+pub loop-start-preserved : goal.loop-start-preserved
+loop-start-preserved c =
+    let a = c.args in
+    let room : c.lesser-count.result ≤ length c.loop-start.row = omega (arith, c.lesser-count.ensures, c.loop-start.invariant.0) in (
+      search rules,
+      search rules,
+      omega (arith, c.lesser-count.ensures, c.loop-start.invariant.3.len),
+      turned_on nan _ c.loop-start.invariant.3 (omega arith) (finished a.curve.now a.config c.loop-start.start c.lesser-count.result c.loop-start.row c.loop-start.left room c.ceilings.ensures c.finish_row.ensures),
+      turned_on nan _ c.loop-start.invariant.4 (omega arith) (finished a.curve.now a.config c.loop-start.start c.lesser-count.result c.loop-start.row c.loop-start.right room c.ceilings.ensures c.finish_row-in-loop-start.ensures),
+    )
+
+pub shape_of-left : goal.shape_of-left
+shape_of-left c = c.loop-start.invariant.3.len
+
+pub shape_of-right : goal.shape_of-right
+shape_of-right c = c.loop-start.invariant.4.len
+
+pub returns : goal.returns
+returns c = record { left_after = turned-all c.loop-start.invariant.3 (omega (arith, c.loop-start.invariant.3.len)); right_after = turned-all c.loop-start.invariant.4 (omega (arith, c.loop-start.invariant.3.len, c.requires.5)) }

@@ -1,0 +1,24 @@
+-- `copy_row` replaces the first `count` numbers: each entry below k is the slice's. Assumes
+-- nothing.
+use mathlib.Core.Path.{refl}
+use mathlib.Core.Logic.{inl}
+use Prim.Native.Nat.{◌-◌}
+use native.Mathlib.Omega.{arith}
+use lib.Ieee.{nan}
+use Rattle.lists.specs.Turned.{turned_none, turned_more, turned-to}
+use Rattle.blocks.proofs.rows.copy_row.Goals as goal
+
+pub loop-k-init : goal.loop-k-init
+loop-k-init c = (turned_none _ _ _, omega arith)
+
+pub loop-k-smaller : goal.loop-k-smaller
+loop-k-smaller c = omega arith
+
+pub loop-k-preserved : goal.loop-k-preserved
+loop-k-preserved c = (turned_more nan c.loop-k.invariant.0 (omega arith) refl, omega arith)
+
+pub shape_of-row : goal.shape_of-row
+shape_of-row c = c.loop-k.invariant.0.len
+
+pub returns : goal.returns
+returns c = turned-to _ c.loop-k.invariant.0 (inl c.loop-k.invariant.1) (omega arith)

@@ -1,0 +1,21 @@
+-- `take_row` leaves the run in the row: first its first entry everywhere, then as many of its
+-- entries as there are. Assumes nothing.
+use mathlib.Core.Path.{◌∙◌}
+use native.Mathlib.Omega.{arith}
+use Rattle.blocks.proofs.Runs.{row_of}
+use Rattle.blocks.proofs.take_row.Goals as goal
+
+pub bounds-from-start : goal.bounds-from-start
+bounds-from-start c = c.requires.1
+
+pub copy_row-requires : goal.copy_row-requires
+copy_row-requires c =
+    (omega (arith, c.lesser.ensures, c.fill.auto.output, c.requires.0), omega (arith, c.lesser.ensures, c.requires.1))
+
+pub shape_of-row : goal.shape_of-row
+shape_of-row c =
+    c.copy_row.auto.row ∙ c.fill.auto.output
+
+pub returns : goal.returns
+returns c =
+    row_of c.args.start c.lesser.result c.args.from.now c.args.row.now c.requires.1 c.requires.0 c.fill.ensures c.lesser.ensures c.copy_row.ensures

@@ -1,0 +1,5 @@
+-- `ceil_to_count` meets its contract: the definition is `count_of`, rounded up. Assumes nothing.
+use Rattle.counts.proofs.ceil_to_count.Goals as goal
+
+pub returns : goal.returns
+returns c = c.to_count.ensures

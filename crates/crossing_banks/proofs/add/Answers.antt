@@ -1,0 +1,11 @@
+-- `add` meets its contract: the open call on the voice of the record. Assumes nothing.
+use Rattle.crossing_banks.proofs.add.Goals as goal
+
+pub returns : goal.returns
+returns c =
+    simp (
+      c.plain_banked.ensures,
+      c.add_voice.ensures.outcome_value,
+      c.add_voice.ensures.bank_value,
+      c.voice_of.ensures,
+    )

@@ -1,0 +1,29 @@
+-- `ratios` replaces the first `count` entries: each entry below k is its bin's frequency, divided.
+-- Assumes nothing.
+use mathlib.Core.Logic.{inl}
+use Prim.Native.Nat.{◌-◌}
+use native.Mathlib.Omega.{arith}
+use lib.Ieee.{nan}
+use Rattle.lists.specs.Turned.{turned_none, turned_more, turned-to}
+use mathlib.Core.Path.{refl}
+use Rattle.float32.proofs.Sums.{in-float}
+use borrow.Author.Rules.{rules}
+use Rattle.frequencies.proofs.rows.ratios.Goals as goal
+
+pub loop-k-init : goal.loop-k-init
+loop-k-init c = (turned_none _ _ _, omega arith)
+
+pub int_to_float-row : goal.int_to_float-row
+int_to_float-row c = in-float _ (search rules)
+
+pub loop-k-smaller : goal.loop-k-smaller
+loop-k-smaller c = omega arith
+
+pub loop-k-preserved : goal.loop-k-preserved
+loop-k-preserved c = (turned_more nan c.loop-k.invariant.0 (omega arith) refl, omega arith)
+
+pub shape_of-row : goal.shape_of-row
+shape_of-row c = c.loop-k.invariant.0.len
+
+pub returns : goal.returns
+returns c = turned-to _ c.loop-k.invariant.0 (inl c.loop-k.invariant.1) (omega arith)

@@ -1,0 +1,28 @@
+-- `counted_values` replaces the first `count` entries: each entry below k is what it counts as,
+-- which is never a NaN. Assumes nothing.
+use mathlib.Core.Logic.{inl}
+use Prim.Native.Nat.{◌-◌}
+use native.Mathlib.Omega.{arith}
+use lib.Ieee.{nan}
+use Rattle.lists.specs.Turned.{turned_none, turned-to}
+use Rattle.lists.specs.Stages.{turned-held}
+use Rattle.masks.specs.Counted.{counted_as}
+use Rattle.masks.proofs.StagedCurve.{row-no-nan}
+use Rattle.masks.proofs.rows.counted_values.Goals as goal
+
+pub loop-k-init : goal.loop-k-init
+loop-k-init c = (turned_none _ _ _, omega arith)
+
+pub loop-k-smaller : goal.loop-k-smaller
+loop-k-smaller c = omega arith
+
+pub loop-k-preserved : goal.loop-k-preserved
+loop-k-preserved c = (turned-held nan c.loop-k.invariant.0 (omega arith) c.counted_as.ensures, omega arith)
+
+pub shape_of-row : goal.shape_of-row
+shape_of-row c = c.loop-k.invariant.0.len
+
+pub returns : goal.returns
+returns c =
+    let is = turned-to _ c.loop-k.invariant.0 (inl c.loop-k.invariant.1) (omega arith) in
+    record { row_after = is; by_index = λ k h. rw is (row-no-nan _ _ (omega arith) k h) }

@@ -1,0 +1,56 @@
+-- `open_one` joins the voices onto 0. Assumes nothing.
+use mathlib.Core.Path.{◌≡◌, refl}
+use native.Mathlib.Omega.{arith}
+use lib.ListN.{length}
+use Rattle.openness.proofs.Opened.{opened}
+use Rattle.openness.proofs.ReadyVoices.{zeros-open, one-zero-open}
+use Rattle.openness.proofs.open_one.Goals as goal
+
+pub ends_where-requires : goal.ends_where-requires
+ends_where-requires c =
+    record {
+      lows-128 = refl;
+      highs-128 = refl;
+      row-64 = refl;
+      long = λ e. (c.requires.scene (c.walks-compact.ensures e)).long;
+      table-real = λ e. (c.requires.scene (c.walks-compact.ensures e)).table-real;
+    }
+
+pub raise_voices-requires : goal.raise_voices-requires
+raise_voices-requires c =
+    let lows : length c.ends_where.new.lows ≡ 128 = c.ends_where.auto.lows in
+    let highs : length c.ends_where.new.highs ≡ 128 = c.ends_where.auto.highs in
+    record {
+      tables = c.requires.tables;
+      sines = c.requires.sines;
+      octaves = c.partial_octaves-octaves.ensures;
+      scratch = record { chunk-64 = c.ends_where.auto.row; indexes-64 = refl };
+      few = c.requires.few;
+      on-grid = c.requires.on-grid;
+      heard = c.requires.heard;
+      walk = λ e.
+          let t = c.walks-compact.ensures e in
+          let k = c.requires.scene t in
+          record {
+            by-table = t;
+            sides =
+                record {
+                  ready =
+                      record {
+                        last = k.last;
+                        inside = c.requires.on-grid.inside t;
+                        lows-long = omega (arith, lows, k.long);
+                        highs-long = omega (arith, highs, k.long);
+                        ends = c.ends_where.ensures e;
+                        table-real = k.table-real;
+                      };
+                  sides = record { first-open = zeros-open _ c.fill.ensures; second-open = one-zero-open };
+                };
+            grid-real = k.grid-real;
+            voices-real = k.voices-real;
+          };
+    }
+
+pub returns : goal.returns
+returns c =
+    opened _ _ _ _ _ c.fill.ensures c.raise_voices.ensures.0

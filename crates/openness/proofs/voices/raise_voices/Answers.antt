@@ -1,0 +1,85 @@
+-- `raise_voices`: joining the voices from the current one on to what the bins hold now gives what
+-- joining all of them to what the bins held at entry gives. Assumes nothing.
+use mathlib.Core.Path.{refl, sym, ◌∙◌}
+use mathlib.Core.Bool.{true}
+use Prim.Native.Nat.{◌-◌, ◌≤◌}
+use native.Mathlib.Omega.{arith}
+use lib.ListN.{length, get_or}
+use Rattle.scene.specs.Accepted.{no_voice}
+use Rattle.openness.specs.Sides.{first_side, second_side}
+use Rattle.openness.proofs.EachVoice.{voices-next, voices-end}
+use Rattle.openness.proofs.ReadyVoices.{voice-open, voice-real}
+use Rattle.openness.proofs.voices.raise_voices.Goals as goal
+
+pub loop-index-init : goal.loop-index-init
+loop-index-init c =
+    (c.well_formed.1.1.1.1.1.1.1.1.1.1.1.1.0.1.0.1, refl, refl, refl, refl, refl, refl, λ e. (c.requires.walk e).sides.sides)
+
+pub offset_bounds-voices-index : goal.offset_bounds-voices-index
+offset_bounds-voices-index c = omega arith
+
+pub bounds-voices-index : goal.bounds-voices-index
+bounds-voices-index c = omega arith
+
+pub raise_voice-requires : goal.raise_voice-requires
+raise_voice-requires c =
+    let some : c.args.count ≤ length c.args.voices = omega (arith, c.requires.heard, c.loop-index.invariant.0) in
+    record {
+      tables = c.requires.tables;
+      sines = c.requires.sines;
+      octaves = c.requires.octaves;
+      scratch = record { chunk-64 = c.loop-index.invariant.3 ∙ c.requires.scratch.chunk-64; indexes-64 = c.loop-index.invariant.4 ∙ c.requires.scratch.indexes-64 };
+      few = c.requires.few;
+      on-grid = c.requires.on-grid;
+      walk = λ e.
+          let k = c.requires.walk e in
+          record {
+            by-table = k.by-table;
+            sides = record { ready = k.sides.ready; sides = c.loop-index.invariant.7 e };
+            grid-real = k.grid-real;
+            voice-real = voice-real c.args.voices c.args.count c.loop-index.index some k.voices-real c.loop-index-test.true;
+          };
+    }
+
+pub loop-index-smaller : goal.loop-index-smaller
+loop-index-smaller c = omega arith
+
+pub loop-index-preserved : goal.loop-index-preserved
+loop-index-preserved c =
+    let voice = get_or c.args.voices c.loop-index.index no_voice in
+    let some : c.args.count ≤ length c.args.voices = omega (arith, c.requires.heard, c.loop-index.invariant.0) in (
+      c.loop-index.invariant.0,
+      omega (arith, c.raise_voice.auto.first, c.loop-index.invariant.1),
+      omega (arith, c.raise_voice.auto.second, c.loop-index.invariant.2),
+      omega (arith, c.raise_voice.auto.chunk, c.loop-index.invariant.3),
+      omega (arith, c.raise_voice.auto.indexes, c.loop-index.invariant.4),
+      voices-next _ _ _ _ _ c.loop-index.index _ some c.loop-index-test.true c.raise_voice.ensures.0 ∙ c.loop-index.invariant.5,
+      voices-next _ _ _ _ _ c.loop-index.index _ some c.loop-index-test.true c.raise_voice.ensures.1 ∙ c.loop-index.invariant.6,
+      λ e.
+          let k = c.requires.walk e in
+          let o = c.loop-index.invariant.7 e in
+          let u = voice-real c.args.voices c.args.count c.loop-index.index some k.voices-real c.loop-index-test.true in
+          let first = rw k.by-table at c.raise_voice.ensures.0 in
+          let second = rw k.by-table at c.raise_voice.ensures.1 in
+          record {
+            first-open = voice-open c.args.way.grid k.grid-real c.args.table.now (first_side c.args.way.stereo) voice u c.loop-index.first o.first-open first;
+            second-open = voice-open c.args.way.grid k.grid-real c.args.table.now (second_side c.args.way.stereo) voice u c.loop-index.second o.second-open second;
+          },
+    )
+
+pub shape_of-first : goal.shape_of-first
+shape_of-first c = c.loop-index.invariant.1
+
+pub shape_of-second : goal.shape_of-second
+shape_of-second c = c.loop-index.invariant.2
+
+pub shape_of-chunk : goal.shape_of-chunk
+shape_of-chunk c = c.loop-index.invariant.3
+
+pub shape_of-indexes : goal.shape_of-indexes
+shape_of-indexes c = c.loop-index.invariant.4
+
+pub returns : goal.returns
+returns c =
+    let l = c.loop-index in
+    (sym (voices-end _ _ _ _ _ l.index _ c.loop-index-test.false) ∙ l.invariant.5, sym (voices-end _ _ _ _ _ l.index _ c.loop-index-test.false) ∙ l.invariant.6)

@@ -1,0 +1,29 @@
+-- `exp2_row` walks along the row: the numbers below `start` are done. Assumes nothing.
+use mathlib.Core.Path.{refl, sym, subst}
+use mathlib.Core.Logic.{inl}
+use mathlib.Core.List.{List}
+use Prim.Native.Nat.{◌+◌, ◌-◌}
+use native.Mathlib.Omega.{arith}
+use lib.Ieee.{Float}
+use Rattle.lists.specs.Turned.{Turned, turned_none, turned-to}
+use Rattle.lists.specs.Runs.{turned-part}
+use Rattle.power.specs.Power.{E2}
+use Rattle.power_rows.proofs.exp2.exp2_row.Goals as goal
+
+pub loop-start-init : goal.loop-start-init
+loop-start-init c = (turned_none _ _ _, omega arith, refl, refl, refl)
+
+pub loop-start-preserved : goal.loop-start-preserved
+loop-start-preserved c = (
+  subst (λ (l : List Float). Turned (λ i x. E2 x) 0 c.args.row.now l (c.loop-start.start + c.lesser-few.result)) (sym c.few_powers.ensures) (turned-part _ c.loop-start.invariant.0 (omega arith)),
+  omega (arith, c.lesser-few.ensures, c.loop-start.invariant.1),
+  omega (arith, c.few_powers.auto.inside, c.loop-start.invariant.2),
+  omega (arith, c.few_powers.auto.found, c.loop-start.invariant.3),
+  omega (arith, c.few_powers.auto.values, c.loop-start.invariant.4),
+)
+
+pub shape_of-row : goal.shape_of-row
+shape_of-row c = c.loop-start.invariant.0.len
+
+pub returns : goal.returns
+returns c = turned-to _ c.loop-start.invariant.0 (inl c.loop-start.invariant.1) (omega arith)

@@ -1,0 +1,19 @@
+-- `put_four` meets its contract: four stores one after the other. Assumes nothing.
+use lib.ListN.{length-set}
+use native.Mathlib.Omega.{arith}
+use Rattle.record_words.proofs.Numbers.{stored-four}
+use Rattle.record_words.proofs.put_four.Goals as goal
+
+pub bounds-bytes-at-2 : goal.bounds-bytes-at-2
+bounds-bytes-at-2 c = simp length-set (omega arith)
+
+pub bounds-bytes-at-3 : goal.bounds-bytes-at-3
+bounds-bytes-at-3 c = simp length-set (omega arith)
+
+pub bounds-bytes-at-4 : goal.bounds-bytes-at-4
+bounds-bytes-at-4 c = simp length-set (omega arith)
+
+pub returns : goal.returns
+returns c =
+    stored-four _ _ _ _ _ _ _ c.byte_of.ensures
+    c.byte_of-2.ensures c.byte_of-3.ensures c.byte_of-4.ensures

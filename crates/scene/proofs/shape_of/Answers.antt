@@ -1,0 +1,30 @@
+-- `scene::shape_of` meets its contract, arm by arm. Assumes nothing.
+use borrow.Author.Tests.{ne_eqb}
+use Rattle.scene.proofs.shape_of.Goals as goal
+
+pub returns-in-0 : goal.returns-in-0
+returns-in-0 c = rw c.in-0.is
+
+pub returns-in-1 : goal.returns-in-1
+returns-in-1 c = rw c.in-1.is
+
+pub returns-in-2 : goal.returns-in-2
+returns-in-2 c = rw c.in-2.is
+
+pub returns-in-3 : goal.returns-in-3
+returns-in-3 c = rw c.in-3.is
+
+pub returns-in-4 : goal.returns-in-4
+returns-in-4 c = rw c.in-4.is
+
+pub returns-in-5 : goal.returns-in-5
+returns-in-5 c = rw c.in-5.is
+
+pub returns-in-6 : goal.returns-in-6
+returns-in-6 c = rw c.in-6.is
+
+pub returns-in_default : goal.returns-in_default
+returns-in_default c =
+    let n = c.args.number in
+    let r = c.in_default.in_default-own.rest in
+    simp (ne_eqb n 0 r.0.0.0.0.0.0.1, ne_eqb n 1 r.0.0.0.0.0.1, ne_eqb n 2 r.0.0.0.0.1, ne_eqb n 3 r.0.0.0.1, ne_eqb n 4 r.0.0.1, ne_eqb n 5 r.0.1, ne_eqb n 6 r.1)

@@ -1,0 +1,48 @@
+-- `soften_inside` softens every bin with two neighbours: each bin below `start` is done
+-- (proofs/Rows.antt). Assumes nothing.
+use mathlib.Core.Logic.{inl}
+use Prim.Native.Nat.{◌+◌, ◌-◌, ◌≤◌}
+use native.Mathlib.Omega.{arith}
+use borrow.Author.Rules.{rules}
+use lib.ListN.{length}
+use lib.Ieee.{nan}
+use Rattle.lists.specs.Turned.{turned_none, turned_on, turned-to}
+use Rattle.smoothing.proofs.Rows.{softened-inside}
+use Rattle.smoothing.proofs.soften_inside.Goals as goal
+
+pub loop-start-init : goal.loop-start-init
+loop-start-init c = (search rules, omega arith, turned_none _ _ _)
+
+pub overflow_sub-start : goal.overflow_sub-start
+overflow_sub-start c = c.loop-start.invariant.2.low
+
+pub overflow_add-count : goal.overflow_add-count
+overflow_add-count c = omega (arith, c.lesser-count.ensures)
+
+pub decibel_row-requires : goal.decibel_row-requires
+decibel_row-requires c =
+    (c.requires.0, omega (arith, c.lesser-count.ensures, c.loop-start.invariant.0), omega (arith, c.lesser-count.ensures, c.requires.2, c.loop-start.invariant.1, c.loop-start.invariant.2.low))
+
+pub soften_row-requires : goal.soften_row-requires
+soften_row-requires c = (
+  c.requires.0,
+  omega arith,
+  omega (arith, c.lesser-count.ensures, c.requires.1, c.requires.2, c.loop-start.invariant.1, c.loop-start.invariant.2.len),
+  omega (arith, c.lesser-count.ensures, c.loop-start.invariant.0, c.decibel_row.auto.row),
+)
+
+pub loop-start-smaller : goal.loop-start-smaller
+loop-start-smaller c = omega (arith, c.lesser-count.ensures)
+
+pub loop-start-preserved : goal.loop-start-preserved
+loop-start-preserved c =
+    let a = c.args in
+    let room : c.lesser-count.result + 2 ≤ length c.loop-start.row = omega (arith, c.lesser-count.ensures, c.loop-start.invariant.0) in
+    let e = softened-inside c.loop-start.start c.lesser-count.result a.source.now c.loop-start.row c.loop-start.output c.loop-start.invariant.2.low room c.decibel_row.ensures c.soften_row.ensures in
+    (search rules, omega (arith, c.lesser-count.ensures, c.loop-start.invariant.1), turned_on nan _ c.loop-start.invariant.2 (omega arith) e)
+
+pub shape_of-output : goal.shape_of-output
+shape_of-output c = c.loop-start.invariant.2.len
+
+pub returns : goal.returns
+returns c = turned-to _ c.loop-start.invariant.2 (inl c.loop-start.invariant.1) (omega arith)

@@ -1,0 +1,7 @@
+-- `spectral_dsp_c::spectral::dovetable_note_gate_gain` gives what the open call answers. Assumes
+-- nothing.
+use Rattle.crossing.proofs.Replies.{given-value}
+use Rattle.spectral_dsp_c.proofs.spectral.dovetable_note_gate_gain.Goals as goal
+
+pub returns : goal.returns
+returns c = given-value c.note_gate_gain.ensures c.give_answer.ensures

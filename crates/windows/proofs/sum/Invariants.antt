@@ -1,0 +1,15 @@
+-- `sum` is the fold from 0: the sum so far, run on over the values that are left, is the whole sum.
+-- Assumes nothing.
+use mathlib.Core.Path.{◌≡◌}
+use Prim.Native.Nat.{◌-◌}
+use lib.ListN.{length, drop}
+use lib.Ieee.{binary32, add}
+use Rattle.lists.specs.Folds.{fold}
+use Rattle.windows.specs.Windows.{sum_of}
+use Rattle.windows.proofs.sum.Given as goal
+
+abbrev pub invariant-loop-index : goal.invariant-loop-index
+invariant-loop-index l = fold (λ s x. add binary32 s x) l.total (drop l.index l.window) ≡ sum_of l.window
+
+abbrev pub decreases-loop-index : goal.decreases-loop-index
+decreases-loop-index l = length l.window - l.index
