@@ -10,10 +10,7 @@ fn main() {
     let other = std::env::var_os("DOVETABLE_STATICLIB").map(PathBuf::from);
     let library = other.unwrap_or_else(|| root.join(FILE));
     let found = library.canonicalize().unwrap_or_else(|problem| {
-        panic!(
-            "{}: {problem}; build the static library first",
-            library.display()
-        )
+        panic!("{}: {problem}; ./staticlib builds it", library.display())
     });
     let folder = found.parent().expect("a file lies in a folder");
     println!("cargo::rerun-if-env-changed=DOVETABLE_STATICLIB");

@@ -10,8 +10,10 @@ use crate::tables::{HALF_ANGLE_COSINES, POWERS, SINES};
 use std::ops::Range;
 use std::path::{Path, PathBuf};
 
-/// The longest line of a list.
+/// The longest line.
 const COLUMNS: usize = 100;
+/// The longest entry of an array that has several entries a line.
+const SHORT: usize = 10;
 /// The entries of a row of P, where it stands in rows.
 const ROW: usize = 32;
 
@@ -34,37 +36,37 @@ const TABLES: [Table; 6] = [
     Table {
         name: "power",
         array: ["src/table.rt", "const POWERS: PowerTable = ["],
-        list: ["specs/Table.antt", "powerTable ="],
+        list: ["specs/Table.antt", "power_table ="],
         entries: || Entries::Whole(POWERS.to_vec()),
     },
     Table {
         name: "sine",
         array: ["src/table.rt", "const HALF_ANGLE_COSINES: [u32; 9] = ["],
-        list: ["specs/Table.antt", "halfAngleCosines ="],
+        list: ["specs/Table.antt", "half_angle_cosines ="],
         entries: || Entries::Whole(HALF_ANGLE_COSINES.to_vec()),
     },
     Table {
         name: "sine",
         array: ["src/table.rt", "const SINES: [u32; 257] = ["],
-        list: ["specs/Table.antt", "sineTable ="],
+        list: ["specs/Table.antt", "sine_table ="],
         entries: || Entries::Whole(SINES.to_vec()),
     },
     Table {
         name: "gaussian",
         array: ["src/lib.rt", "const GAUSSIANS: GaussianTable = ["],
-        list: ["specs/Table.antt", "gaussianBits ="],
+        list: ["specs/Table.antt", "gaussian_bits ="],
         entries: || Entries::Floats(MaskWorkspace::default().gaussian.to_vec()),
     },
     Table {
         name: "lobes",
         array: ["src/octaves.rt", "const OCTAVES: PartialOctaves = ["],
-        list: ["proofs/Logged.antt", "octaveBits ="],
+        list: ["proofs/Logged.antt", "octave_bits ="],
         entries: partial_octaves,
     },
     Table {
         name: "motion_compensation",
         array: ["src/octaves.rt", "const OCTAVES: OctaveTable = ["],
-        list: ["specs/Octaves.antt", "octaveBits ="],
+        list: ["specs/Octaves.antt", "octave_bits ="],
         entries: sample_octaves,
     },
 ];
@@ -104,33 +106,41 @@ impl Entries {
     }
 }
 
-/// One entry a line.
-fn array_lines(entries: &[String]) -> String {
-    let lines = entries.iter().map(|entry| format!("    {entry},\n"));
-    lines.collect::<String>() + "];\n"
-}
-
-/// As many entries a line as fit.
-fn list_lines(entries: &[String]) -> String {
-    let mut lines = vec![String::from("   ")];
-    let parts = entries.iter().map(|entry| format!(" {entry} ∷"));
-    for part in parts.chain([String::from(" []")]) {
+/// As many parts a line as fit.
+fn filled(indent: &str, parts: impl Iterator<Item = String>) -> String {
+    let mut lines = vec![String::from(indent)];
+    for part in parts {
         let last = lines.last_mut().expect("there is a line");
         if last.chars().count() + part.chars().count() <= COLUMNS {
             last.push_str(&part);
         } else {
-            lines.push(format!("   {part}"));
+            lines.push(format!("{indent}{part}"));
         }
     }
     lines.join("\n") + "\n"
 }
 
+/// As `rt fmt` lays an array out: as many entries a line as fit where each is short, else one.
+fn array_lines(entries: &[String]) -> String {
+    if entries.iter().all(|entry| entry.len() <= SHORT) {
+        return filled("   ", entries.iter().map(|entry| format!(" {entry},"))) + "];\n";
+    }
+    let lines = entries.iter().map(|entry| format!("    {entry},\n"));
+    lines.collect::<String>() + "];\n"
+}
+
+fn list_lines(entries: &[String]) -> String {
+    let parts = entries.iter().map(|entry| format!(" {entry} ∷"));
+    filled("   ", parts.chain([String::from(" []")]))
+}
+
 /// Row after row of entries as the arms of a `match`, and the table's end in the last arm.
 fn row_lines(entries: &[String]) -> String {
-    let line = |entry: &String| format!("            {entry},\n");
     let row = |(k, entries): (usize, &[String])| {
-        let lines: String = entries.iter().map(line).collect();
-        format!("        {k} => of_row(\n            i,\n{lines}        ),\n")
+        let entries = entries.iter().map(|entry| format!(" {entry},"));
+        let arguments = [String::from(" i,")].into_iter().chain(entries);
+        let lines = filled("           ", arguments);
+        format!("        {k} => of_row(\n{lines}        ),\n")
     };
     let (end, entries) = entries.split_last().expect("a table has an end");
     let rows: String = entries.chunks(ROW).enumerate().map(row).collect();
