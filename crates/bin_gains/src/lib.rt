@@ -59,10 +59,8 @@ fn move_row(row: &mut [f32], field: &[f32], compensation: f32, count: usize)
         (λ k held. mul binary32 held (mul binary32 (get_or field.now k nan) compensation))
         0 count row.old }
 {
-    let mut k: usize = 0;
-    while k < count {
+    for k in 0..count {
         row[k] = row[k] * (field[k] * compensation);
-        k += 1;
     }
 }
 
@@ -133,10 +131,8 @@ fn finish_row(
         (get_or ceilings.now (bin - start) nan) (gate_at config opened)) start end
         out.old }
 {
-    let mut bin = start;
-    while bin < end {
+    for bin in start..end {
         out[bin] = ceilings[bin - start] * gate_at(config, shared, out[bin]);
-        bin += 1;
     }
 }
 

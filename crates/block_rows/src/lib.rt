@@ -128,8 +128,7 @@ pub fn raise_partials(
         row, chunk, indexes, gaussians, table, grid, first, start, end,
     );
     let mut least = least_from(chunk, row, 0);
-    let mut p: usize = 0;
-    while p < count {
+    for p in 0..count {
         let lobe = lobes[p];
         least = raise_above(
             row,
@@ -145,6 +144,5 @@ pub fn raise_partials(
             start,
             end,
         );
-        p += 1;
     }
 }

@@ -45,13 +45,11 @@ pub fn span_of(lobes: [Lobe; MAX_PARTIALS], count: usize, last_bin: usize) -> Sp
     let mut first = last_bin + 1;
     let mut last: usize = 0;
     let mut cost: usize = 0;
-    let mut p: usize = 0;
-    while p < count {
+    for p in 0..count {
         let lobe = lobes[p];
         first = lesser(first, lobe.first_bin);
         last = greater(last, lobe.last_bin);
         cost += bins_between(lobe.first_bin, lobe.last_bin);
-        p += 1;
     }
     Span {
         first_bin: first,
@@ -78,13 +76,11 @@ pub fn columns_of(
         × (peaks.new
         ≡ map_range (λ p held. (get_or lobes p no_lobe).peak_squared) 0 count peaks.old) }
 {
-    let mut p: usize = 0;
-    while p < count {
+    for p in 0..count {
         let lobe = lobes[p];
         centers[p] = lobe.center_log2;
         strengths[p] = lobe.strength;
         peaks[p] = lobe.peak_squared;
-        p += 1;
     }
 }
 

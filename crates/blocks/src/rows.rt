@@ -16,20 +16,16 @@ pub(crate) fn copy_row(row: &mut [f32], from: &[f32], start: usize, count: usize
     ensures { row.new ≡ map_range (λ k held. get_or from.now (start + k) nan)
         0 count row.old }
 {
-    let mut k: usize = 0;
-    while k < count {
+    for k in 0..count {
         row[k] = from[start + k];
-        k += 1;
     }
 }
 
 pub(crate) fn negate(row: &mut [f32])
     ensures { row.new ≡ map_at (λ k held. neg held) row.old }
 {
-    let mut k: usize = 0;
-    while k < row.len() {
+    for k in 0..row.len() {
         row[k] = -row[k];
-        k += 1;
     }
 }
 
@@ -48,10 +44,8 @@ fn halve(row: &mut [f32], count: usize)
         (λ k held. smaller held (get_or row.old (k + count) nan)) 0 count
         row.old }
 {
-    let mut k: usize = 0;
-    while k < count {
+    for k in 0..count {
         row[k] = lesser(row[k], row[k + count]);
-        k += 1;
     }
 }
 

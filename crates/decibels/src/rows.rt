@@ -17,10 +17,8 @@ fn decades(row: &mut [f32], count: usize)
     ensures { row.new
         ≡ map_range (λ k db. div binary32 db decibels_per_decade) 0 count row.old }
 {
-    let mut k: usize = 0;
-    while k < count {
+    for k in 0..count {
         row[k] = row[k] / DECIBELS_PER_DECADE;
-        k += 1;
     }
 }
 
@@ -31,10 +29,8 @@ fn differs(row: &[f32], first: f32, count: usize) -> bool
         T (eq (get_or row.now k nan) first) }
 {
     let mut other = false;
-    let mut k: usize = 0;
-    while k < count {
+    for k in 0..count {
         other = other | (row[k] != first);
-        k += 1;
     }
     other
 }

@@ -57,10 +57,8 @@ fn word_of(held: &[u8], index: usize) -> u64
         × Bytes held.now (8 * index) 8 }
 {
     let mut word: u64 = 0;
-    let mut k: usize = 0;
-    while k < 8 {
+    for k in 0..8 {
         word = word * 256 + wide(byte_of(held, index, k));
-        k += 1;
     }
     word
 }
@@ -99,11 +97,9 @@ fn step_half(levels: &mut [f32], half: u32, index: usize, alpha: f32)
         (λ note level. next_level (is_set half (31 - note % 32)) alpha level)
         (32 * index) (32 * index + 32) levels.old }
 {
-    let mut bit: usize = 0;
-    while bit < 32 {
+    for bit in 0..32 {
         let note = 32 * index + bit;
         levels[note] = next_level(half, bit, alpha, levels[note]);
-        bit += 1;
     }
 }
 

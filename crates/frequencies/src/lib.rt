@@ -35,10 +35,8 @@ fn fill_hertz(table: &mut [f32], bin_hz: f32)
     ensures { table.new
         ≡ tabulate (length table.old) (hertz_or_zero bin_hz) }
 {
-    let mut bin: usize = 0;
-    while bin < table.len() {
+    for bin in 0..table.len() {
         table[bin] = hertz(bin, bin_hz);
-        bin += 1;
     }
 }
 

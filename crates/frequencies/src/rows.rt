@@ -11,9 +11,7 @@ pub fn ratios(row: &mut [f32], bin_hz: f32, over: f32, start: usize, count: usiz
     ensures { row.new ≡ map_range
         (λ k held. div binary32 (hertz bin_hz (start + k)) over) 0 count row.old }
 {
-    let mut k: usize = 0;
-    while k < count {
+    for k in 0..count {
         row[k] = (start + k) as f32 * bin_hz / over;
-        k += 1;
     }
 }

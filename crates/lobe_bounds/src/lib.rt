@@ -52,10 +52,8 @@ fn nearest_places(
         (get_or centers.now p nan) (get_or peaks.now p nan) low high) 0 count
         places.old }
 {
-    let mut p: usize = 0;
-    while p < count {
+    for p in 0..count {
         places[p] = nearest_place(width, centers[p], peaks[p], low, high);
-        p += 1;
     }
 }
 
@@ -77,10 +75,8 @@ fn bounds_at_places(bounds: &mut [f32], gaussians: &GaussianTable, strengths: &[
         (λ p place. bound_at (get_or strengths.now p nan) place) 0 count
         bounds.old }
 {
-    let mut p: usize = 0;
-    while p < count {
+    for p in 0..count {
         bounds[p] = bound_at(gaussians, strengths[p], bounds[p]);
-        p += 1;
     }
 }
 
@@ -136,12 +132,10 @@ pub fn greatest_at(bounds: &[f32], count: usize) -> usize
 {
     let mut greatest = bounds[0];
     let mut place: usize = 0;
-    let mut p: usize = 1;
-    while p < count {
+    for p in 1..count {
         let next = bounds[p];
         place = greater_at(greatest, next, place, p);
         greatest = greater(greatest, next);
-        p += 1;
     }
     place
 }

@@ -24,9 +24,7 @@ pub fn join(out: &mut [f32], openings: &[f32], gain: f32, start: usize, end: usi
         out.old }
 {
     let stop = lesser(end, out.len());
-    let mut bin = start;
-    while bin < stop {
+    for bin in start..stop {
         out[bin] = joined(out[bin], openings[bin - start], gain);
-        bin += 1;
     }
 }

@@ -30,10 +30,8 @@ fn exponents(chunk: &mut [f32], count: usize, width: f32, peak_squared: f32)
         (λ k octaves. mul binary32 minus_half (relative_to peak_squared (in_widths width octaves)))
         0 count chunk.old }
 {
-    let mut k: usize = 0;
-    while k < count {
+    for k in 0..count {
         chunk[k] = MINUS_HALF * relative_square(peak_squared, in_widths(width, chunk[k]));
-        k += 1;
     }
 }
 

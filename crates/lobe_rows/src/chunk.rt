@@ -59,13 +59,11 @@ fn places(
         (in_widths width (sub binary32 (get_or table.now (start + k) nan) center_log2))) 0
         count chunk.old }
 {
-    let mut k: usize = 0;
-    while k < count {
+    for k in 0..count {
         chunk[k] = place_of(
             peak_squared,
             distance_by_table(table, width, center_log2, start + k),
         );
-        k += 1;
     }
 }
 
@@ -79,12 +77,10 @@ fn steps(chunk: &mut [f32], indexes: &mut [u32], count: usize)
         × (indexes.new ≡ map_range (λ k held. index_of (get_or chunk.old k nan)) 0
         count indexes.old) }
 {
-    let mut k: usize = 0;
-    while k < count {
+    for k in 0..count {
         let step = step_of(chunk[k]);
         chunk[k] = step.part;
         indexes[k] = step.index;
-        k += 1;
     }
 }
 
@@ -96,10 +92,8 @@ fn lines(chunk: &mut [f32], indexes: &[u32], gaussians: &GaussianTable, count: u
     ensures { chunk.new ≡ map_range
         (λ k part. line (get_or indexes.now k 0) part) 0 count chunk.old }
 {
-    let mut k: usize = 0;
-    while k < count {
+    for k in 0..count {
         chunk[k] = gaussian::line(gaussians, indexes[k], chunk[k]);
-        k += 1;
     }
 }
 
@@ -133,10 +127,8 @@ pub(crate) fn openings_of_bells(chunk: &mut [f32], count: usize, strength: f32)
     ensures { chunk.new
         ≡ map_range (λ k bell. opened_by strength bell) 0 count chunk.old }
 {
-    let mut k: usize = 0;
-    while k < count {
+    for k in 0..count {
         chunk[k] = opened_by(strength, chunk[k]);
-        k += 1;
     }
 }
 

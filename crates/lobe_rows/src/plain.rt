@@ -77,12 +77,10 @@ pub fn raise_lobes(
         (lobes_joined grid (logs_of tabled table.now) gains.second (take count lobes))
         second.old) }
 {
-    let mut p: usize = 0;
-    while p < count {
+    for p in 0..count {
         let lobe = lobes[p];
         raise_lobe(
             first, second, chunk, indexes, powers, gaussians, tabled, table, grid, lobe, gains,
         );
-        p += 1;
     }
 }

@@ -42,10 +42,8 @@ fn values_by_step(row: &mut [f32], curve: &[f32], step: usize, start: usize, cou
         (λ k held. get_or curve.now (min ((start + k) * step) last_point) nan) 0 count
         row.old }
 {
-    let mut k: usize = 0;
-    while k < count {
+    for k in 0..count {
         row[k] = curve[lesser((start + k) * step, LAST_POINT)];
-        k += 1;
     }
 }
 
@@ -57,10 +55,8 @@ fn values_by_quotient(row: &mut [f32], curve: &[f32], size: usize, start: usize,
         (λ k held. get_or curve.now (curve_point (start + k) size) nan) 0 count
         row.old }
 {
-    let mut k: usize = 0;
-    while k < count {
+    for k in 0..count {
         row[k] = curve[curve_point(start + k, size)];
-        k += 1;
     }
 }
 
@@ -100,10 +96,8 @@ fn counted_values(row: &mut [f32], count: usize)
     ensures by_index { (k : ℕ) → k < count →
         T (not (is_nan (get_or row.new k nan))) }
 {
-    let mut k: usize = 0;
-    while k < count {
+    for k in 0..count {
         row[k] = counted_as(row[k]);
-        k += 1;
     }
 }
 

@@ -58,10 +58,8 @@ fn mean_square(powers: &PowerTable, sines: &SineTable, config: MotionConfig) -> 
     let mut row = octave_table();
     sample_gains(&mut row, powers, sines, settled(config));
     let mut sum = 0.0;
-    let mut index: usize = 0;
-    while index < MOTION_COMPENSATION_SAMPLES {
+    for index in 0..MOTION_COMPENSATION_SAMPLES {
         sum = sum + powi2(row[index]);
-        index += 1;
     }
     sum / (MOTION_COMPENSATION_SAMPLES as f32)
 }

@@ -55,10 +55,8 @@ fn open_below(row: &mut [f32], bin_hz: f32, start: usize, count: usize)
         (λ k opened. cond (lt (hertz bin_hz (start + k)) min_display_frequency_hz) one opened) 0
         count row.old }
 {
-    let mut k: usize = 0;
-    while k < count {
+    for k in 0..count {
         row[k] = shown((start + k) as f32 * bin_hz, row[k]);
-        k += 1;
     }
 }
 
@@ -97,10 +95,8 @@ pub fn lowerings(row: &mut [f32], depth_db: f32, count: usize)
     ensures { row.new
         ≡ map_range (λ k opened. lowered depth_db opened) 0 count row.old }
 {
-    let mut k: usize = 0;
-    while k < count {
+    for k in 0..count {
         row[k] = -(depth_db * (1.0 - row[k]));
-        k += 1;
     }
 }
 

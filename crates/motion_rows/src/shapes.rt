@@ -36,10 +36,8 @@ fn angles(row: &mut [f32], size: f32, phase: f32, count: usize)
         (λ k x. mul binary32 constants.tau (sub binary32 (div binary32 x size) phase)) 0 count
         row.old }
 {
-    let mut k: usize = 0;
-    while k < count {
+    for k in 0..count {
         row[k] = TAU * (row[k] / size - phase);
-        k += 1;
     }
 }
 
@@ -49,10 +47,8 @@ fn crests(row: &mut [f32], count: usize)
         (λ k wave. order.clamp zero one (add binary32 half (mul binary32 half wave))) 0 count
         row.old }
 {
-    let mut k: usize = 0;
-    while k < count {
+    for k in 0..count {
         row[k] = clamp(0.5 + 0.5 * row[k], 0.0, 1.0);
-        k += 1;
     }
 }
 
@@ -70,10 +66,8 @@ fn fifth_powers(row: &mut [f32], count: usize)
     requires { count ≤ length row.old }
     ensures { row.new ≡ map_range (λ k v. fifth v) 0 count row.old }
 {
-    let mut k: usize = 0;
-    while k < count {
+    for k in 0..count {
         row[k] = powi5(row[k]);
-        k += 1;
     }
 }
 
@@ -111,13 +105,11 @@ fn layer_angles(
         (λ k held. detail_angle (get_or row.now (start + k) nan) size phase) 0 count
         detail.old) }
 {
-    let mut k: usize = 0;
-    while k < count {
+    for k in 0..count {
         let x = row[start + k];
         broad[k] = broad_angle(x, size, phase);
         middle[k] = middle_angle(x, size, phase);
         detail[k] = detail_angle(x, size, phase);
-        k += 1;
     }
 }
 
@@ -143,10 +135,8 @@ fn layers(
         ≡ map_range (λ i x. drift x size phase) start (start + count) row.old }
 {
     let next = start + count;
-    let mut i = start;
-    while i < next {
+    for i in start..next {
         row[i] = layered(broad[i - start], middle[i - start], detail[i - start]);
-        i += 1;
     }
 }
 
@@ -208,10 +198,8 @@ fn window_exponents(row: &mut [f32], size: f32, phase: f32, count: usize)
     ensures { row.new
         ≡ map_range (λ k x. window_exponent x size phase) 0 count row.old }
 {
-    let mut k: usize = 0;
-    while k < count {
+    for k in 0..count {
         row[k] = window_exponent(row[k], size, phase);
-        k += 1;
     }
 }
 
@@ -229,10 +217,8 @@ fn complements(row: &mut [f32], count: usize)
     ensures { row.new
         ≡ map_range (λ k x. sub binary32 one x) 0 count row.old }
 {
-    let mut k: usize = 0;
-    while k < count {
+    for k in 0..count {
         row[k] = 1.0 - row[k];
-        k += 1;
     }
 }
 
@@ -250,10 +236,8 @@ fn saws(row: &mut [f32], size: f32, phase: f32, count: usize)
     ensures { row.new
         ≡ map_range (λ k x. saw x size phase) 0 count row.old }
 {
-    let mut k: usize = 0;
-    while k < count {
+    for k in 0..count {
         row[k] = saw(row[k], size, phase);
-        k += 1;
     }
 }
 

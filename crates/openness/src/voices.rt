@@ -107,13 +107,11 @@ pub fn raise_voices(
         (logs_of way.tabled table.now) (channel_gain (second_side way.stereo)) bin)
         held (take count voices)) second.old) }
 {
-    let mut index: usize = 0;
-    while index < count {
+    for index in 0..count {
         let voice = voices[index];
         raise_voice(
             first, second, chunk, indexes, powers, octaves, sines, gaussians, way, table, lows,
             highs, voice,
         );
-        index += 1;
     }
 }

@@ -44,10 +44,8 @@ fn clip(row: &[f32], inside: &mut [f32], start: usize, count: usize)
         (λ k held. clipped (get_or row.now (start + k) nan)) 0 count
         inside.old }
 {
-    let mut k: usize = 0;
-    while k < count {
+    for k in 0..count {
         inside[k] = clipped(row[start + k]);
-        k += 1;
     }
 }
 
@@ -66,10 +64,8 @@ fn steps(inside: &[f32], found: &mut [u32], count: usize)
     ensures { found.new ≡ map_range
         (λ k held. moved 128 (get_or inside.now k nan)) 0 count found.old }
 {
-    let mut k: usize = 0;
-    while k < count {
+    for k in 0..count {
         found[k] = steps_of(inside[k]);
-        k += 1;
     }
 }
 
@@ -87,10 +83,8 @@ fn leading(found: &[u32], values: &mut [u32], powers: &PowerTable, count: usize)
     ensures { values.new ≡ map_range
         (λ k held. digits (get_or found.now k 0)) 0 count values.old }
 {
-    let mut k: usize = 0;
-    while k < count {
+    for k in 0..count {
         values[k] = digits_of(powers, found[k]);
-        k += 1;
     }
 }
 
@@ -127,10 +121,8 @@ fn finish(row: &mut [f32], found: &[u32], values: &[u32], start: usize, count: u
         ≡ map_range (λ i x. E2 x) start (start + count) row.old }
 {
     let next = start + count;
-    let mut i = start;
-    while i < next {
+    for i in start..next {
         row[i] = power_of(row[i], found[i - start], values[i - start]);
-        i += 1;
     }
 }
 
@@ -186,10 +178,8 @@ pub(crate) fn scale(row: &mut [f32], factor: f32, count: usize)
     ensures { row.new
         ≡ map_range (λ k y. mul binary32 y factor) 0 count row.old }
 {
-    let mut k: usize = 0;
-    while k < count {
+    for k in 0..count {
         row[k] = row[k] * factor;
-        k += 1;
     }
 }
 

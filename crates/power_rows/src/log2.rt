@@ -40,10 +40,8 @@ fn make_ready(row: &mut [f32], start: usize, stop: usize)
     requires { (start ≤ stop) × (stop ≤ length row.old) }
     ensures { row.new ≡ map_range (λ i v. ready_of v) start stop row.old }
 {
-    let mut i = start;
-    while i < stop {
+    for i in start..stop {
         row[i] = ready(row[i]);
-        i += 1;
     }
 }
 
@@ -55,10 +53,8 @@ fn take_digits(digits: &mut [u32], row: &[f32], start: usize, count: usize)
         (λ k held. digits_of (get_or row.now (start + k) nan)) 0 count
         digits.old }
 {
-    let mut k: usize = 0;
-    while k < count {
+    for k in 0..count {
         digits[k] = power::log2::digits(row[start + k]);
-        k += 1;
     }
 }
 
@@ -82,15 +78,13 @@ fn find_steps(
         × (to.new ≡ map_range
         (λ k held. to_of (get_or digits.now k 0)) 0 count to.old) }
 {
-    let mut k: usize = 0;
-    while k < count {
+    for k in 0..count {
         let h = step_of(powers, digits[k]);
         let a = entry(powers, h as usize);
         let b = entry(powers, h as usize + 1);
         steps[k] = h;
         from[k] = a;
         to[k] = b;
-        k += 1;
     }
 }
 
@@ -111,11 +105,9 @@ fn take_logs(
         ≡ map_range (λ i v. L2 v) start (start + count) row.old }
 {
     let next = start + count;
-    let mut i = start;
-    while i < next {
+    for i in start..next {
         let k = i - start;
         row[i] = log_in_step(row[i], digits[k], steps[k], from[k], to[k]);
-        i += 1;
     }
 }
 

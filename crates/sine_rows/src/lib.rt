@@ -30,10 +30,8 @@ fn places(row: &[f32], found: &mut [u32], start: usize, count: usize, ahead: u64
         (λ k held. place_ahead ahead (get_or row.now (start + k) nan)) 0 count
         found.old }
 {
-    let mut k: usize = 0;
-    while k < count {
+    for k in 0..count {
         found[k] = place_ahead(row[start + k], ahead);
-        k += 1;
     }
 }
 
@@ -76,12 +74,10 @@ fn steps(places: &[u32], indexes: &mut [u32], parts: &mut [u32], count: usize)
         × (parts.new ≡ map_range (λ k held. part_of (get_or places.now k 0)) 0 count
         parts.old) }
 {
-    let mut k: usize = 0;
-    while k < count {
+    for k in 0..count {
         let step = step_of(places[k]);
         indexes[k] = step.index;
         parts[k] = step.part;
-        k += 1;
     }
 }
 
@@ -106,10 +102,8 @@ fn values(indexes: &mut [u32], parts: &[u32], sines: &SineTable, count: usize)
         (λ k index. value_at index (get_or parts.now k 0)) 0 count
         indexes.old }
 {
-    let mut k: usize = 0;
-    while k < count {
+    for k in 0..count {
         indexes[k] = value_at(sines, indexes[k], parts[k]);
-        k += 1;
     }
 }
 
@@ -124,10 +118,8 @@ fn levels(row: &mut [f32], places: &[u32], values: &[u32], start: usize, count: 
         (start + count) row.old }
 {
     let next = start + count;
-    let mut i = start;
-    while i < next {
+    for i in start..next {
         row[i] = level(places[i - start], values[i - start]);
-        i += 1;
     }
 }
 

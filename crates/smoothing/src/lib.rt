@@ -40,10 +40,8 @@ fn audible(row: &mut [f32], gains: &[f32], start: usize, count: usize)
         (λ k held. maximum (get_or gains.now (start + k) nan) least_gain) 0 count
         row.old }
 {
-    let mut k: usize = 0;
-    while k < count {
+    for k in 0..count {
         row[k] = float32::order::max(gains[start + k], LEAST_GAIN);
-        k += 1;
     }
 }
 
@@ -54,10 +52,8 @@ fn scaled(row: &mut [f32], count: usize)
         (λ k log. mul binary32 decibels_per_decade (mul binary32 log log10_2)) 0 count
         row.old }
 {
-    let mut k: usize = 0;
-    while k < count {
+    for k in 0..count {
         row[k] = DECIBELS_PER_DECADE * (row[k] * LOG10_2);
-        k += 1;
     }
 }
 
@@ -97,11 +93,9 @@ fn soften_row(output: &mut [f32], row: &[f32], powers: &PowerTable, start: usize
         (get_or row.now (b - start) nan) (get_or row.now (b - start + 1) nan)
         (get_or row.now (b - start + 2) nan)) start stop output.old }
 {
-    let mut bin = start;
-    while bin < stop {
+    for bin in start..stop {
         let k = bin - start;
         output[bin] = softened(powers, row[k], row[k + 1], row[k + 2]);
-        bin += 1;
     }
 }
 
@@ -177,10 +171,8 @@ fn move_row(
         (λ i x. nearer blend (decibels_of x) (get_or target_db.now (i - start) nan)) start
         stop current.old }
 {
-    let mut i = start;
-    while i < stop {
+    for i in start..stop {
         current[i] = nearer(powers, current_db[i - start], target_db[i - start], blend);
-        i += 1;
     }
 }
 

@@ -68,10 +68,8 @@ pub fn lobes_of(
         × (length result ≡ max_partials) }
 {
     let mut lobes = empty_lobes();
-    let mut p: usize = 0;
-    while p < count {
+    for p in 0..count {
         lobes[p] = lobe_of(powers, octaves, tabled, table, grid, tone, p + 1);
-        p += 1;
     }
     lobes
 }

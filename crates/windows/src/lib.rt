@@ -26,11 +26,9 @@ pub fn denominator(analysis: &[f32], hop: usize, overlap: usize, index: usize) -
 {
     let mut sum: f32 = 0.0;
     let mut at = index;
-    let mut offset: usize = 0;
-    while offset < overlap {
+    for offset in 0..overlap {
         sum = sum + float32::powers::powi2(analysis[at]);
         at = a_hop_on(at, hop, analysis.len());
-        offset += 1;
     }
     float32::order::max(sum, LEAST_DIVISOR)
 }
@@ -41,10 +39,8 @@ pub fn dual_window(analysis: &[f32], synthesis: &mut [f32], overlap: usize)
     ensures { synthesis.new ≡ dual_of analysis.now overlap }
 {
     let hop = analysis.len() / overlap;
-    let mut index: usize = 0;
-    while index < synthesis.len() {
+    for index in 0..synthesis.len() {
         synthesis[index] = analysis[index] / denominator(analysis, hop, overlap, index);
-        index += 1;
     }
 }
 
@@ -53,10 +49,8 @@ fn sum(window: &[f32]) -> f32
     ensures { result ≡ sum_of window.now }
 {
     let mut total: f32 = 0.0;
-    let mut index: usize = 0;
-    while index < window.len() {
+    for index in 0..window.len() {
         total = total + window[index];
-        index += 1;
     }
     total
 }

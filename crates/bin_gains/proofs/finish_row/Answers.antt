@@ -14,9 +14,6 @@ use Rattle.bin_gains.proofs.finish_row.Goals as goal
 pub loop-bin-init : goal.loop-bin-init
 loop-bin-init c = (turned_none _ _ _, search rules)
 
-pub loop-bin-smaller : goal.loop-bin-smaller
-loop-bin-smaller c = omega arith
-
 pub loop-bin-preserved : goal.loop-bin-preserved
 loop-bin-preserved c = (turned-held nan c.loop-bin.invariant.0 (omega arith) (ap (mul binary32 _) c.gate_at.ensures), omega arith)
 

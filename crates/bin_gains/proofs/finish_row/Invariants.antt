@@ -9,6 +9,3 @@ use Rattle.bin_gains.proofs.finish_row.Given as goal
 
 abbrev pub invariant-loop-bin : goal.invariant-loop-bin
 invariant-loop-bin l = Turned (λ bin opened. mul binary32 (get_or l.ceilings (bin - l.start) nan) (gate_at l.config opened)) l.start l.initial.out l.out l.bin × (l.bin ≤ l.end)
-
-abbrev pub decreases-loop-bin : goal.decreases-loop-bin
-decreases-loop-bin l = l.end - l.bin

@@ -8,6 +8,3 @@ use Rattle.bin_gains.proofs.move_row.Given as goal
 
 abbrev pub invariant-loop-k : goal.invariant-loop-k
 invariant-loop-k l = Turned (λ k held. mul binary32 held (mul binary32 (get_or l.field k nan) l.compensation)) 0 l.initial.row l.row l.k × (l.k ≤ l.count)
-
-abbrev pub decreases-loop-k : goal.decreases-loop-k
-decreases-loop-k l = l.count - l.k

@@ -77,9 +77,6 @@ pub overflow_add-p : goal.overflow_add-p
 overflow_add-p c =
     omega (arith, c.loop-p-test.true, c.requires.0.few)
 
-pub loop-p-smaller : goal.loop-p-smaller
-loop-p-smaller c = omega arith
-
 pub loop-p-preserved : goal.loop-p-preserved
 loop-p-preserved c =
     let l = c.loop-p in (

@@ -18,7 +18,3 @@ invariant-loop-p l =
     × (l.p ≤ l.count)
     × Least l.least 0 64 l.row
     × ((sound : SoundLobes l.grid l.lobes l.count) (few : l.count ≤ length l.lobes) (inside : l.top < l.count) → Joining l.grid l.table l.lobes l.count sound few l.start l.end l.top inside l.p l.row)
-
-abbrev pub decreases-loop-p : goal.decreases-loop-p
-decreases-loop-p l =
-    l.count - l.p

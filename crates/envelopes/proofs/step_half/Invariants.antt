@@ -24,6 +24,3 @@ pub record Stepping (levels₀ : List Float) (half index : ℕ) (alpha : Float) 
 
 abbrev pub invariant-loop-bit : goal.invariant-loop-bit
 invariant-loop-bit l = Stepping l.initial.levels l.half l.index l.alpha l.levels l.bit
-
-abbrev pub decreases-loop-bit : goal.decreases-loop-bit
-decreases-loop-bit l = 32 - l.bit

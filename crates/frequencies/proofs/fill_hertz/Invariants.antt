@@ -8,6 +8,3 @@ use Rattle.frequencies.proofs.fill_hertz.Given as goal
 
 abbrev pub invariant-loop-bin : goal.invariant-loop-bin
 invariant-loop-bin l = Turned (λ b x. hertz_or_zero l.bin_hz b) 0 l.initial.table l.table l.bin × (l.bin ≤ length l.initial.table)
-
-abbrev pub decreases-loop-bin : goal.decreases-loop-bin
-decreases-loop-bin l = length l.initial.table - l.bin

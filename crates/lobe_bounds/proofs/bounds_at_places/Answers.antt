@@ -12,9 +12,6 @@ use Rattle.lobe_bounds.proofs.bounds_at_places.Goals as goal
 pub loop-p-init : goal.loop-p-init
 loop-p-init c = (turned_none _ _ _, omega arith)
 
-pub loop-p-smaller : goal.loop-p-smaller
-loop-p-smaller c = omega arith
-
 pub loop-p-preserved : goal.loop-p-preserved
 loop-p-preserved c = (turned-next nan c.loop-p.invariant.0 (omega arith) c.bound_at.ensures, omega arith)
 

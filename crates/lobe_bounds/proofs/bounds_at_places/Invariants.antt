@@ -9,6 +9,3 @@ use Rattle.lobe_bounds.proofs.bounds_at_places.Given as goal
 
 abbrev pub invariant-loop-p : goal.invariant-loop-p
 invariant-loop-p l = Turned (λ p place. bound_at (get_or l.strengths p nan) place) 0 l.initial.bounds l.bounds l.p × (l.p ≤ l.count)
-
-abbrev pub decreases-loop-p : goal.decreases-loop-p
-decreases-loop-p l = l.count - l.p

@@ -9,9 +9,6 @@ use Rattle.lobe_bounds.proofs.greatest_at.Goals as goal
 pub loop-p-init : goal.loop-p-init
 loop-p-init c = (greatest-first c.args.bounds.now (c.requires.2 0 c.requires.0), (refl, omega arith))
 
-pub loop-p-smaller : goal.loop-p-smaller
-loop-p-smaller c = omega arith
-
 pub loop-p-preserved : goal.loop-p-preserved
 loop-p-preserved c =
     let more =

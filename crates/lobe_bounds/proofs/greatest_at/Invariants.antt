@@ -9,6 +9,3 @@ use Rattle.lobe_bounds.proofs.greatest_at.Given as goal
 
 abbrev pub invariant-loop-p : goal.invariant-loop-p
 invariant-loop-p l = GreatestAt l.bounds l.p l.place × ((l.greatest ≡ get_or l.bounds l.place nan) × (l.p ≤ l.count))
-
-abbrev pub decreases-loop-p : goal.decreases-loop-p
-decreases-loop-p l = l.count - l.p

@@ -11,9 +11,6 @@ use Rattle.lobe_bounds.proofs.nearest_places.Goals as goal
 pub loop-p-init : goal.loop-p-init
 loop-p-init c = (turned_none _ _ _, omega arith)
 
-pub loop-p-smaller : goal.loop-p-smaller
-loop-p-smaller c = omega arith
-
 pub loop-p-preserved : goal.loop-p-preserved
 loop-p-preserved c = (turned_more nan c.loop-p.invariant.0 (omega arith) c.nearest_place.ensures, omega arith)
 

@@ -9,6 +9,3 @@ use Rattle.lobe_bounds.proofs.nearest_places.Given as goal
 
 abbrev pub invariant-loop-p : goal.invariant-loop-p
 invariant-loop-p l = Turned (λ p held. nearest_place l.width (get_or l.centers p nan) (get_or l.peaks p nan) l.low l.high) 0 l.initial.places l.places l.p × (l.p ≤ l.count)
-
-abbrev pub decreases-loop-p : goal.decreases-loop-p
-decreases-loop-p l = l.count - l.p

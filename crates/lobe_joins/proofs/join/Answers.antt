@@ -13,9 +13,6 @@ use Rattle.lobe_joins.proofs.join.Goals as goal
 pub loop-bin-init : goal.loop-bin-init
 loop-bin-init c = (turned_none _ _ _, c.lesser-stop.ensures, inr refl)
 
-pub loop-bin-smaller : goal.loop-bin-smaller
-loop-bin-smaller c = omega arith
-
 pub loop-bin-preserved : goal.loop-bin-preserved
 loop-bin-preserved c =
     let l = c.loop-bin in

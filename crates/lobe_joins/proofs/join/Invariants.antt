@@ -12,6 +12,3 @@ use Rattle.lobe_joins.proofs.join.Given as goal
 abbrev pub invariant-loop-bin : goal.invariant-loop-bin
 invariant-loop-bin l =
     Turned (λ bin held. joined l.gain held (get_or l.openings (bin - l.start) nan)) l.start l.initial.out l.out l.bin × (l.stop ≡ min l.end (length l.initial.out)) × ((l.bin ≤ l.stop) ⊎ (l.bin ≡ l.start))
-
-abbrev pub decreases-loop-bin : goal.decreases-loop-bin
-decreases-loop-bin l = l.stop - l.bin

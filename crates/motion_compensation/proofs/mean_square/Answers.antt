@@ -20,9 +20,6 @@ loop-index-init c = (omega arith, refl)
 pub overflow_add-index : goal.overflow_add-index
 overflow_add-index c = omega arith
 
-pub loop-index-smaller : goal.loop-index-smaller
-loop-index-smaller c = omega arith
-
 pub loop-index-preserved : goal.loop-index-preserved
 loop-index-preserved c =
     let l = c.loop-index in

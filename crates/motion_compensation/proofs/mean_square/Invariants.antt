@@ -19,6 +19,3 @@ rest row sum index = fold (λ s k. add binary32 s (square (get_or row k nan))) s
 
 abbrev pub invariant-loop-index : goal.invariant-loop-index
 invariant-loop-index l = (l.index ≤ motion_compensation_samples) × (rest l.row l.sum l.index ≡ rest l.row zero 0)
-
-abbrev pub decreases-loop-index : goal.decreases-loop-index
-decreases-loop-index l = motion_compensation_samples - l.index

@@ -12,9 +12,6 @@ use Rattle.motion_rows.proofs.lowerings.Goals as goal
 pub loop-k-init : goal.loop-k-init
 loop-k-init c = (turned_none _ _ _, omega arith)
 
-pub loop-k-smaller : goal.loop-k-smaller
-loop-k-smaller c = omega arith
-
 pub loop-k-preserved : goal.loop-k-preserved
 loop-k-preserved c = (turned-held nan c.loop-k.invariant.0 (omega arith) refl, omega arith)
 

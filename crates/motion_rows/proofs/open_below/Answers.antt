@@ -16,9 +16,6 @@ loop-k-init c = (turned_none _ _ _, omega arith)
 pub int_to_float-start : goal.int_to_float-start
 int_to_float-start c = in-float _ (search rules)
 
-pub loop-k-smaller : goal.loop-k-smaller
-loop-k-smaller c = omega arith
-
 pub loop-k-preserved : goal.loop-k-preserved
 loop-k-preserved c = (turned-held nan c.loop-k.invariant.0 (omega arith) c.shown.ensures, omega arith)
 

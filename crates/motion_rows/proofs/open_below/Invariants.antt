@@ -11,6 +11,3 @@ use Rattle.motion_rows.proofs.open_below.Given as goal
 
 abbrev pub invariant-loop-k : goal.invariant-loop-k
 invariant-loop-k l = Turned (λ k opened. cond (lt (hertz l.bin_hz (l.start + k)) min_display_frequency_hz) one opened) 0 l.initial.row l.row l.k × (l.k ≤ l.count)
-
-abbrev pub decreases-loop-k : goal.decreases-loop-k
-decreases-loop-k l = l.count - l.k

@@ -14,9 +14,6 @@ pub level-requires : goal.level-requires
 level-requires c =
     c.requires.3 (c.loop-i.i - c.args.start) (omega (arith, c.loop-i.invariant.0.low))
 
-pub loop-i-smaller : goal.loop-i-smaller
-loop-i-smaller c = omega arith
-
 pub loop-i-preserved : goal.loop-i-preserved
 loop-i-preserved c = (turned_more nan c.loop-i.invariant.0 (omega arith) c.level.ensures, omega arith)
 

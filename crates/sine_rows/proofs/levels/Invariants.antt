@@ -9,6 +9,3 @@ use Rattle.sine_rows.proofs.levels.Given as goal
 abbrev pub invariant-loop-i : goal.invariant-loop-i
 invariant-loop-i l =
     Turned (λ i held. level_at (get_or l.places (i - l.start) 0) (get_or l.values (i - l.start) 0)) l.start l.initial.row l.row l.i × (l.i ≤ l.start + l.count)
-
-abbrev pub decreases-loop-i : goal.decreases-loop-i
-decreases-loop-i l = l.start + l.count - l.i

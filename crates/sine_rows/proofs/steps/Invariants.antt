@@ -9,6 +9,3 @@ use Rattle.sine_rows.proofs.steps.Given as goal
 abbrev pub invariant-loop-k : goal.invariant-loop-k
 invariant-loop-k l =
     Turned (λ k held. index_of (get_or l.places k 0)) 0 l.initial.indexes l.indexes l.k × Turned (λ k held. part_of (get_or l.places k 0)) 0 l.initial.parts l.parts l.k × (l.k ≤ l.count)
-
-abbrev pub decreases-loop-k : goal.decreases-loop-k
-decreases-loop-k l = l.count - l.k

@@ -19,9 +19,6 @@ value_at-requires c = (
   c.requires.4 c.loop-k.k c.loop-k-test.true,
 )
 
-pub loop-k-smaller : goal.loop-k-smaller
-loop-k-smaller c = omega arith
-
 pub loop-k-preserved : goal.loop-k-preserved
 loop-k-preserved c = (turned-held 0 c.loop-k.invariant.0 (omega arith) c.value_at.ensures, omega arith)
 

@@ -8,6 +8,3 @@ use Rattle.sine_rows.proofs.values.Given as goal
 
 abbrev pub invariant-loop-k : goal.invariant-loop-k
 invariant-loop-k l = Turned (λ k index. value_at index (get_or l.parts k 0)) 0 l.initial.indexes l.indexes l.k × (l.k ≤ l.count)
-
-abbrev pub decreases-loop-k : goal.decreases-loop-k
-decreases-loop-k l = l.count - l.k

@@ -10,9 +10,6 @@ use Rattle.smoothing.proofs.audible.Goals as goal
 pub loop-k-init : goal.loop-k-init
 loop-k-init c = (turned_none _ _ _, omega arith)
 
-pub loop-k-smaller : goal.loop-k-smaller
-loop-k-smaller c = omega arith
-
 pub loop-k-preserved : goal.loop-k-preserved
 loop-k-preserved c = (turned_more nan c.loop-k.invariant.0 (omega arith) c.max.ensures, omega arith)
 

@@ -10,6 +10,3 @@ use Rattle.smoothing.proofs.audible.Given as goal
 
 abbrev pub invariant-loop-k : goal.invariant-loop-k
 invariant-loop-k l = Turned (λ k held. maximum (get_or l.gains (l.start + k) nan) least_gain) 0 l.initial.row l.row l.k × (l.k ≤ l.count)
-
-abbrev pub decreases-loop-k : goal.decreases-loop-k
-decreases-loop-k l = l.count - l.k

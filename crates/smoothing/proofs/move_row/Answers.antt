@@ -17,9 +17,6 @@ loop-i-init c = (turned_none _ _ _, search rules)
 pub overflow_sub-i : goal.overflow_sub-i
 overflow_sub-i c = c.loop-i.invariant.0.low
 
-pub loop-i-smaller : goal.loop-i-smaller
-loop-i-smaller c = omega arith
-
 pub loop-i-preserved : goal.loop-i-preserved
 loop-i-preserved c =
     let e = c.requires.5 c.loop-i.i c.loop-i.invariant.0.low c.loop-i-test.true in

@@ -10,6 +10,3 @@ use Rattle.smoothing.proofs.move_row.Given as goal
 abbrev pub invariant-loop-i : goal.invariant-loop-i
 invariant-loop-i l =
     Turned (λ i x. nearer l.blend (decibels_of x) (get_or l.target_db (i - l.start) nan)) l.start l.initial.current l.current l.i × (l.i ≤ l.stop)
-
-abbrev pub decreases-loop-i : goal.decreases-loop-i
-decreases-loop-i l = l.stop - l.i

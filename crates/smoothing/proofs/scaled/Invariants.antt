@@ -9,6 +9,3 @@ use Rattle.smoothing.proofs.scaled.Given as goal
 
 abbrev pub invariant-loop-k : goal.invariant-loop-k
 invariant-loop-k l = Turned (λ k log. mul binary32 decibels_per_decade (mul binary32 log log10_2)) 0 l.initial.row l.row l.k × (l.k ≤ l.count)
-
-abbrev pub decreases-loop-k : goal.decreases-loop-k
-decreases-loop-k l = l.count - l.k

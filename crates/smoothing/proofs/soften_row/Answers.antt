@@ -15,9 +15,6 @@ loop-bin-init c = (turned_none _ _ _, search rules)
 pub overflow_sub-k : goal.overflow_sub-k
 overflow_sub-k c = c.loop-bin.invariant.0.low
 
-pub loop-bin-smaller : goal.loop-bin-smaller
-loop-bin-smaller c = omega arith
-
 pub loop-bin-preserved : goal.loop-bin-preserved
 loop-bin-preserved c = (turned_more nan c.loop-bin.invariant.0 (omega arith) c.softened.ensures, omega arith)
 

@@ -10,6 +10,3 @@ use Rattle.smoothing.proofs.soften_row.Given as goal
 abbrev pub invariant-loop-bin : goal.invariant-loop-bin
 invariant-loop-bin l =
     Turned (λ b x. softened (get_or l.row (b - l.start) nan) (get_or l.row (b - l.start + 1) nan) (get_or l.row (b - l.start + 2) nan)) l.start l.initial.output l.output l.bin × (l.bin ≤ l.stop)
-
-abbrev pub decreases-loop-bin : goal.decreases-loop-bin
-decreases-loop-bin l = l.stop - l.bin

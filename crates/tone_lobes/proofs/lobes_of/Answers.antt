@@ -25,9 +25,6 @@ bounds-lobes-p c = omega (arith, c.loop-p-test.true, c.loop-p.invariant.2)
 pub overflow_add-p-in-loop-p : goal.overflow_add-p-in-loop-p
 overflow_add-p-in-loop-p c = omega (arith, c.loop-p-test.true, c.loop-p.invariant.2)
 
-pub loop-p-smaller : goal.loop-p-smaller
-loop-p-smaller c = omega (arith, c.loop-p-test.true)
-
 pub loop-p-preserved : goal.loop-p-preserved
 loop-p-preserved c =
     let l : length c.empty_lobes-lobes.result ≡ 24 = c.empty_lobes-lobes.ensures in

@@ -7,6 +7,3 @@ use Rattle.tone_lobes.proofs.lobes_of.Given as goal
 
 abbrev pub invariant-loop-p : goal.invariant-loop-p
 invariant-loop-p l = Turned (nth l.grid (logs_of l.tabled l.table) l.tone) 0 l.initial.lobes l.lobes l.p × (l.p ≤ l.count) × (l.count ≤ 24)
-
-abbrev pub decreases-loop-p : goal.decreases-loop-p
-decreases-loop-p l = l.count - l.p

@@ -29,9 +29,6 @@ loop-offset-init c =
 pub a_hop_on-at-requires : goal.a_hop_on-at-requires
 a_hop_on-at-requires c = omega arith
 
-pub loop-offset-smaller : goal.loop-offset-smaller
-loop-offset-smaller c = omega arith
-
 pub loop-offset-preserved : goal.loop-offset-preserved
 loop-offset-preserved c =
     let l = c.loop-offset in

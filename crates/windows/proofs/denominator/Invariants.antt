@@ -14,6 +14,3 @@ invariant-loop-offset l =
     (l.at < length l.analysis)
     × (l.at ≡ (l.index + l.offset * l.hop) % length l.analysis)
     × (fold (λ s k. add binary32 s (squared binary32 (get_or l.analysis ((l.index + k * l.hop) % length l.analysis) nan))) l.sum (range l.offset (l.overlap - l.offset)) ≡ energy_at binary32 l.analysis l.hop l.overlap l.index)
-
-abbrev pub decreases-loop-offset : goal.decreases-loop-offset
-decreases-loop-offset l = l.overlap - l.offset

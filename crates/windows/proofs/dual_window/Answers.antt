@@ -25,9 +25,6 @@ denominator-requires c =
     let a = c.args in
     (omega arith, div-le_self (length a.analysis.now) a.overlap)
 
-pub loop-index-smaller : goal.loop-index-smaller
-loop-index-smaller c = omega arith
-
 pub loop-index-preserved : goal.loop-index-preserved
 loop-index-preserved c =
     let l = c.loop-index in

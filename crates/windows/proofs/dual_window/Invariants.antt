@@ -8,6 +8,3 @@ use Rattle.windows.proofs.dual_window.Given as goal
 
 abbrev pub invariant-loop-index : goal.invariant-loop-index
 invariant-loop-index l = Turned (λ i x. dual_at l.analysis l.hop l.overlap i) 0 l.initial.synthesis l.synthesis l.index
-
-abbrev pub decreases-loop-index : goal.decreases-loop-index
-decreases-loop-index l = length l.initial.synthesis - l.index

@@ -15,9 +15,6 @@ pub loop-index-init : goal.loop-index-init
 unfolding of_bits of_fields
 loop-index-init c = refl
 
-pub loop-index-smaller : goal.loop-index-smaller
-loop-index-smaller c = omega arith
-
 pub loop-index-preserved : goal.loop-index-preserved
 loop-index-preserved c =
     let l = c.loop-index in

@@ -10,6 +10,3 @@ use Rattle.windows.proofs.sum.Given as goal
 
 abbrev pub invariant-loop-index : goal.invariant-loop-index
 invariant-loop-index l = fold (λ s x. add binary32 s x) l.total (drop l.index l.window) ≡ sum_of l.window
-
-abbrev pub decreases-loop-index : goal.decreases-loop-index
-decreases-loop-index l = length l.window - l.index

@@ -13,6 +13,3 @@ invariant-loop-p l =
     × Turned (λ p held. (get_or l.lobes p no_lobe).center_log2) 0 l.initial.centers l.centers l.p
     × Turned (λ p held. (get_or l.lobes p no_lobe).strength) 0 l.initial.strengths l.strengths l.p
     × Turned (λ p held. (get_or l.lobes p no_lobe).peak_squared) 0 l.initial.peaks l.peaks l.p
-
-abbrev pub decreases-loop-p : goal.decreases-loop-p
-decreases-loop-p l = l.count - l.p

@@ -19,6 +19,3 @@ invariant-loop-p l =
     × (l.last ≤ l.last_bin)
     × (l.cost ≤ 8193 * l.p)
     × Within l.lobes l.p l.first l.last
-
-abbrev pub decreases-loop-p : goal.decreases-loop-p
-decreases-loop-p l = l.count - l.p

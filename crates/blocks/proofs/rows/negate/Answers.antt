@@ -10,9 +10,6 @@ use Rattle.blocks.proofs.rows.negate.Goals as goal
 pub loop-k-init : goal.loop-k-init
 loop-k-init c = turned_none _ _ _
 
-pub loop-k-smaller : goal.loop-k-smaller
-loop-k-smaller c = omega arith
-
 pub loop-k-preserved : goal.loop-k-preserved
 loop-k-preserved c =
     let t = c.loop-k.invariant in

@@ -8,6 +8,3 @@ use Rattle.decibels.proofs.rows.decades.Given as goal
 
 abbrev pub invariant-loop-k : goal.invariant-loop-k
 invariant-loop-k l = Turned (λ k db. div binary32 db decibels_per_decade) 0 l.initial.row l.row l.k × (l.k ≤ l.count)
-
-abbrev pub decreases-loop-k : goal.decreases-loop-k
-decreases-loop-k l = l.count - l.k

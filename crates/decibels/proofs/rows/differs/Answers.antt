@@ -8,9 +8,6 @@ use Rattle.decibels.proofs.rows.differs.Goals as goal
 pub loop-k-init : goal.loop-k-init
 loop-k-init c = (λ e j h. absurd (omega arith), omega arith)
 
-pub loop-k-smaller : goal.loop-k-smaller
-loop-k-smaller c = omega arith
-
 pub loop-k-preserved : goal.loop-k-preserved
 loop-k-preserved c =
     (equal-more c.args.row.now c.args.first c.loop-k.k c.loop-k.other c.loop-k.invariant.0, omega arith)

@@ -8,6 +8,3 @@ use Rattle.decibels.proofs.rows.differs.Given as goal
 
 abbrev pub invariant-loop-k : goal.invariant-loop-k
 invariant-loop-k l = (l.other ≡ false → AllEqual l.row l.first l.k) × (l.k ≤ l.count)
-
-abbrev pub decreases-loop-k : goal.decreases-loop-k
-decreases-loop-k l = l.count - l.k

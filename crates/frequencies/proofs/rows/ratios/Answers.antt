@@ -16,9 +16,6 @@ loop-k-init c = (turned_none _ _ _, omega arith)
 pub int_to_float-row : goal.int_to_float-row
 int_to_float-row c = in-float _ (search rules)
 
-pub loop-k-smaller : goal.loop-k-smaller
-loop-k-smaller c = omega arith
-
 pub loop-k-preserved : goal.loop-k-preserved
 loop-k-preserved c = (turned_more nan c.loop-k.invariant.0 (omega arith) refl, omega arith)
 

@@ -8,6 +8,3 @@ use Rattle.frequencies.proofs.rows.ratios.Given as goal
 
 abbrev pub invariant-loop-k : goal.invariant-loop-k
 invariant-loop-k l = Turned (λ k held. div binary32 (hertz l.bin_hz (l.start + k)) l.over) 0 l.initial.row l.row l.k × (l.k ≤ l.count)
-
-abbrev pub decreases-loop-k : goal.decreases-loop-k
-decreases-loop-k l = l.count - l.k

@@ -13,9 +13,6 @@ use Rattle.lobe_rows.proofs.by_frequency.exponents.Goals as goal
 pub loop-k-init : goal.loop-k-init
 loop-k-init c = (turned_none _ _ _, omega arith)
 
-pub loop-k-smaller : goal.loop-k-smaller
-loop-k-smaller c = omega arith
-
 pub loop-k-preserved : goal.loop-k-preserved
 loop-k-preserved c =
     let w = c.in_widths.ensures in

@@ -9,6 +9,3 @@ use Rattle.lobe_rows.proofs.by_frequency.exponents.Given as goal
 
 abbrev pub invariant-loop-k : goal.invariant-loop-k
 invariant-loop-k l = Turned (λ k octaves. mul binary32 minus_half (relative_to l.peak_squared (in_widths l.width octaves))) 0 l.initial.chunk l.chunk l.k × (l.k ≤ l.count)
-
-abbrev pub decreases-loop-k : goal.decreases-loop-k
-decreases-loop-k l = l.count - l.k

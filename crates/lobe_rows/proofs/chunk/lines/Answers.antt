@@ -16,9 +16,6 @@ pub line-requires : goal.line-requires
 line-requires c =
     (c.requires.0, c.requires.2 c.loop-k.k c.loop-k-test.true)
 
-pub loop-k-smaller : goal.loop-k-smaller
-loop-k-smaller c = omega arith
-
 pub loop-k-preserved : goal.loop-k-preserved
 loop-k-preserved c = (turned-next nan c.loop-k.invariant.0 (omega arith) c.line.ensures, omega arith)
 

@@ -8,6 +8,3 @@ use Rattle.lobe_rows.proofs.chunk.lines.Given as goal
 
 abbrev pub invariant-loop-k : goal.invariant-loop-k
 invariant-loop-k l = Turned (λ k part. line (get_or l.indexes k 0) part) 0 l.initial.chunk l.chunk l.k × (l.k ≤ l.count)
-
-abbrev pub decreases-loop-k : goal.decreases-loop-k
-decreases-loop-k l = l.count - l.k

@@ -7,6 +7,3 @@ use Rattle.lobe_rows.proofs.chunk.openings_of_bells.Given as goal
 
 abbrev pub invariant-loop-k : goal.invariant-loop-k
 invariant-loop-k l = Turned (λ k bell. opened_by l.strength bell) 0 l.initial.chunk l.chunk l.k × (l.k ≤ l.count)
-
-abbrev pub decreases-loop-k : goal.decreases-loop-k
-decreases-loop-k l = l.count - l.k

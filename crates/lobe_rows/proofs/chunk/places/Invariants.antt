@@ -10,6 +10,3 @@ use Rattle.lobe_rows.proofs.chunk.places.Given as goal
 
 abbrev pub invariant-loop-k : goal.invariant-loop-k
 invariant-loop-k l = Turned (λ k held. place_of l.peak_squared (in_widths l.width (sub binary32 (get_or l.table (l.start + k) nan) l.center_log2))) 0 l.initial.chunk l.chunk l.k × (l.k ≤ l.count)
-
-abbrev pub decreases-loop-k : goal.decreases-loop-k
-decreases-loop-k l = l.count - l.k

@@ -17,9 +17,6 @@ pub step_of-step-requires : goal.step_of-step-requires
 step_of-step-requires c =
     subst Place (sym (turned-read nan c.loop-k.invariant.0 (omega (arith, c.requires.0.in-chunk)))) (c.requires.1 c.loop-k.k c.loop-k-test.true)
 
-pub loop-k-smaller : goal.loop-k-smaller
-loop-k-smaller c = omega arith
-
 pub loop-k-preserved : goal.loop-k-preserved
 loop-k-preserved c =
     let read = turned-read nan c.loop-k.invariant.0 (omega (arith, c.requires.0.in-chunk)) in (

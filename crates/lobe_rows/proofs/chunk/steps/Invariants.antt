@@ -10,6 +10,3 @@ use Rattle.lobe_rows.proofs.chunk.steps.Given as goal
 abbrev pub invariant-loop-k : goal.invariant-loop-k
 invariant-loop-k l =
     Turned (λ k place. part_of place) 0 l.initial.chunk l.chunk l.k × Turned (λ k held. index_of (get_or l.initial.chunk k nan)) 0 l.initial.indexes l.indexes l.k × (l.k ≤ l.count)
-
-abbrev pub decreases-loop-k : goal.decreases-loop-k
-decreases-loop-k l = l.count - l.k

@@ -28,9 +28,6 @@ raise_lobe-requires c =
       record { log-of-center = w.0; last = omega (arith, w.1, g.last); inside = λ e. omega (arith, w.1, g.inside e) },
     )
 
-pub loop-p-smaller : goal.loop-p-smaller
-loop-p-smaller c = omega arith
-
 pub loop-p-preserved : goal.loop-p-preserved
 loop-p-preserved c =
     let some : c.args.count ≤ length c.args.lobes = omega (arith, c.requires.2.few, c.loop-p.invariant.0) in (

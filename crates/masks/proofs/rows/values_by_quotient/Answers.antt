@@ -23,9 +23,6 @@ pub bounds-curve-curve_point : goal.bounds-curve-curve_point
 bounds-curve-curve_point c =
     omega (arith, c.curve_point.ensures, c.requires.0, point-le (c.args.start + c.loop-k.k) c.args.size)
 
-pub loop-k-smaller : goal.loop-k-smaller
-loop-k-smaller c = omega arith
-
 pub loop-k-preserved : goal.loop-k-preserved
 loop-k-preserved c =
     let curve = c.args.curve.now in

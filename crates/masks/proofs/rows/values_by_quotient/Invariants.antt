@@ -9,6 +9,3 @@ use Rattle.masks.proofs.rows.values_by_quotient.Given as goal
 
 abbrev pub invariant-loop-k : goal.invariant-loop-k
 invariant-loop-k l = Turned (λ k held. get_or l.curve (curve_point (l.start + k) l.size) nan) 0 l.initial.row l.row l.k × (l.k ≤ l.count)
-
-abbrev pub decreases-loop-k : goal.decreases-loop-k
-decreases-loop-k l = l.count - l.k

@@ -19,9 +19,6 @@ overflow_mul-start c =
     let q : (c.args.start + c.loop-k.k) * c.args.step ≤ 16777216 * last_point = mul-le-mul {n₂ = 16777216} (omega arith) c.requires.1 in
     omega arith
 
-pub loop-k-smaller : goal.loop-k-smaller
-loop-k-smaller c = omega arith
-
 pub loop-k-preserved : goal.loop-k-preserved
 loop-k-preserved c =
     let curve = c.args.curve.now in

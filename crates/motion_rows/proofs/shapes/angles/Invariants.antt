@@ -8,6 +8,3 @@ use Rattle.motion_rows.proofs.shapes.angles.Given as goal
 
 abbrev pub invariant-loop-k : goal.invariant-loop-k
 invariant-loop-k l = Turned (λ k x. mul binary32 tau (sub binary32 (div binary32 x l.size) l.phase)) 0 l.initial.row l.row l.k × (l.k ≤ l.count)
-
-abbrev pub decreases-loop-k : goal.decreases-loop-k
-decreases-loop-k l = l.count - l.k

@@ -8,6 +8,3 @@ use Rattle.motion_rows.proofs.shapes.complements.Given as goal
 
 abbrev pub invariant-loop-k : goal.invariant-loop-k
 invariant-loop-k l = Turned (λ k x. sub binary32 one x) 0 l.initial.row l.row l.k × (l.k ≤ l.count)
-
-abbrev pub decreases-loop-k : goal.decreases-loop-k
-decreases-loop-k l = l.count - l.k

@@ -9,6 +9,3 @@ use Rattle.motion_rows.proofs.shapes.crests.Given as goal
 
 abbrev pub invariant-loop-k : goal.invariant-loop-k
 invariant-loop-k l = Turned (λ k wave. clamp zero one (add binary32 half (mul binary32 half wave))) 0 l.initial.row l.row l.k × (l.k ≤ l.count)
-
-abbrev pub decreases-loop-k : goal.decreases-loop-k
-decreases-loop-k l = l.count - l.k

@@ -11,9 +11,6 @@ use Rattle.motion_rows.proofs.shapes.layer_angles.Goals as goal
 pub loop-k-init : goal.loop-k-init
 loop-k-init c = (turned_none _ _ _, turned_none _ _ _, turned_none _ _ _, omega arith)
 
-pub loop-k-smaller : goal.loop-k-smaller
-loop-k-smaller c = omega arith
-
 pub loop-k-preserved : goal.loop-k-preserved
 loop-k-preserved c =
     let l = c.loop-k in (

@@ -13,6 +13,3 @@ invariant-loop-k l =
     × Turned (λ k held. middle_angle (get_or l.row (l.start + k) nan) l.size l.phase) 0 l.initial.middle l.middle l.k
     × Turned (λ k held. detail_angle (get_or l.row (l.start + k) nan) l.size l.phase) 0 l.initial.detail l.detail l.k
     × (l.k ≤ l.count)
-
-abbrev pub decreases-loop-k : goal.decreases-loop-k
-decreases-loop-k l = l.count - l.k

@@ -13,9 +13,6 @@ use Rattle.motion_rows.proofs.shapes.layers.Goals as goal
 pub loop-i-init : goal.loop-i-init
 loop-i-init c = (turned_none _ _ _, omega arith)
 
-pub loop-i-smaller : goal.loop-i-smaller
-loop-i-smaller c = omega arith
-
 pub loop-i-preserved : goal.loop-i-preserved
 loop-i-preserved c =
     let low = c.loop-i.invariant.0.low in

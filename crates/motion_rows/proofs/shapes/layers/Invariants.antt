@@ -7,6 +7,3 @@ use Rattle.motion_rows.proofs.shapes.layers.Given as goal
 
 abbrev pub invariant-loop-i : goal.invariant-loop-i
 invariant-loop-i l = Turned (λ i x. drift x l.size l.phase) l.start l.initial.row l.row l.i × (l.i ≤ l.start + l.count)
-
-abbrev pub decreases-loop-i : goal.decreases-loop-i
-decreases-loop-i l = l.start + l.count - l.i

@@ -41,9 +41,6 @@ raise_voice-requires c =
           };
     }
 
-pub loop-index-smaller : goal.loop-index-smaller
-loop-index-smaller c = omega arith
-
 pub loop-index-preserved : goal.loop-index-preserved
 loop-index-preserved c =
     let voice = get_or c.args.voices c.loop-index.index no_voice in

@@ -21,7 +21,3 @@ invariant-loop-index l =
     × (voices-from l.way.grid (logs_of l.way.tabled l.table) (channel_gain (first_side l.way.stereo)) l.voices l.count l.index l.first ≡ voices-from l.way.grid (logs_of l.way.tabled l.table) (channel_gain (first_side l.way.stereo)) l.voices l.count 0 l.initial.first)
     × (voices-from l.way.grid (logs_of l.way.tabled l.table) (channel_gain (second_side l.way.stereo)) l.voices l.count l.index l.second ≡ voices-from l.way.grid (logs_of l.way.tabled l.table) (channel_gain (second_side l.way.stereo)) l.voices l.count 0 l.initial.second)
     × (l.way.compact ≡ true → SidesOpen l.first l.second)
-
-abbrev pub decreases-loop-index : goal.decreases-loop-index
-decreases-loop-index l =
-    l.count - l.index

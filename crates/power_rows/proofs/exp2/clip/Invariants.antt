@@ -9,6 +9,3 @@ use Rattle.power_rows.proofs.exp2.clip.Given as goal
 
 abbrev pub invariant-loop-k : goal.invariant-loop-k
 invariant-loop-k l = Turned (λ k held. clipped (get_or l.row (l.start + k) nan)) 0 l.initial.inside l.inside l.k × (l.k ≤ l.count)
-
-abbrev pub decreases-loop-k : goal.decreases-loop-k
-decreases-loop-k l = l.count - l.k

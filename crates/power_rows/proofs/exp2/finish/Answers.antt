@@ -23,9 +23,6 @@ power_of-requires c =
     (ap (λ (n : ℕ). get_or c.args.row.now n nan) z ∙ sym (turned-read nan c.loop-i.invariant.0 (omega (arith, c.requires.0))))
     (c.requires.3 k (omega arith))
 
-pub loop-i-smaller : goal.loop-i-smaller
-loop-i-smaller c = omega arith
-
 pub loop-i-preserved : goal.loop-i-preserved
 loop-i-preserved c = (turned-held nan c.loop-i.invariant.0 (omega arith) c.power_of.ensures, omega arith)
 

@@ -7,6 +7,3 @@ use Rattle.power_rows.proofs.exp2.finish.Given as goal
 
 abbrev pub invariant-loop-i : goal.invariant-loop-i
 invariant-loop-i l = Turned (λ i x. E2 x) l.start l.initial.row l.row l.i × (l.i ≤ l.start + l.count)
-
-abbrev pub decreases-loop-i : goal.decreases-loop-i
-decreases-loop-i l = l.start + l.count - l.i

@@ -9,9 +9,6 @@ use Rattle.power_rows.proofs.exp2.leading.Goals as goal
 pub loop-k-init : goal.loop-k-init
 loop-k-init c = (turned_none _ _ _, omega arith)
 
-pub loop-k-smaller : goal.loop-k-smaller
-loop-k-smaller c = omega arith
-
 pub loop-k-preserved : goal.loop-k-preserved
 loop-k-preserved c = (turned_more 0 c.loop-k.invariant.0 (omega arith) c.digits_of.ensures, omega arith)
 

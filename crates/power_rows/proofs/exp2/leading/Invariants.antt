@@ -8,6 +8,3 @@ use Rattle.power_rows.proofs.exp2.leading.Given as goal
 
 abbrev pub invariant-loop-k : goal.invariant-loop-k
 invariant-loop-k l = Turned (λ k held. digits (get_or l.found k 0)) 0 l.initial.values l.values l.k × (l.k ≤ l.count)
-
-abbrev pub decreases-loop-k : goal.decreases-loop-k
-decreases-loop-k l = l.count - l.k

@@ -13,9 +13,6 @@ pub steps_of-requires : goal.steps_of-requires
 steps_of-requires c =
     c.requires.2 c.loop-k.k c.loop-k-test.true
 
-pub loop-k-smaller : goal.loop-k-smaller
-loop-k-smaller c = omega arith
-
 pub loop-k-preserved : goal.loop-k-preserved
 loop-k-preserved c = (turned_more 0 c.loop-k.invariant.0 (omega arith) c.steps_of.ensures, omega arith)
 

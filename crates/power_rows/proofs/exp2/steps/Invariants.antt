@@ -9,6 +9,3 @@ use Rattle.power_rows.proofs.exp2.steps.Given as goal
 
 abbrev pub invariant-loop-k : goal.invariant-loop-k
 invariant-loop-k l = Turned (λ k held. moved 128 (get_or l.inside k nan)) 0 l.initial.found l.found l.k × (l.k ≤ l.count)
-
-abbrev pub decreases-loop-k : goal.decreases-loop-k
-decreases-loop-k l = l.count - l.k

@@ -39,9 +39,6 @@ entry-b-requires c =
     let l = (found c.args.digits.now c.loop-k.k c.step_of-h.result (w, c.step_of-h.ensures)).within in
     (c.requires.0, omega arith)
 
-pub loop-k-smaller : goal.loop-k-smaller
-loop-k-smaller c = omega arith
-
 pub loop-k-preserved : goal.loop-k-preserved
 loop-k-preserved c =
     let v = c.loop-k.invariant in (

@@ -9,6 +9,3 @@ use Rattle.power_rows.proofs.log2.find_steps.Given as goal
 abbrev pub invariant-loop-k : goal.invariant-loop-k
 invariant-loop-k l =
     (l.k ≤ l.count) × Turned (λ k held. step_of (get_or l.digits k 0)) 0 l.initial.steps l.steps l.k × Turned (λ k held. from_of (get_or l.digits k 0)) 0 l.initial.from l.from l.k × Turned (λ k held. to_of (get_or l.digits k 0)) 0 l.initial.to l.to l.k
-
-abbrev pub decreases-loop-k : goal.decreases-loop-k
-decreases-loop-k l = l.count - l.k

@@ -10,9 +10,6 @@ use Rattle.power_rows.proofs.log2.make_ready.Goals as goal
 pub loop-i-init : goal.loop-i-init
 loop-i-init c = (turned_none _ _ _, c.requires.0)
 
-pub loop-i-smaller : goal.loop-i-smaller
-loop-i-smaller c = omega arith
-
 pub loop-i-preserved : goal.loop-i-preserved
 loop-i-preserved c = (turned-held nan c.loop-i.invariant.0 (omega arith) c.ready.ensures, omega arith)
 

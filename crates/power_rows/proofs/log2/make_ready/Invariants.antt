@@ -6,6 +6,3 @@ use Rattle.power_rows.proofs.log2.make_ready.Given as goal
 
 abbrev pub invariant-loop-i : goal.invariant-loop-i
 invariant-loop-i l = Turned (λ i v. ready_of v) l.start l.initial.row l.row l.i × (l.i ≤ l.stop)
-
-abbrev pub decreases-loop-i : goal.decreases-loop-i
-decreases-loop-i l = l.stop - l.i

@@ -12,9 +12,6 @@ loop-k-init c = (turned_none _ _ _, omega arith)
 pub digits-requires : goal.digits-requires
 digits-requires c = c.requires.2 c.loop-k.k c.loop-k-test.true
 
-pub loop-k-smaller : goal.loop-k-smaller
-loop-k-smaller c = omega arith
-
 pub loop-k-preserved : goal.loop-k-preserved
 loop-k-preserved c = (turned_more 0 c.loop-k.invariant.0 (omega arith) c.digits.ensures, omega arith)
 

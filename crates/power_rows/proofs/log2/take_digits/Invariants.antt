@@ -9,6 +9,3 @@ use Rattle.power_rows.proofs.log2.take_digits.Given as goal
 
 abbrev pub invariant-loop-k : goal.invariant-loop-k
 invariant-loop-k l = Turned (λ k held. digits_of (get_or l.row (l.start + k) nan)) 0 l.initial.digits l.digits l.k × (l.k ≤ l.count)
-
-abbrev pub decreases-loop-k : goal.decreases-loop-k
-decreases-loop-k l = l.count - l.k

@@ -25,9 +25,6 @@ log_in_step-requires c =
     (c.requires.2 k (omega arith)) in
     (f.normal, f.digits, f.ends)
 
-pub loop-i-smaller : goal.loop-i-smaller
-loop-i-smaller c = omega arith
-
 pub loop-i-preserved : goal.loop-i-preserved
 loop-i-preserved c = (turned-held nan c.loop-i.invariant.0 (omega arith) c.log_in_step.ensures, omega arith)
 
