@@ -37,9 +37,7 @@ pub struct Shared {
 }
 
 fn shared_of(powers: &PowerTable, sines: &SineTable, config: MaskConfig) -> Shared
-    requires { (powers.now ≡ power_table)
-        × (sines.now ≡ sine_table)
-        × (config.fft_size ≤ 2 ^ 24) }
+    requires { config.fft_size ≤ 2 ^ 24 }
     ensures { result ≡ shared_of config }
 {
     let motion = config.motion;
@@ -77,9 +75,7 @@ fn ceilings(
     start: usize,
     count: usize,
 )
-    requires { (powers.now ≡ power_table)
-        × (sines.now ≡ sine_table)
-        × (length curve.now ≡ manual_mask_points)
+    requires { (length curve.now ≡ manual_mask_points)
         × (shared ≡ shared_of config)
         × (count ≤ length row.old)
         × (count ≤ length field.old)
@@ -144,9 +140,7 @@ pub fn finish_one(
     curve: &[f32],
     config: MaskConfig,
 )
-    requires { (powers.now ≡ power_table)
-        × (sines.now ≡ sine_table)
-        × (length curve.now ≡ manual_mask_points)
+    requires { (length curve.now ≡ manual_mask_points)
         × (config.fft_size ≤ 2 ^ 24)
         × (length out.old ≤ 2 ^ 24) }
     ensures { out.new
@@ -176,9 +170,7 @@ pub fn finish_two(
     curve: &[f32],
     config: MaskConfig,
 )
-    requires { (powers.now ≡ power_table)
-        × (sines.now ≡ sine_table)
-        × (length curve.now ≡ manual_mask_points)
+    requires { (length curve.now ≡ manual_mask_points)
         × (config.fft_size ≤ 2 ^ 24)
         × (length left.old ≤ 2 ^ 24)
         × (length right.old ≡ length left.old) }

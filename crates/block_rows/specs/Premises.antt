@@ -5,7 +5,6 @@ use Rattle.std.specs.Float.{binary32}
 use Rattle.lists.specs.Maps.{map_range}
 use Rattle.float_laws.specs.Rise.{Upto}
 use Rattle.float32.specs.Remainder.{one}
-use Rattle.gaussian.specs.Table.{gaussian_table}
 use Rattle.limits.specs.Lengths.{max_partials}
 use Rattle.lobes.specs.declared.Grid.{Grid}
 use Rattle.lobes.specs.declared.Lobe.{Lobe}
@@ -31,15 +30,13 @@ pub record SidesGained (first second : List Float) (by : Gains) : Type 0 where
   pub gains : GainsWithin by
 
 -- ---- a sound lobe, or the first `count` of a list, and what they are worked out with
-pub record LobeReady (g chunk : List Float) (indexes : List ℕ) (grid : Grid)
+pub record LobeReady (chunk : List Float) (indexes : List ℕ) (grid : Grid)
     (lobe : Lobe) : Type 0 where
-  pub gaussians : g ≡ gaussian_table
   pub scratch : Scratch chunk indexes
   pub sound : SoundLobe grid lobe
 
-pub record LobesReady (g chunk : List Float) (indexes : List ℕ) (grid : Grid) (lobes : List Lobe)
+pub record LobesReady (chunk : List Float) (indexes : List ℕ) (grid : Grid) (lobes : List Lobe)
     (count : ℕ) : Type 0 where
-  pub gaussians : g ≡ gaussian_table
   pub scratch : Scratch chunk indexes
   pub few : count ≤ max_partials
   pub sound : SoundLobes grid lobes count

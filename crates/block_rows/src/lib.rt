@@ -39,7 +39,7 @@ fn raise_in_row(
     start: usize,
     end: usize,
 )
-    requires { (LobeReady gaussians.now chunk.old indexes.old grid lobe)
+    requires { (LobeReady chunk.old indexes.old grid lobe)
         × (Block grid table.now start end)
         × (length row.old ≡ 64) }
     ensures { row.new ≡ map_range
@@ -79,7 +79,7 @@ fn raise_above(
     start: usize,
     end: usize,
 ) -> f32
-    requires { (LobeReady gaussians.now chunk.old indexes.old grid lobe)
+    requires { (LobeReady chunk.old indexes.old grid lobe)
         × (Block grid table.now start end)
         × (RowSoFar grid table.now row.old lobe there bound least start end) }
     ensures { (row.new ≡ map_range
@@ -116,7 +116,7 @@ pub fn raise_partials(
     start: usize,
     end: usize,
 )
-    requires { (LobesReady gaussians.now chunk.old indexes.old grid lobes count)
+    requires { (LobesReady chunk.old indexes.old grid lobes count)
         × (BlockBounded grid table.now bounds.now lobes count start end)
         × (RowFrom row.old top count) }
     ensures { HasMost grid table.now (take count lobes) start end

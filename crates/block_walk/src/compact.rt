@@ -49,7 +49,7 @@ fn raise_block(
     start: usize,
     end: usize,
 )
-    requires { (LobesReady gaussians.now chunk.old indexes.old grid lobes count)
+    requires { (LobesReady chunk.old indexes.old grid lobes count)
         × (SidesGained first.old second.old gains)
         × (BlockBounded grid table.now bounds.now lobes count start end) }
     ensures { (first.new ≡ map_range
@@ -90,7 +90,7 @@ fn raise_blocks(
     gains: Gains,
     span: Span,
 )
-    requires { (LobesReady gaussians.now chunk.old indexes.old grid lobes count)
+    requires { (LobesReady chunk.old indexes.old grid lobes count)
         × (SidesGained first.old second.old gains)
         × (SpannedColumns grid table.now lows.now highs.now centers.now strengths.now
         peaks.now lobes count span) }
@@ -153,7 +153,7 @@ fn walk(
     gains: Gains,
     span: Span,
 )
-    requires { (LobesReady gaussians.now chunk.old indexes.old grid lobes count)
+    requires { (LobesReady chunk.old indexes.old grid lobes count)
         × (SidesGained first.old second.old gains)
         × (Spanned grid table.now lows.now highs.now lobes count span) }
     ensures { (first.new ≡ map_at
@@ -190,7 +190,7 @@ pub fn rasterize_compact_harmonic_envelope(
     gains: Gains,
     crowded: bool,
 ) -> bool
-    requires { (LobesReady gaussians.now chunk.old indexes.old grid lobes count)
+    requires { (LobesReady chunk.old indexes.old grid lobes count)
         × (SidesGained first.old second.old gains)
         × (Ready grid table.now lows.now highs.now) }
     ensures { (first.new ≡ cond result (map_at

@@ -13,7 +13,6 @@ pub const DECIBELS_PER_DECADE: f32 = 20.0;
 
 // Converts amplitude decibels to a linear gain: 10^(db / 20).
 pub fn gain(powers: &PowerTable, db: f32) -> f32
-    requires { powers.now ≡ power_table }
     ensures { result ≡ gain_of db }
 {
     power::decimal::pow10(powers, db / DECIBELS_PER_DECADE)

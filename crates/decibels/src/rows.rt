@@ -55,7 +55,7 @@ fn is_level(row: &[f32], count: usize) -> bool
 
 // Converts the first `count` entries of the row from decibels to gains.
 pub fn gains(row: &mut [f32], powers: &PowerTable, count: usize)
-    requires { (powers.now ≡ power_table) × (count ≤ length row.old) }
+    requires { count ≤ length row.old }
     ensures { row.new ≡ map_range (λ k db. gain_of db) 0 count row.old }
 {
     if is_level(row, count) {

@@ -29,7 +29,6 @@ pub enum Function {
 
 // The function's value, from the lent tables.
 pub fn value(function: Function, powers: &PowerTable, sines: &SineTable, x: f32) -> f32
-    requires { (powers.now ≡ power_table) × (sines.now ≡ sine_table) }
     ensures { result ≡ value_of function x }
 {
     match function {
@@ -49,7 +48,6 @@ pub fn value(function: Function, powers: &PowerTable, sines: &SineTable, x: f32)
 }
 
 fn apply_one_by_one(function: Function, powers: &PowerTable, sines: &SineTable, xs: &mut [f32])
-    requires { (powers.now ≡ power_table) × (sines.now ≡ sine_table) }
     ensures { xs.new ≡ map_at (λ k x. value_of function x) xs.old }
 {
     let mut i: usize = 0;

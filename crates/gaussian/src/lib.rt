@@ -18,7 +18,11 @@ use float32::order::clamp;
 pub const GAUSSIAN_LUT_STEPS: usize = 1024;
 
 // 1,024 steps, and the end of the last.
-pub type GaussianTable = [f32; 1025];
+#[derive(Clone, Copy)]
+pub struct GaussianTable {
+    pub entries: [f32; 1025],
+    ghost is_gaussian_table: { entries ≡ gaussian_table },
+}
 
 pub const GAUSSIAN_MAX_RELATIVE_SQUARED: f32 = 16.0;
 
@@ -30,9 +34,9 @@ const WHOLE_STEPS: f32 = 8388608.0;
 
 // The table, made once and lent to every function that reads it.
 pub fn gaussian_table() -> GaussianTable
-    ensures { result ≡ gaussian_table }
+    ensures { result.entries ≡ gaussian_table }
 {
-    GAUSSIANS
+    GaussianTable { entries: GAUSSIANS }
 }
 
 // The position of a relative square in the table, in steps.
@@ -66,16 +70,16 @@ pub fn step_of(place: f32) -> Step
 // Linear interpolation from an entry to the one on its right. The last entry counts as its own
 // right neighbour, so that entry 1,025 is never read.
 pub fn line(gaussians: &GaussianTable, index: u32, part: f32) -> f32
-    requires { (gaussians.now ≡ gaussian_table) × (index ≤ 1024) }
+    requires { index ≤ 1024 }
     ensures { result ≡ line index part }
 {
     let left = index as usize;
     let right = lesser(left + 1, GAUSSIAN_LUT_STEPS);
-    let near = gaussians[left];
-    near + (gaussians[right] - near) * part
+    let near = gaussians.entries[left];
+    near + (gaussians.entries[right] - near) * part
 }
 
-const GAUSSIANS: GaussianTable = [
+const GAUSSIANS: [f32; 1025] = [
     1.0,
     0.99221796,
     0.9844964,

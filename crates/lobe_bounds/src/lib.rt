@@ -59,18 +59,15 @@ fn nearest_places(
 
 // The bound at a position: a lobe's strength times the entry on the left, at most the last.
 fn bound_at(gaussians: &GaussianTable, strength: f32, place: f32) -> f32
-    requires { gaussians.now ≡ gaussian_table }
     ensures { result ≡ bound_at strength place }
 {
     let left = lesser(counts::floor_to_count(place), GAUSSIAN_LUT_STEPS);
-    clamp(strength * gaussians[left], 0.0, 1.0)
+    clamp(strength * gaussians.entries[left], 0.0, 1.0)
 }
 
 // Replaces each position by the bound there.
 fn bounds_at_places(bounds: &mut [f32], gaussians: &GaussianTable, strengths: &[f32], count: usize)
-    requires { (gaussians.now ≡ gaussian_table)
-        × (count ≤ length bounds.old)
-        × (count ≤ length strengths.now) }
+    requires { (count ≤ length bounds.old) × (count ≤ length strengths.now) }
     ensures { bounds.new ≡ map_range
         (λ p place. bound_at (get_or strengths.now p nan) place) 0 count
         bounds.old }
@@ -93,8 +90,7 @@ pub fn bounds_of(
     high: f32,
     count: usize,
 )
-    requires { (gaussians.now ≡ gaussian_table)
-        × (count ≤ length bounds.old)
+    requires { (count ≤ length bounds.old)
         × (count ≤ length centers.now)
         × (count ≤ length strengths.now)
         × (count ≤ length peaks.now) }

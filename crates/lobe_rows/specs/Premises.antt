@@ -1,18 +1,11 @@
 -- What the functions over consecutive bins ask of what they are lent, each part under a name.
 -- Nothing here says what a mask is. Assumes nothing.
 use Rattle.std.specs.Prelude.{◌≡◌, Bool, true, List, ℕ, ◌+◌, ◌^◌, ◌≤◌, ◌<◌, length, get_or, Float}
-use Rattle.power.specs.Table.{power_table}
 use Rattle.power.specs.Log.{L2}
-use Rattle.gaussian.specs.Table.{gaussian_table}
 use Rattle.limits.specs.Lengths.{max_partials}
 use Rattle.lobes.specs.declared.Grid.{Grid}
 use Rattle.lobes.specs.declared.Lobe.{Lobe}
 use Rattle.lobe_joins.specs.Joined.{no_lobe}
-
--- the constants that a lobe is worked out with
-pub record Tables (p : List ℕ) (g : List Float) : Type 0 where
-  pub powers : p ≡ power_table
-  pub gaussians : g ≡ gaussian_table
 
 -- the rows that a lobe is worked out in
 pub record Scratch (chunk : List Float) (indexes : List ℕ) : Type 0 where

@@ -43,9 +43,7 @@ pub fn openings_by_frequency(
     start: usize,
     count: usize,
 )
-    requires { (powers.now ≡ power_table)
-        × (count ≤ length chunk.old)
-        × (start + count ≤ 2 ^ 24 + 1) }
+    requires { (count ≤ length chunk.old) × (start + count ≤ 2 ^ 24 + 1) }
     ensures { chunk.new
         ≡ map_range (λ k held. opening grid none lobe (start + k)) 0 count chunk.old }
 {

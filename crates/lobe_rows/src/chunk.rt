@@ -13,7 +13,7 @@ ghost use Rattle.gaussian.specs.Bell.{Place, index_of, part_of, line, between};
 ghost use Rattle.lobes.specs.Distance.{lent, logs_of, in_widths};
 ghost use Rattle.lobes.specs.Lobe.{opening};
 ghost use Rattle.lobe_rows.specs.Stages.{relative_to, place_of, opened_by};
-ghost use Rattle.lobe_rows.specs.Premises.{Tables, Room, ByTable, BinsKnown};
+ghost use Rattle.lobe_rows.specs.Premises.{Room, ByTable, BinsKnown};
 
 use crate::by_frequency::openings_by_frequency;
 use gaussian::{GaussianTable, step_of};
@@ -86,8 +86,7 @@ fn steps(chunk: &mut [f32], indexes: &mut [u32], count: usize)
 
 // The bells: linear interpolation between two entries of the table.
 fn lines(chunk: &mut [f32], indexes: &[u32], gaussians: &GaussianTable, count: usize)
-    requires { (gaussians.now ≡ gaussian_table)
-        × (Room chunk.old indexes.now count)
+    requires { (Room chunk.old indexes.now count)
         × ((k : ℕ) → k < count → get_or indexes.now k 0 ≤ 1024) }
     ensures { chunk.new ≡ map_range
         (λ k part. line (get_or indexes.now k 0) part) 0 count chunk.old }
@@ -109,9 +108,7 @@ pub fn bells(
     width: f32,
     peak_squared: f32,
 )
-    requires { (gaussians.now ≡ gaussian_table)
-        × (Room chunk.old indexes.old count)
-        × (start + count ≤ length table.now) }
+    requires { (Room chunk.old indexes.old count) × (start + count ≤ length table.now) }
     ensures { chunk.new ≡ map_range (λ k held. between (place_of peak_squared
         (in_widths width (sub binary32 (get_or table.now (start + k) nan) center_log2))))
         0 count chunk.old }
@@ -143,9 +140,7 @@ pub fn openings_by_table(
     start: usize,
     count: usize,
 )
-    requires { (gaussians.now ≡ gaussian_table)
-        × (Room chunk.old indexes.old count)
-        × (ByTable table.now lobe start count) }
+    requires { (Room chunk.old indexes.old count) × (ByTable table.now lobe start count) }
     ensures { chunk.new ≡ map_range
         (λ k held. opening grid (lent table.now) lobe (start + k)) 0 count
         chunk.old }
@@ -177,8 +172,7 @@ pub fn openings(
     start: usize,
     count: usize,
 )
-    requires { (Tables powers.now gaussians.now)
-        × (Room chunk.old indexes.old count)
+    requires { (Room chunk.old indexes.old count)
         × (BinsKnown tabled table.now lobe start count) }
     ensures { chunk.new ≡ map_range
         (λ k held. opening grid (logs_of tabled table.now) lobe (start + k)) 0 count

@@ -4,7 +4,7 @@ ghost use Rattle.std.specs.Prelude.{◌≡◌, take};
 ghost use Rattle.lists.specs.Maps.{map_at};
 ghost use Rattle.lobes.specs.Distance.{logs_of};
 ghost use Rattle.lobe_joins.specs.Joined.{lobe_joined, lobes_joined};
-ghost use Rattle.lobe_rows.specs.Premises.{Tables, Scratch, LobeKnown, LobesKnown};
+ghost use Rattle.lobe_rows.specs.Premises.{Scratch, LobeKnown, LobesKnown};
 
 use crate::Gains;
 use crate::chunk::openings;
@@ -29,8 +29,7 @@ fn raise_lobe(
     lobe: Lobe,
     gains: Gains,
 )
-    requires { (Tables powers.now gaussians.now)
-        × (Scratch chunk.old indexes.old)
+    requires { (Scratch chunk.old indexes.old)
         × (LobeKnown tabled table.now lobe) }
     ensures { (first.new ≡ map_at (λ bin held. lobe_joined grid
         (logs_of tabled table.now) gains.first bin held lobe) first.old)
@@ -67,8 +66,7 @@ pub fn raise_lobes(
     count: usize,
     gains: Gains,
 )
-    requires { (Tables powers.now gaussians.now)
-        × (Scratch chunk.old indexes.old)
+    requires { (Scratch chunk.old indexes.old)
         × (LobesKnown grid tabled table.now lobes count) }
     ensures { (first.new ≡ map_at
         (lobes_joined grid (logs_of tabled table.now) gains.first (take count lobes))

@@ -26,7 +26,7 @@ pub fn distance_by_table(table: &[f32], width: f32, center_log2: f32, bin: usize
 
 // From the bin's own frequency, where no table was lent.
 pub fn distance_by_hertz(powers: &PowerTable, grid: Grid, center: f32, bin: usize) -> f32
-    requires { (powers.now ≡ power_table) × (bin ≤ 2 ^ 24) }
+    requires { bin ≤ 2 ^ 24 }
     ensures { result ≡ distance grid none center bin }
 {
     let hertz = bin as f32 * grid.bin_hz;

@@ -20,7 +20,7 @@ pub const CENTS_PER_OCTAVE: f32 = 1200.0;
 const WIDTHS_TO_THE_END: f32 = 4.0;
 
 pub fn grid_of(powers: &PowerTable, config: MaskConfig) -> Grid
-    requires { (powers.now ≡ power_table) × (config.fft_size ≤ 2 ^ 24) }
+    requires { config.fft_size ≤ 2 ^ 24 }
     ensures { result ≡ grid_of config }
 {
     let rate = config.sample_rate;

@@ -41,7 +41,6 @@ fn expression_of(voice: MaskVoice) -> f32
 
 // Constant-power pan law with unity at center. The center and the silent far side are exact.
 fn left_balance(sines: &SineTable, pan: f32) -> f32
-    requires { sines.now ≡ sine_table }
     ensures { result ≡ balance left pan }
 {
     if pan == 0.0 {
@@ -54,7 +53,6 @@ fn left_balance(sines: &SineTable, pan: f32) -> f32
 }
 
 fn right_balance(sines: &SineTable, pan: f32) -> f32
-    requires { sines.now ≡ sine_table }
     ensures { result ≡ balance right pan }
 {
     if pan == 0.0 {
@@ -73,14 +71,12 @@ pub fn mono_gain(voice: MaskVoice) -> f32
 }
 
 pub fn left_gain(sines: &SineTable, voice: MaskVoice) -> f32
-    requires { sines.now ≡ sine_table }
     ensures { result ≡ channel_gain left voice }
 {
     expression_of(voice) * left_balance(sines, pan_of(voice))
 }
 
 pub fn right_gain(sines: &SineTable, voice: MaskVoice) -> f32
-    requires { sines.now ≡ sine_table }
     ensures { result ≡ channel_gain right voice }
 {
     expression_of(voice) * right_balance(sines, pan_of(voice))

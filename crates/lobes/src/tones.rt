@@ -86,10 +86,8 @@ pub fn harmonic_gain(
     rolloff: f32,
     partial: usize,
 ) -> f32
-    requires { (powers.now ≡ power_table)
-        × (octaves.now ≡ partial_octaves)
-        × (partial ≤ max_partials) }
+    requires { partial ≤ max_partials }
     ensures { result ≡ harmonic_gain rolloff partial }
 {
-    decibels::gain(powers, -rolloff * octaves[partial])
+    decibels::gain(powers, -rolloff * octaves.entries[partial])
 }

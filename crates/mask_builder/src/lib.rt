@@ -32,9 +32,7 @@ fn open_mono(
     tabled: bool,
     table: &[f32],
 )
-    requires { (powers.now ≡ power_table)
-        × (sines.now ≡ sine_table)
-        × (count ≤ most_voices)
+    requires { (count ≤ most_voices)
         × (config.fft_size ≤ most_size)
         × (length out.old ≡ config.fft_size / 2 + 1)
         × (tabled ≡ true → length table.now ≡ config.fft_size / 2 + 1)
@@ -64,9 +62,7 @@ fn open_sides(
     config: MaskConfig,
     table: &[f32],
 )
-    requires { (powers.now ≡ power_table)
-        × (sines.now ≡ sine_table)
-        × (count ≤ most_voices)
+    requires { (count ≤ most_voices)
         × (config.fft_size ≤ most_size)
         × (length left.old ≡ config.fft_size / 2 + 1)
         × (length right.old ≡ config.fft_size / 2 + 1)

@@ -110,8 +110,7 @@ pub fn manual_gains(
     start: usize,
     count: usize,
 )
-    requires { (powers.now ≡ power_table)
-        × (length curve.now ≡ manual_mask_points)
+    requires { (length curve.now ≡ manual_mask_points)
         × (count ≤ length row.old)
         × (start + count ≤ 2 ^ 24 + 1) }
     ensures { row.new ≡ map_range

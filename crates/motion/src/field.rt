@@ -39,7 +39,6 @@ pub fn settled(config: MotionConfig) -> MotionConfig
 // event-driven and are applied separately from the looping motion field, so their resting state is
 // neutral.
 pub(crate) fn shape_at(sines: &SineTable, shape: MotionShape, x: f32, size: f32, phase: f32) -> f32
-    requires { sines.now ≡ sine_table }
     ensures { result ≡ shape_at shape x size phase }
 {
     match shape {
@@ -57,7 +56,6 @@ pub(crate) fn shape_at(sines: &SineTable, shape: MotionShape, x: f32, size: f32,
 // The moving field's openness at a frequency. 1 is the crest, where the drawn ceiling is unchanged,
 // and 0 receives the full motion attenuation.
 pub fn openness(sines: &SineTable, frequency: f32, config: MotionConfig) -> f32
-    requires { sines.now ≡ sine_table }
     ensures { result ≡ openness frequency config }
 {
     if config.depth_db <= RESTING_DEPTH_DB {
@@ -74,7 +72,6 @@ pub fn openness(sines: &SineTable, frequency: f32, config: MotionConfig) -> f32
 }
 
 pub fn attenuation_db(sines: &SineTable, frequency: f32, config: MotionConfig) -> f32
-    requires { sines.now ≡ sine_table }
     ensures { result ≡ attenuation frequency config }
 {
     let depth = max(config.depth_db, 0.0);

@@ -21,7 +21,6 @@ const RESET_START: f32 = 0.9;
 
 // A raised cosine.
 pub(crate) fn ripple(sines: &SineTable, x: f32, size: f32, phase: f32) -> f32
-    requires { sines.now ≡ sine_table }
     ensures { result ≡ ripple x size phase }
 {
     let wave = cos(sines, TAU * (x / size - phase));
@@ -30,7 +29,6 @@ pub(crate) fn ripple(sines: &SineTable, x: f32, size: f32, phase: f32) -> f32
 
 // The ripple to the fifth power, which narrows its crests.
 pub(crate) fn harmonic(sines: &SineTable, x: f32, size: f32, phase: f32) -> f32
-    requires { sines.now ≡ sine_table }
     ensures { result ≡ harmonic x size phase }
 {
     powi5(ripple(sines, x, size, phase))
@@ -64,7 +62,6 @@ pub fn layered(broad: f32, middle: f32, detail: f32) -> f32
 }
 
 pub(crate) fn drift(sines: &SineTable, x: f32, size: f32, phase: f32) -> f32
-    requires { sines.now ≡ sine_table }
     ensures { result ≡ drift x size phase }
 {
     let broad = sin(sines, broad_angle(x, size, phase));

@@ -38,9 +38,7 @@ const MAX_MOTION_COMPENSATION_DB: f32 = 12.0;
 
 // The field's gain at each sample.
 fn sample_gains(row: &mut [f32], powers: &PowerTable, sines: &SineTable, field: MotionConfig)
-    requires { (powers.now ≡ power_table)
-        × (sines.now ≡ sine_table)
-        × (length row.old ≡ motion_compensation_samples) }
+    requires { length row.old ≡ motion_compensation_samples }
     ensures { row.new
         ≡ map_range (λ k x. gain_there field x) 0 motion_compensation_samples row.old }
 {
@@ -50,9 +48,7 @@ fn sample_gains(row: &mut [f32], powers: &PowerTable, sines: &SineTable, field: 
 }
 
 fn mean_square(powers: &PowerTable, sines: &SineTable, config: MotionConfig) -> f32
-    requires { (powers.now ≡ power_table)
-        × (sines.now ≡ sine_table)
-        × (le config.depth_db resting_depth_db ≡ false) }
+    requires { le config.depth_db resting_depth_db ≡ false }
     ensures { result ≡ mean_square config }
 {
     let mut row = octave_table();
@@ -65,7 +61,6 @@ fn mean_square(powers: &PowerTable, sines: &SineTable, config: MotionConfig) -> 
 }
 
 pub fn compensation_gain(powers: &PowerTable, sines: &SineTable, config: MotionConfig) -> f32
-    requires { (powers.now ≡ power_table) × (sines.now ≡ sine_table) }
     ensures { result ≡ compensation config }
 {
     if config.depth_db <= RESTING_DEPTH_DB {

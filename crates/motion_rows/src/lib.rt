@@ -71,10 +71,7 @@ fn openings(
     start: usize,
     count: usize,
 )
-    requires { (powers.now ≡ power_table)
-        × (sines.now ≡ sine_table)
-        × (count ≤ length row.old)
-        × (start + count ≤ 2 ^ 24 + 1) }
+    requires { (count ≤ length row.old) × (start + count ≤ 2 ^ 24 + 1) }
     ensures { row.new ≡ map_range
         (λ k held. open_at field (hertz bin_hz (start + k))) 0 count row.old }
 {
@@ -111,10 +108,7 @@ pub fn motion_gains(
     start: usize,
     count: usize,
 )
-    requires { (powers.now ≡ power_table)
-        × (sines.now ≡ sine_table)
-        × (count ≤ length row.old)
-        × (start + count ≤ 2 ^ 24 + 1) }
+    requires { (count ≤ length row.old) × (start + count ≤ 2 ^ 24 + 1) }
     ensures { row.new ≡ map_range
         (λ k held. gain_left field (hertz bin_hz (start + k))) 0 count row.old }
 {

@@ -53,7 +53,7 @@ fn crests(row: &mut [f32], count: usize)
 }
 
 fn ripples(row: &mut [f32], sines: &SineTable, size: f32, phase: f32, count: usize)
-    requires { (sines.now ≡ sine_table) × (count ≤ length row.old) }
+    requires { count ≤ length row.old }
     ensures { row.new
         ≡ map_range (λ k x. ripple x size phase) 0 count row.old }
 {
@@ -72,7 +72,7 @@ fn fifth_powers(row: &mut [f32], count: usize)
 }
 
 fn harmonics(row: &mut [f32], sines: &SineTable, size: f32, phase: f32, count: usize)
-    requires { (sines.now ≡ sine_table) × (count ≤ length row.old) }
+    requires { count ≤ length row.old }
     ensures { row.new
         ≡ map_range (λ k x. harmonic x size phase) 0 count row.old }
 {
@@ -152,8 +152,7 @@ fn few_drifts(
     start: usize,
     count: usize,
 )
-    requires { (sines.now ≡ sine_table)
-        × (start + count ≤ length row.old)
+    requires { (start + count ≤ length row.old)
         × (count ≤ length broad.old)
         × (count ≤ length middle.old)
         × (count ≤ length detail.old) }
@@ -168,7 +167,7 @@ fn few_drifts(
 }
 
 fn drifts(row: &mut [f32], sines: &SineTable, size: f32, phase: f32, count: usize)
-    requires { (sines.now ≡ sine_table) × (count ≤ length row.old) }
+    requires { count ≤ length row.old }
     ensures { row.new
         ≡ map_range (λ k x. drift x size phase) 0 count row.old }
 {
@@ -204,7 +203,7 @@ fn window_exponents(row: &mut [f32], size: f32, phase: f32, count: usize)
 }
 
 fn windows(row: &mut [f32], powers: &PowerTable, size: f32, phase: f32, count: usize)
-    requires { (powers.now ≡ power_table) × (count ≤ length row.old) }
+    requires { count ≤ length row.old }
     ensures { row.new
         ≡ map_range (λ k x. window x size phase) 0 count row.old }
 {
@@ -223,7 +222,7 @@ fn complements(row: &mut [f32], count: usize)
 }
 
 fn notches(row: &mut [f32], powers: &PowerTable, size: f32, phase: f32, count: usize)
-    requires { (powers.now ≡ power_table) × (count ≤ length row.old) }
+    requires { count ≤ length row.old }
     ensures { row.new
         ≡ map_range (λ k x. sub binary32 one (window x size phase)) 0 count row.old }
 {
@@ -257,9 +256,7 @@ pub fn shape_row(
     field: MotionConfig,
     count: usize,
 )
-    requires { (powers.now ≡ power_table)
-        × (sines.now ≡ sine_table)
-        × (count ≤ length row.old) }
+    requires { count ≤ length row.old }
     ensures { row.new
         ≡ map_range (λ k x. shaped field x) 0 count row.old }
 {

@@ -1,20 +1,17 @@
 -- What the functions that raise lobes, a tone, a voice and voices ask of what they are lent, each
--- part under a name. What functions of a lower crate ask for too is named there: `Tables`,
--- `Scratch` and `OnGrid` in lobe_rows, `SidesOpen` and `GainsWithin` in block_rows. Nothing here
+-- part under a name. What functions of a lower crate ask for too is named there: `Scratch` and
+-- `OnGrid` in lobe_rows, `SidesOpen` and `GainsWithin` in block_rows. Nothing here
 -- says what a mask is. Assumes nothing.
 use Rattle.std.specs.Prelude.{◌≡◌, Bool, true, List, ℕ, ◌+◌, ◌≤◌, length, take, Float}
 use Rattle.lists.specs.Totals.{All}
-use Rattle.sine.specs.Table.{sine_table}
-use Rattle.gaussian.specs.Table.{gaussian_table}
 use Rattle.limits.specs.Lengths.{most_voices, max_partials, most_bin}
 use Rattle.scene.specs.declared.MaskVoice.{MaskVoice}
 use Rattle.scene.specs.Voices.{RealVoice}
 use Rattle.lobes.specs.declared.Grid.{Grid}
 use Rattle.lobes.specs.declared.Tone.{Tone}
 use Rattle.lobes.specs.declared.Lobe.{Lobe}
-use Rattle.lobes.specs.Tone.{partial_octaves}
 use Rattle.lobe_rows.specs.declared.Gains.{Gains}
-use Rattle.lobe_rows.specs.Premises.{Tables, Scratch, OnGrid}
+use Rattle.lobe_rows.specs.Premises.{Scratch, OnGrid}
 use Rattle.block_rows.specs.Most.{SoundLobes}
 use Rattle.block_rows.specs.Premises.{GainsWithin}
 use Rattle.block_walk.specs.Compact.{RealTable}
@@ -49,40 +46,31 @@ pub record VoicesWalk (way : Way) (table lows highs first second : List Float)
   pub voices-real : All RealVoice voices
 
 -- ---- a function's premises, over its parameters in their order
-pub record RaiseTogether (first second chunk : List Float) (indexes : List ℕ) (g : List Float)
+pub record RaiseTogether (first second chunk : List Float) (indexes : List ℕ)
     (way : Way) (table lows highs : List Float) (lobes : List Lobe) (count : ℕ) (gains : Gains) :
     Type 0 where
-  pub gaussians : g ≡ gaussian_table
   pub scratch : Scratch chunk indexes
   pub few : count ≤ max_partials
   pub walk : way.compact ≡ true → LobesWalk way table lows highs first second lobes count gains
 
-pub record RaiseTone (first second chunk : List Float) (indexes p : List ℕ) (o g : List Float)
+pub record RaiseTone (first second chunk : List Float) (indexes : List ℕ)
     (way : Way) (table lows highs : List Float) (tone : Tone) (gains : Gains) : Type 0 where
-  pub tables : Tables p g
-  pub octaves : o ≡ partial_octaves
   pub scratch : Scratch chunk indexes
   pub few : way.grid.partials ≤ max_partials
   pub on-grid : OnGrid way.grid way.tabled table
   pub walk : way.compact ≡ true → ToneWalk way table lows highs first second tone gains
 
-pub record RaiseVoice (first second chunk : List Float) (indexes p : List ℕ) (o : List Float)
-    (s : List ℕ) (g : List Float) (way : Way) (table lows highs : List Float) (voice : MaskVoice) :
+pub record RaiseVoice (first second chunk : List Float) (indexes : List ℕ)
+    (way : Way) (table lows highs : List Float) (voice : MaskVoice) :
     Type 0 where
-  pub tables : Tables p g
-  pub sines : s ≡ sine_table
-  pub octaves : o ≡ partial_octaves
   pub scratch : Scratch chunk indexes
   pub few : way.grid.partials ≤ max_partials
   pub on-grid : OnGrid way.grid way.tabled table
   pub walk : way.compact ≡ true → VoiceWalk way table lows highs first second voice
 
-pub record RaiseVoices (first second chunk : List Float) (indexes p : List ℕ) (o : List Float)
-    (s : List ℕ) (g : List Float) (way : Way) (table lows highs : List Float)
+pub record RaiseVoices (first second chunk : List Float) (indexes : List ℕ)
+    (way : Way) (table lows highs : List Float)
     (voices : List MaskVoice) (count : ℕ) : Type 0 where
-  pub tables : Tables p g
-  pub sines : s ≡ sine_table
-  pub octaves : o ≡ partial_octaves
   pub scratch : Scratch chunk indexes
   pub few : way.grid.partials ≤ max_partials
   pub on-grid : OnGrid way.grid way.tabled table
@@ -98,10 +86,8 @@ pub record EndsWhere (compact : Bool) (lows highs row table : List Float) : Type
   pub table-real : compact ≡ true → RealTable table
 
 -- the two that fill masks
-pub record Open (p s : List ℕ) (g : List Float) (tabled : Bool) (table : List Float)
+pub record Open (tabled : Bool) (table : List Float)
     (voices : List MaskVoice) (count : ℕ) (grid : Grid) : Type 0 where
-  pub tables : Tables p g
-  pub sines : s ≡ sine_table
   pub few : grid.partials ≤ max_partials
   pub on-grid : OnGrid grid tabled table
   pub heard : count ≤ most_voices

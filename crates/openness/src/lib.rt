@@ -80,8 +80,7 @@ pub fn open_one(
     count: usize,
     grid: Grid,
 )
-    requires { Open powers.now sines.now gaussians.now tabled table.now voices count
-        grid }
+    requires { Open tabled table.now voices count grid }
     ensures { out.new ≡ tabulate (length out.old)
         (openness grid (logs_of tabled table.now) side.mono (take count voices)) }
 {
@@ -132,8 +131,7 @@ pub fn open_two(
     count: usize,
     grid: Grid,
 )
-    requires { Open powers.now sines.now gaussians.now true table.now voices count
-        grid }
+    requires { Open true table.now voices count grid }
     ensures { (left.new ≡ tabulate (length left.old)
         (openness grid (lent table.now) side.left (take count voices)))
         × (right.new ≡ tabulate (length right.old)

@@ -33,7 +33,7 @@ fn raised_together(
     count: usize,
     gains: Gains,
 ) -> bool
-    requires { RaiseTogether first.old second.old chunk.old indexes.old gaussians.now
+    requires { RaiseTogether first.old second.old chunk.old indexes.old
         way table.now lows.now highs.now lobes count gains }
     ensures { (result ≡ true → way.compact ≡ true)
         × (first.new ≡ cond result (map_at
@@ -80,8 +80,8 @@ pub fn raise_tone(
     tone: Tone,
     gains: Gains,
 )
-    requires { RaiseTone first.old second.old chunk.old indexes.old powers.now
-        octaves.now gaussians.now way table.now lows.now highs.now tone gains }
+    requires { RaiseTone first.old second.old chunk.old indexes.old
+        way table.now lows.now highs.now tone gains }
     ensures { (first.new ≡ map_at
         (tone_joined way.grid (logs_of way.tabled table.now) gains.first tone)
         first.old)

@@ -26,7 +26,6 @@ pub const SKIPPED_LEVEL: f32 = 0.00001;
 
 // A voice's gain on each side that is raised.
 fn gains_of(sines: &SineTable, stereo: bool, voice: MaskVoice) -> Gains
-    requires { sines.now ≡ sine_table }
     ensures { (result.first ≡ channel_gain (first_side stereo) voice)
         × (result.second ≡ channel_gain (second_side stereo) voice) }
 {
@@ -59,8 +58,8 @@ fn raise_voice(
     highs: &[f32],
     voice: MaskVoice,
 )
-    requires { RaiseVoice first.old second.old chunk.old indexes.old powers.now
-        octaves.now sines.now gaussians.now way table.now lows.now highs.now voice }
+    requires { RaiseVoice first.old second.old chunk.old indexes.old
+        way table.now lows.now highs.now voice }
     ensures { (first.new ≡ map_at (λ bin held. voice_joined way.grid
         (logs_of way.tabled table.now) (channel_gain (first_side way.stereo)) bin held
         voice) first.old)
@@ -97,8 +96,8 @@ pub fn raise_voices(
     voices: [MaskVoice; MOST_VOICES],
     count: usize,
 )
-    requires { RaiseVoices first.old second.old chunk.old indexes.old powers.now
-        octaves.now sines.now gaussians.now way table.now lows.now highs.now voices
+    requires { RaiseVoices first.old second.old chunk.old indexes.old
+        way table.now lows.now highs.now voices
         count }
     ensures { (first.new ≡ map_at (λ bin held. fold (voice_joined way.grid
         (logs_of way.tabled table.now) (channel_gain (first_side way.stereo)) bin)

@@ -11,7 +11,6 @@ use float32::constants::{LOG2_10, LOG2_E, LOG10_2};
 
 // 10^y: powf(10, y) of document 01.
 pub fn pow10(powers: &PowerTable, y: f32) -> f32
-    requires { powers.now ≡ power_table }
     ensures { result ≡ pow10 y }
 {
     exp2(powers, y * LOG2_10)
@@ -19,7 +18,6 @@ pub fn pow10(powers: &PowerTable, y: f32) -> f32
 
 // e^y: exp(y) of document 01.
 pub fn exp(powers: &PowerTable, y: f32) -> f32
-    requires { powers.now ≡ power_table }
     ensures { result ≡ exp y }
 {
     exp2(powers, y * LOG2_E)
@@ -27,7 +25,6 @@ pub fn exp(powers: &PowerTable, y: f32) -> f32
 
 // log10(v) of document 01.
 pub fn log10(powers: &PowerTable, v: f32) -> f32
-    requires { powers.now ≡ power_table }
     ensures { result ≡ log10 v }
 {
     log2(powers, v) * LOG10_2

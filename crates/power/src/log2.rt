@@ -56,7 +56,7 @@ pub fn step_from(h: u32, next: u32, t: u32) -> u32
 
 // The same, from the table.
 pub fn step_of(powers: &PowerTable, t: u32) -> u32
-    requires { (powers.now ≡ power_table) × (2 ^ 30 ≤ t) × (t < 2 ^ 31) }
+    requires { (2 ^ 30 ≤ t) × (t < 2 ^ 31) }
     ensures { result ≡ greatest P t (2 ^ high_bits) }
 {
     let h = guess(t) as usize;
@@ -107,7 +107,6 @@ pub fn log_in_step(v: f32, t: u32, h: u32, a: u32, b: u32) -> f32
 // Error, measured over every mantissa: F / 2^24 is at most 1.4e-7 below and 2.1e-9 above the
 // fraction of log2(v), to which the rounding adds up to half a unit of the last place.
 pub fn log2(powers: &PowerTable, v: f32) -> f32
-    requires { powers.now ≡ power_table }
     ensures { result ≡ L2 v }
 {
     if !(LEAST_NORMAL <= v) {

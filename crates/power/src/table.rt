@@ -12,26 +12,30 @@ pub(crate) const LOW_MASK: u64 = (1 << LOW_BITS) - 1;
 // The table P of document 01: 2^30 to 2^31 in steps of equal ratio, rounded down, and the end of
 // the last step. exp2 and log2 read it, here and in power_rows; its rule is proved for all entries
 // together in specs/Rules.antt.
-pub type PowerTable = [u32; (1 << HIGH_BITS) + 1];
+#[derive(Clone, Copy)]
+pub struct PowerTable {
+    entries: [u32; (1 << HIGH_BITS) + 1],
+    ghost is_power_table: { entries ≡ power_table },
+}
 
 // P, made once and lent to every function that reads it.
 pub fn power_table() -> PowerTable
-    ensures { result ≡ power_table }
+    ensures { result.entries ≡ power_table }
 {
-    POWERS
+    PowerTable { entries: POWERS }
 }
 
 // P[j]
 pub fn entry(powers: &PowerTable, j: usize) -> u32
-    requires { (powers.now ≡ power_table) × (j ≤ 2 ^ high_bits) }
+    requires { j ≤ 2 ^ high_bits }
     ensures { result ≡ P j }
 {
-    powers[j]
+    powers.entries[j]
 }
 
 // P[j] as a u64, so that a product fits.
 pub(crate) fn power(powers: &PowerTable, j: usize) -> u64
-    requires { (powers.now ≡ power_table) × (j ≤ 2 ^ high_bits) }
+    requires { j ≤ 2 ^ high_bits }
     ensures { result ≡ P j }
 {
     entry(powers, j) as u64
@@ -48,14 +52,14 @@ pub fn between(a: u64, b: u64, f: u64) -> u64
 
 // I(F), from the table.
 pub fn interpolate(powers: &PowerTable, f: u64) -> u64
-    requires { (powers.now ≡ power_table) × (f < 2 ^ 24) }
+    requires { f < 2 ^ 24 }
     ensures { result ≡ I f }
 {
     let h = (f >> LOW_BITS) as usize;
     between(power(powers, h), power(powers, h + 1), f)
 }
 
-const POWERS: PowerTable = [
+const POWERS: [u32; (1 << HIGH_BITS) + 1] = [
     1073741824, 1074468887, 1075196443, 1075924491, 1076653033, 1077382068, 1078111596, 1078841619,
     1079572135, 1080303147, 1081034653, 1081766655, 1082499152, 1083232146, 1083965636, 1084699622,
     1085434105, 1086169086, 1086904565, 1087640541, 1088377016, 1089113989, 1089851462, 1090589434,

@@ -70,16 +70,13 @@ fn steps(inside: &[f32], found: &mut [u32], count: usize)
 }
 
 fn digits_of(powers: &PowerTable, y: u32) -> u32
-    requires { powers.now ≡ power_table }
     ensures { result ≡ digits y }
 {
     (interpolate(powers, (y & 0xff_ffff) as u64) >> 7) as u32
 }
 
 fn leading(found: &[u32], values: &mut [u32], powers: &PowerTable, count: usize)
-    requires { (powers.now ≡ power_table)
-        × (count ≤ length found.now)
-        × (count ≤ length values.old) }
+    requires { (count ≤ length found.now) × (count ≤ length values.old) }
     ensures { values.new ≡ map_range
         (λ k held. digits (get_or found.now k 0)) 0 count values.old }
 {
@@ -136,8 +133,7 @@ fn few_powers(
     start: usize,
     count: usize,
 )
-    requires { (powers.now ≡ power_table)
-        × (start + count ≤ length row.old)
+    requires { (start + count ≤ length row.old)
         × (count ≤ length inside.old)
         × (count ≤ length found.old)
         × (count ≤ length values.old) }
@@ -151,7 +147,7 @@ fn few_powers(
 }
 
 pub fn exp2_row(row: &mut [f32], powers: &PowerTable, count: usize)
-    requires { (powers.now ≡ power_table) × (count ≤ length row.old) }
+    requires { count ≤ length row.old }
     ensures { row.new ≡ map_range (λ i x. E2 x) 0 count row.old }
 {
     let mut inside = [0.0f32; ROW];
@@ -184,7 +180,7 @@ pub(crate) fn scale(row: &mut [f32], factor: f32, count: usize)
 }
 
 pub fn pow10_row(row: &mut [f32], powers: &PowerTable, count: usize)
-    requires { (powers.now ≡ power_table) × (count ≤ length row.old) }
+    requires { count ≤ length row.old }
     ensures { row.new ≡ map_range (λ k y. pow10 y) 0 count row.old }
 {
     scale(row, LOG2_10, count);
@@ -192,7 +188,7 @@ pub fn pow10_row(row: &mut [f32], powers: &PowerTable, count: usize)
 }
 
 pub fn exp_row(row: &mut [f32], powers: &PowerTable, count: usize)
-    requires { (powers.now ≡ power_table) × (count ≤ length row.old) }
+    requires { count ≤ length row.old }
     ensures { row.new ≡ map_range (λ k y. exp y) 0 count row.old }
 {
     scale(row, LOG2_E, count);

@@ -68,8 +68,7 @@ fn find_steps(
     powers: &PowerTable,
     count: usize,
 )
-    requires { (powers.now ≡ power_table)
-        × Room digits.now steps.old from.old to.old count
+    requires { Room digits.now steps.old from.old to.old count
         × ((k : ℕ) → k < count → Scaled (get_or digits.now k 0)) }
     ensures { (steps.new ≡ map_range
         (λ k held. step_of (get_or digits.now k 0)) 0 count steps.old)
@@ -122,9 +121,7 @@ fn few_logs(
     start: usize,
     count: usize,
 )
-    requires { (powers.now ≡ power_table)
-        × (start + count ≤ length row.old)
-        × Room digits.old steps.old from.old to.old count }
+    requires { (start + count ≤ length row.old) × Room digits.old steps.old from.old to.old count }
     ensures { row.new
         ≡ map_range (λ i v. L2 v) start (start + count) row.old }
 {
@@ -136,7 +133,7 @@ fn few_logs(
 
 // Replaces the first `count` numbers of the row by their logarithms.
 pub fn log2_row(row: &mut [f32], powers: &PowerTable, count: usize)
-    requires { (powers.now ≡ power_table) × (count ≤ length row.old) }
+    requires { count ≤ length row.old }
     ensures { row.new ≡ map_range (λ k v. L2 v) 0 count row.old }
 {
     let mut digits = [0u32; ROW];
@@ -161,7 +158,7 @@ pub fn log2_row(row: &mut [f32], powers: &PowerTable, count: usize)
 }
 
 pub fn log10_row(row: &mut [f32], powers: &PowerTable, count: usize)
-    requires { (powers.now ≡ power_table) × (count ≤ length row.old) }
+    requires { count ≤ length row.old }
     ensures { row.new ≡ map_range (λ k v. log10 v) 0 count row.old }
 {
     log2_row(row, powers, count);

@@ -22,7 +22,6 @@ pub mod turns;
 pub mod wave;
 
 pub fn sin(sines: &SineTable, angle: f32) -> f32
-    requires { sines.now ≡ sine_table }
     ensures { result ≡ sin_of angle }
 {
     wave_at(sines, place_in_turn(angle))
@@ -30,7 +29,6 @@ pub fn sin(sines: &SineTable, angle: f32) -> f32
 
 // The sine a quarter turn ahead.
 pub fn cos(sines: &SineTable, angle: f32) -> f32
-    requires { sines.now ≡ sine_table }
     ensures { result ≡ cos_of angle }
 {
     wave_at(sines, (place_in_turn(angle) + QUARTER) & IN_TURN)

@@ -7,8 +7,12 @@
 ghost use Rattle.std.specs.Prelude.{◌≡◌};
 ghost use Rattle.sine.specs.Table.{half_angle_cosines, sine_table};
 
-// The type of R.
-pub type SineTable = [u32; 257];
+// R, made once and lent to every function that reads it.
+#[derive(Clone, Copy)]
+pub struct SineTable {
+    pub(crate) entries: [u32; 257],
+    ghost is_sine_table: { entries ≡ sine_table },
+}
 
 // The table K, from which R's rule is checked.
 pub fn half_angle_cosines() -> [u32; 9]
@@ -19,9 +23,9 @@ pub fn half_angle_cosines() -> [u32; 9]
 
 // The table R. Each use of a constant array copies it, so a caller makes it once and lends it.
 pub fn sine_table() -> SineTable
-    ensures { result ≡ sine_table }
+    ensures { result.entries ≡ sine_table }
 {
-    SINES
+    SineTable { entries: SINES }
 }
 
 const HALF_ANGLE_COSINES: [u32; 9] = [

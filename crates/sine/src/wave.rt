@@ -17,15 +17,15 @@ const LAST_ENTRY: u64 = 1073741824;
 
 // R[j]
 pub fn entry(sines: &SineTable, j: usize) -> u64
-    requires { (sines.now ≡ sine_table) × (j < 257) }
+    requires { j < 257 }
     ensures { result ≡ R j }
 {
-    sines[j] as u64
+    sines.entries[j] as u64
 }
 
 // Linear interpolation in R, over steps of 2^14. There is no entry after the last.
 fn interpolated(sines: &SineTable, p: u64) -> u64
-    requires { (sines.now ≡ sine_table) × (p ≤ 2 ^ 22) }
+    requires { p ≤ 2 ^ 22 }
     ensures { result ≡ interp 14 R p }
 {
     let h = (p >> 14) as usize;
@@ -70,7 +70,7 @@ pub fn level(place: u32, w: u32) -> f32
 }
 
 pub fn wave_at(sines: &SineTable, place: u64) -> f32
-    requires { (sines.now ≡ sine_table) × (place < 2 ^ 24) }
+    requires { place < 2 ^ 24 }
     ensures { result ≡ wave place }
 {
     let w = (interpolated(sines, turned_place(place)) >> 6) as u32;

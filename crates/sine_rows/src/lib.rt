@@ -82,7 +82,7 @@ fn steps(places: &[u32], indexes: &mut [u32], parts: &mut [u32], count: usize)
 }
 
 fn value_at(sines: &SineTable, index: u32, part: u32) -> u32
-    requires { (sines.now ≡ sine_table) × (index < 256) × (part ≤ 2 ^ 14) }
+    requires { (index < 256) × (part ≤ 2 ^ 14) }
     ensures { result ≡ value_at index part }
 {
     let left = index as usize;
@@ -93,8 +93,7 @@ fn value_at(sines: &SineTable, index: u32, part: u32) -> u32
 
 // Replaces each index by the value at its step.
 fn values(indexes: &mut [u32], parts: &[u32], sines: &SineTable, count: usize)
-    requires { (sines.now ≡ sine_table)
-        × (count ≤ length indexes.old)
+    requires { (count ≤ length indexes.old)
         × (count ≤ length parts.now)
         × ((k : ℕ) → k < count → get_or indexes.old k 0 < 256)
         × ((k : ℕ) → k < count → get_or parts.now k 0 ≤ 2 ^ 14) }
@@ -134,8 +133,7 @@ fn waves(
     count: usize,
     ahead: u64,
 )
-    requires { (sines.now ≡ sine_table)
-        × (start + count ≤ length row.old)
+    requires { (start + count ≤ length row.old)
         × (count ≤ length found.old)
         × (count ≤ length indexes.old)
         × (count ≤ length parts.old)
@@ -151,7 +149,7 @@ fn waves(
 
 // The sines of the first `count` angles, each moved on by `ahead`.
 fn waves_ahead(row: &mut [f32], sines: &SineTable, count: usize, ahead: u64)
-    requires { (sines.now ≡ sine_table) × (count ≤ length row.old) × (ahead ≤ 2 ^ 22) }
+    requires { (count ≤ length row.old) × (ahead ≤ 2 ^ 22) }
     ensures { row.new
         ≡ map_range (λ i angle. wave (place_ahead ahead angle)) 0 count row.old }
 {
@@ -176,7 +174,7 @@ fn waves_ahead(row: &mut [f32], sines: &SineTable, count: usize, ahead: u64)
 }
 
 pub fn sin_row(row: &mut [f32], sines: &SineTable, count: usize)
-    requires { (sines.now ≡ sine_table) × (count ≤ length row.old) }
+    requires { count ≤ length row.old }
     ensures { row.new
         ≡ map_range (λ k angle. sin_of angle) 0 count row.old }
 {
@@ -185,7 +183,7 @@ pub fn sin_row(row: &mut [f32], sines: &SineTable, count: usize)
 
 // The sines a quarter turn ahead.
 pub fn cos_row(row: &mut [f32], sines: &SineTable, count: usize)
-    requires { (sines.now ≡ sine_table) × (count ≤ length row.old) }
+    requires { count ≤ length row.old }
     ensures { row.new
         ≡ map_range (λ k angle. cos_of angle) 0 count row.old }
 {

@@ -59,9 +59,7 @@ fn scaled(row: &mut [f32], count: usize)
 
 // The decibels of the gains from `start` on, one short loop per stage.
 fn decibel_row(row: &mut [f32], gains: &[f32], powers: &PowerTable, start: usize, count: usize)
-    requires { (powers.now ≡ power_table)
-        × (count ≤ length row.old)
-        × (start + count ≤ length gains.now) }
+    requires { (count ≤ length row.old) × (start + count ≤ length gains.now) }
     ensures { row.new ≡ map_range
         (λ k held. decibels_of (get_or gains.now (start + k) nan)) 0 count
         row.old }
@@ -73,7 +71,6 @@ fn decibel_row(row: &mut [f32], gains: &[f32], powers: &PowerTable, start: usize
 
 // A bin's softened gain, from its own decibels and its neighbours'.
 fn softened(powers: &PowerTable, left_db: f32, center_db: f32, right_db: f32) -> f32
-    requires { powers.now ≡ power_table }
     ensures { result ≡ softened left_db center_db right_db }
 {
     gain(
@@ -85,10 +82,7 @@ fn softened(powers: &PowerTable, left_db: f32, center_db: f32, right_db: f32) ->
 // Softens the bins from `start` on. The row of decibels begins with the left neighbour of the
 // first.
 fn soften_row(output: &mut [f32], row: &[f32], powers: &PowerTable, start: usize, stop: usize)
-    requires { (powers.now ≡ power_table)
-        × (start ≤ stop)
-        × (stop ≤ length output.old)
-        × (stop + 2 ≤ start + length row.now) }
+    requires { (start ≤ stop) × (stop ≤ length output.old) × (stop + 2 ≤ start + length row.now) }
     ensures { output.new ≡ map_range (λ b x. softened
         (get_or row.now (b - start) nan) (get_or row.now (b - start + 1) nan)
         (get_or row.now (b - start + 2) nan)) start stop output.old }
@@ -101,9 +95,7 @@ fn soften_row(output: &mut [f32], row: &[f32], powers: &PowerTable, start: usize
 
 // Every bin but the first and the last, in rows.
 fn soften_inside(powers: &PowerTable, source: &[f32], output: &mut [f32])
-    requires { (powers.now ≡ power_table)
-        × (length source.now ≡ length output.old)
-        × (3 ≤ length source.now) }
+    requires { (length source.now ≡ length output.old) × (3 ≤ length source.now) }
     ensures { output.new ≡ map_range (λ b x. softened_at source.now b) 1
         (length source.now - 1) output.old }
 {
@@ -135,7 +127,6 @@ pub fn soften(source: &[f32], output: &mut [f32])
 
 // The fraction of the distance to the target that is covered in the seconds elapsed.
 fn blend(powers: &PowerTable, elapsed_seconds: f32) -> f32
-    requires { powers.now ≡ power_table }
     ensures { result ≡ blend_of elapsed_seconds }
 {
     let way = 1.0 - exp(powers, -elapsed_seconds / SMOOTH_MASK_TIME_SECONDS);
@@ -144,7 +135,6 @@ fn blend(powers: &PowerTable, elapsed_seconds: f32) -> f32
 
 // The gain at that fraction of the distance between two levels in decibels.
 fn nearer(powers: &PowerTable, current_db: f32, target_db: f32, blend: f32) -> f32
-    requires { powers.now ≡ power_table }
     ensures { result ≡ nearer blend current_db target_db }
 {
     gain(powers, current_db + (target_db - current_db) * blend)
@@ -160,13 +150,11 @@ fn move_row(
     start: usize,
     stop: usize,
 )
-    requires { (powers.now ≡ power_table)
-        × (start ≤ stop)
+    requires { (start ≤ stop)
         × (stop ≤ length current.old)
         × (stop ≤ start + length current_db.now)
         × (stop ≤ start + length target_db.now)
-        × ((i : ℕ) → start ≤ i → i < stop →
-        get_or current_db.now (i - start) nan ≡ decibels_of (get_or current.old i nan)) }
+        × ((i : ℕ) → start ≤ i → i < stop → get_or current_db.now (i - start) nan ≡ decibels_of (get_or current.old i nan)) }
     ensures { current.new ≡ map_range
         (λ i x. nearer blend (decibels_of x) (get_or target_db.now (i - start) nan)) start
         stop current.old }
@@ -178,7 +166,7 @@ fn move_row(
 
 // The loop over rows of bins.
 fn smooth_all(powers: &PowerTable, current: &mut [f32], target: &[f32], elapsed_seconds: f32)
-    requires { (powers.now ≡ power_table) × (length current.old ≡ length target.now) }
+    requires { length current.old ≡ length target.now }
     ensures { current.new
         ≡ smoothed_of current.old target.now elapsed_seconds }
 {

@@ -58,9 +58,7 @@ pub fn lobes_of(
     tone: Tone,
     count: usize,
 ) -> [Lobe; MAX_PARTIALS]
-    requires { (powers.now ≡ power_table)
-        × (octaves.now ≡ partial_octaves)
-        × (grid.partials ≤ max_partials)
+    requires { (grid.partials ≤ max_partials)
         × (grid.last_bin ≤ 2 ^ 24)
         × (tabled ≡ true → grid.last_bin < length table.now)
         × (count ≡ length (partials_of grid tone)) }

@@ -8,7 +8,7 @@ use lobes::grids::CENTS_PER_OCTAVE;
 use power::table::PowerTable;
 
 fn cents(powers: &PowerTable, bin_hz: f32, center: f32, bin: usize) -> f32
-    requires { (powers.now ≡ power_table) × (bin ≤ 2 ^ 24) }
+    requires { bin ≤ 2 ^ 24 }
     ensures { result ≡ cents bin_hz center bin }
 {
     let octaves = power::log2::log2(powers, bin as f32 * bin_hz / center);
@@ -17,7 +17,7 @@ fn cents(powers: &PowerTable, bin_hz: f32, center: f32, bin: usize) -> f32
 
 // Of the two bins around the centre the nearer in cents, within 1..last.
 pub fn closest_bin_in_cents(powers: &PowerTable, center: f32, bin_hz: f32, last: usize) -> usize
-    requires { (powers.now ≡ power_table) × (last ≤ 2 ^ 24) }
+    requires { last ≤ 2 ^ 24 }
     ensures { result ≡ closest_bin center bin_hz last }
 {
     let lower = lesser(greater(counts::floor_to_count(center / bin_hz), 1), last);

@@ -40,8 +40,7 @@ fn distance(
     center_log2: f32,
     bin: usize,
 ) -> f32
-    requires { (powers.now ≡ power_table)
-        × (center_log2 ≡ L2 center)
+    requires { (center_log2 ≡ L2 center)
         × (bin ≤ 2 ^ 24)
         × (tabled ≡ true → bin < length table.now) }
     ensures { result ≡ distance grid (logs_of tabled table.now) center bin }
@@ -61,9 +60,7 @@ pub fn lobe_of(
     tone: Tone,
     partial: usize,
 ) -> Lobe
-    requires { (powers.now ≡ power_table)
-        × (octaves.now ≡ partial_octaves)
-        × (grid.last_bin ≤ 2 ^ 24)
+    requires { (grid.last_bin ≤ 2 ^ 24)
         × (partial ≤ max_partials)
         × (tabled ≡ true → grid.last_bin < length table.now) }
     ensures { result ≡ lobe_of grid (logs_of tabled table.now) tone partial }

@@ -7,10 +7,10 @@ use Rattle.bin_gains.proofs.ceilings.Goals as goal
 
 pub returns-then-motion : goal.returns-then-motion
 returns-then-motion c =
-    let e : c.args.shared ≡ shared_of c.args.config = c.requires.3 in
+    let e : c.args.shared ≡ shared_of c.args.config = c.requires.1 in
     let moved = rw (c.manual_gains.ensures, e) at c.move_row.ensures in
     let left = rw e at c.motion_gains.ensures in
-    moved ∙ ceilings-moved c.args.curve.now c.args.config c.args.start c.args.count c.args.row.now c.if-motion.true c.args.field.now c.requires.5 left
+    moved ∙ ceilings-moved c.args.curve.now c.args.config c.args.start c.args.count c.args.row.now c.if-motion.true c.args.field.now c.requires.3 left
 
 pub returns-else-motion : goal.returns-else-motion
 returns-else-motion c =

@@ -13,15 +13,7 @@ pub loop-start-init : goal.loop-start-init
 loop-start-init c = (search rules, search rules, omega arith, turned_none _ _ _, turned_none _ _ _)
 
 pub ceilings-requires : goal.ceilings-requires
-ceilings-requires c = (
-  c.requires.0,
-  c.requires.1,
-  c.requires.2,
-  c.shared_of-shared.ensures,
-  omega (arith, c.lesser-count.ensures, c.loop-start.invariant.0),
-  omega (arith, c.lesser-count.ensures, c.loop-start.invariant.1),
-  omega (arith, c.lesser-count.ensures, c.requires.4, c.loop-start.invariant.2, c.loop-start.invariant.3.len),
-)
+ceilings-requires c = ()
 
 pub finish_row-requires : goal.finish_row-requires
 finish_row-requires c =
@@ -31,7 +23,7 @@ pub finish_row-requires-in-loop-start : goal.finish_row-requires-in-loop-start
 finish_row-requires-in-loop-start c = (
   c.shared_of-shared.ensures,
   omega arith,
-  omega (arith, c.lesser-count.ensures, c.requires.5, c.loop-start.invariant.3.len, c.loop-start.invariant.4.len),
+  omega (arith, c.lesser-count.ensures, c.requires.3, c.loop-start.invariant.3.len, c.loop-start.invariant.4.len),
   omega (arith, c.lesser-count.ensures, c.loop-start.invariant.0, c.ceilings.auto.row),
 )
 
@@ -53,4 +45,4 @@ pub shape_of-right : goal.shape_of-right
 shape_of-right c = c.loop-start.invariant.4.len
 
 pub returns : goal.returns
-returns c = record { left_after = turned-all c.loop-start.invariant.3 (omega (arith, c.loop-start.invariant.3.len)); right_after = turned-all c.loop-start.invariant.4 (omega (arith, c.loop-start.invariant.3.len, c.requires.5)) }
+returns c = record { left_after = turned-all c.loop-start.invariant.3 (omega (arith, c.loop-start.invariant.3.len)); right_after = turned-all c.loop-start.invariant.4 (omega (arith, c.loop-start.invariant.3.len, c.requires.3)) }

@@ -15,7 +15,7 @@ returns-then-all_centered c =
     let built = c.build_one.ensures in record { left_after = built ∙ one-mask a.curve.now a.config (lent a.table.now) left _ t; right_after = c.copy.ensures ∙ built ∙ one-mask a.curve.now a.config (lent a.table.now) right _ t }
 
 pub finish_two-requires : goal.finish_two-requires
-finish_two-requires c = (search rules, search rules, search rules, search rules, search rules, search rules)
+finish_two-requires c = (search rules, search rules, search rules, search rules)
 
 pub returns : goal.returns
 returns c = record { left_after = finished _ _ _ _ _ _ c.requires.3 c.open_sides.ensures.left_after c.finish_two.ensures.left_after; right_after = finished _ _ _ _ _ _ c.requires.4 c.open_sides.ensures.right_after c.finish_two.ensures.right_after }

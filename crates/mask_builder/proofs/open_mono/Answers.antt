@@ -15,9 +15,9 @@ open_one-requires c =
       tables = record { powers = search rules; gaussians = search rules };
       sines = search rules;
       few = rw e (grid-partials config);
-      on-grid = record { last = omega arith; inside = λ t. let l = c.requires.5 t in omega arith };
+      on-grid = record { last = omega arith; inside = λ t. let l = c.requires.3 t in omega arith };
       heard = search rules;
-      scene = λ t. rw e (c.requires.6 t);
+      scene = λ t. rw e (c.requires.4 t);
     }
 
 pub returns-then-config : goal.returns-then-config

@@ -17,7 +17,7 @@ open_two-requires c =
       few = rw e (grid-partials config);
       on-grid = record { last = omega arith; inside = λ t. omega arith };
       heard = search rules;
-      scene = λ t. rw e c.requires.7;
+      scene = λ t. rw e c.requires.5;
     }
 
 pub returns-then-config : goal.returns-then-config

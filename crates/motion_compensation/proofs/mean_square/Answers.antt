@@ -37,4 +37,4 @@ returns c =
     let e = rw (c.settled.ensures, c.octave_table-row.ensures) at c.sample_gains.ensures in
     ap (λ s. div binary32 s (of_int binary32 (pos motion_compensation_samples)))
     (sym (fold_end _ l.sum (range_none l.index motion_compensation_samples h)) ∙ l.invariant.1
-    ∙ sum_is c.args.config c.requires.2 _ e 0 motion_compensation_samples zero (omega arith))
+    ∙ sum_is c.args.config c.requires _ e 0 motion_compensation_samples zero (omega arith))

@@ -5,7 +5,7 @@ use Rattle.sine.proofs.Places.{place-below}
 use Rattle.sine.proofs.sin.Goals as goal
 
 pub wave_at-requires : goal.wave_at-requires
-wave_at-requires c = (c.requires, rw c.place_in_turn.ensures (place-below c.args.angle))
+wave_at-requires c = rw c.place_in_turn.ensures (place-below c.args.angle)
 
 pub returns : goal.returns
 unfolding sin_of

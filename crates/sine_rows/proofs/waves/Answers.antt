@@ -11,19 +11,13 @@ rooms : (s : Start) → (s.args.count ≤ length s.args.found.now) × (s.args.co
 rooms s = (s.requires.2, s.requires.3, s.requires.4)
 
 pub values-requires : goal.values-requires
-values-requires c = (
-  c.requires.0,
-  omega (arith, c.requires.3, c.steps.auto.indexes),
-  omega (arith, c.requires.4, c.steps.auto.parts),
-  index-most c.args.ahead c.args.start c.args.count c.args.row.now c.args.found.now c.args.indexes.now c.args.parts.now (rooms c.before.before.before.before.before.before.before.before.before.before.before.before.before.before.before.before) c.places.ensures c.steps.ensures.0 c.steps.ensures.1,
-  part-most c.args.ahead c.args.start c.args.count c.args.row.now c.args.found.now c.args.indexes.now c.args.parts.now (rooms c.before.before.before.before.before.before.before.before.before.before.before.before.before.before.before.before) c.places.ensures c.steps.ensures.0 c.steps.ensures.1,
-)
+values-requires c = ()
 
 pub levels-requires : goal.levels-requires
 levels-requires c = (
-  c.requires.1,
-  omega (arith, c.requires.2, c.places.auto.found),
-  omega (arith, c.requires.3, c.steps.auto.indexes, c.values.auto.indexes),
+  c.requires.0,
+  omega (arith, c.requires.1, c.places.auto.found),
+  omega (arith, c.requires.2, c.steps.auto.indexes, c.values.auto.indexes),
   value-most c.args.ahead c.args.start c.args.count c.args.row.now c.args.found.now c.args.indexes.now c.args.parts.now (rooms c.before.before.before.before.before.before.before.before.before.before.before.before.before.before.before.before.before.before.before.before) c.places.ensures c.steps.ensures.0 c.steps.ensures.1 c.values.ensures c.steps.auto.indexes,
 )
 

@@ -19,7 +19,7 @@ overflow_sub-i c = c.loop-i.invariant.0.low
 
 pub loop-i-preserved : goal.loop-i-preserved
 loop-i-preserved c =
-    let e = c.requires.5 c.loop-i.i c.loop-i.invariant.0.low c.loop-i-test.true in
+    let e = c.requires.4 c.loop-i.i c.loop-i.invariant.0.low c.loop-i-test.true in
     let aim = get_or c.args.target_db.now (c.loop-i.i - c.args.start) nan in
     (turned_more nan c.loop-i.invariant.0 (omega arith) (c.nearer.ensures ∙ ap (λ (x : Float). nearer c.args.blend x aim) e), omega arith)
 

@@ -15,16 +15,15 @@ loop-start-init c = (search rules, search rules, omega arith, turned_none _ _ _)
 
 pub decibel_row-requires : goal.decibel_row-requires
 decibel_row-requires c =
-    (c.requires.0, omega (arith, c.lesser-count.ensures, c.loop-start.invariant.0), omega (arith, c.lesser-count.ensures, c.loop-start.invariant.2, c.loop-start.invariant.3.len))
+    (omega (arith, c.lesser-count.ensures, c.loop-start.invariant.0), omega (arith, c.lesser-count.ensures, c.loop-start.invariant.2, c.loop-start.invariant.3.len))
 
 pub decibel_row-requires-in-loop-start : goal.decibel_row-requires-in-loop-start
 decibel_row-requires-in-loop-start c =
-    (c.requires.0, omega (arith, c.lesser-count.ensures, c.loop-start.invariant.1), omega (arith, c.lesser-count.ensures, c.requires.1, c.loop-start.invariant.2, c.loop-start.invariant.3.len))
+    (omega (arith, c.lesser-count.ensures, c.loop-start.invariant.1), omega (arith, c.lesser-count.ensures, c.requires, c.loop-start.invariant.2, c.loop-start.invariant.3.len))
 
 pub move_row-requires : goal.move_row-requires
 move_row-requires c =
     let room : c.lesser-count.result ≤ length c.loop-start.current_db = omega (arith, c.lesser-count.ensures, c.loop-start.invariant.0) in (
-      c.requires.0,
       omega arith,
       omega (arith, c.lesser-count.ensures, c.loop-start.invariant.2, c.loop-start.invariant.3.len),
       omega (arith, c.lesser-count.ensures, c.loop-start.invariant.0, c.decibel_row.auto.row),

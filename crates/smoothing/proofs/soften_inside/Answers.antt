@@ -21,15 +21,10 @@ overflow_add-count c = omega (arith, c.lesser-count.ensures)
 
 pub decibel_row-requires : goal.decibel_row-requires
 decibel_row-requires c =
-    (c.requires.0, omega (arith, c.lesser-count.ensures, c.loop-start.invariant.0), omega (arith, c.lesser-count.ensures, c.requires.2, c.loop-start.invariant.1, c.loop-start.invariant.2.low))
+    (omega (arith, c.lesser-count.ensures, c.loop-start.invariant.0), omega (arith, c.lesser-count.ensures, c.requires.1, c.loop-start.invariant.1, c.loop-start.invariant.2.low))
 
 pub soften_row-requires : goal.soften_row-requires
-soften_row-requires c = (
-  c.requires.0,
-  omega arith,
-  omega (arith, c.lesser-count.ensures, c.requires.1, c.requires.2, c.loop-start.invariant.1, c.loop-start.invariant.2.len),
-  omega (arith, c.lesser-count.ensures, c.loop-start.invariant.0, c.decibel_row.auto.row),
-)
+soften_row-requires c = ()
 
 pub loop-start-smaller : goal.loop-start-smaller
 loop-start-smaller c = omega (arith, c.lesser-count.ensures)

@@ -10,14 +10,14 @@ use Rattle.tone_lobes.proofs.lobes_of.Goals as goal
 
 pub loop-p-init : goal.loop-p-init
 loop-p-init c =
-    (turned_none _ _ _, omega arith, omega (arith, c.requires.2, c.requires.5, partials-few c.args.grid c.args.tone))
+    (turned_none _ _ _, omega arith, omega (arith, c.requires.0, c.requires.3, partials-few c.args.grid c.args.tone))
 
 pub overflow_add-p : goal.overflow_add-p
 overflow_add-p c = omega (arith, c.loop-p-test.true, c.loop-p.invariant.2)
 
 pub lobe_of-requires : goal.lobe_of-requires
 lobe_of-requires c =
-    (c.requires.0, c.requires.1, c.requires.3, omega (arith, c.loop-p-test.true, c.loop-p.invariant.2), c.requires.4)
+    (c.requires.1, omega (arith, c.loop-p-test.true, c.loop-p.invariant.2), c.requires.2)
 
 pub bounds-lobes-p : goal.bounds-lobes-p
 bounds-lobes-p c = omega (arith, c.loop-p-test.true, c.loop-p.invariant.2)
@@ -33,4 +33,4 @@ loop-p-preserved c =
 pub returns : goal.returns
 returns c =
     let l : length c.empty_lobes-lobes.result ≡ 24 = c.empty_lobes-lobes.ensures in
-    (lobes-taken _ _ _ _ c.loop-p.invariant.0 (omega (arith, c.loop-p-test.false, c.loop-p.invariant.1)) c.requires.5 (omega (arith, c.loop-p.invariant.2)), c.loop-p.invariant.0.len ∙ l)
+    (lobes-taken _ _ _ _ c.loop-p.invariant.0 (omega (arith, c.loop-p-test.false, c.loop-p.invariant.1)) c.requires.3 (omega (arith, c.loop-p.invariant.2)), c.loop-p.invariant.0.len ∙ l)

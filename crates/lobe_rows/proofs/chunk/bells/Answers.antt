@@ -15,20 +15,13 @@ place_at s k = place_of s.args.peak_squared (in_widths s.args.width (sub binary3
 
 pub steps-requires : goal.steps-requires
 steps-requires c = (
-  record { in-chunk = omega (arith, c.requires.1.in-chunk, c.places.auto.chunk); in-indexes = c.requires.1.in-indexes },
-  placed-in-table (place_at c.before.before.before.before.before.before.before.before.before.before) c.args.count c.args.chunk.now c.requires.1.in-chunk (λ k. in_table _ _) c.places.ensures,
+  record { in-chunk = omega (arith, c.requires.0.in-chunk, c.places.auto.chunk); in-indexes = c.requires.0.in-indexes },
+  placed-in-table (place_at c.before.before.before.before.before.before.before.before.before.before) c.args.count c.args.chunk.now c.requires.0.in-chunk (λ k. in_table _ _) c.places.ensures,
 )
 
 pub lines-requires : goal.lines-requires
-lines-requires c = (
-  c.requires.0,
-  record {
-    in-chunk = omega (arith, c.requires.1.in-chunk, c.places.auto.chunk, c.steps.auto.chunk);
-    in-indexes = omega (arith, c.requires.1.in-indexes, c.steps.auto.indexes);
-  },
-  index-most (place_at c.before.before.before.before.before.before.before.before.before.before.before.before.before.before.before.before) c.args.count c.args.chunk.now c.requires.1.in-chunk c.places.ensures c.args.indexes.now c.requires.1.in-indexes c.steps.ensures.1,
-)
+lines-requires c = ()
 
 pub returns : goal.returns
 returns c =
-    belled (place_at c.before.before.before.before.before.before.before.before.before.before.before.before.before.before.before.before.before.before.before) c.args.count c.args.chunk.now c.requires.1.in-chunk c.places.ensures c.args.indexes.now c.requires.1.in-indexes c.steps.ensures.1 c.steps.ensures.0 c.lines.ensures
+    belled (place_at c.before.before.before.before.before.before.before.before.before.before.before.before.before.before.before.before.before.before.before) c.args.count c.args.chunk.now c.requires.0.in-chunk c.places.ensures c.args.indexes.now c.requires.0.in-indexes c.steps.ensures.1 c.steps.ensures.0 c.lines.ensures

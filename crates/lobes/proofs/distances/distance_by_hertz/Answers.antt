@@ -5,7 +5,7 @@ use Rattle.lobes.specs.Distance.{distance}
 use Rattle.lobes.proofs.distances.distance_by_hertz.Goals as goal
 
 pub int_to_float-hertz : goal.int_to_float-hertz
-int_to_float-hertz c = in-float _ c.requires.1
+int_to_float-hertz c = in-float _ c.requires
 
 pub returns : goal.returns
 unfolding distance

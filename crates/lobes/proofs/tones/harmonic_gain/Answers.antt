@@ -10,4 +10,4 @@ use Rattle.lobes.proofs.tones.harmonic_gain.Goals as goal
 pub returns : goal.returns
 unfolding harmonic_gain partial_octaves
 returns c =
-    c.gain.ensures ∙ simp (c.requires.1, get_d_tabulate octaves_of 25 c.args.partial nan (omega (arith, c.requires.2)))
+    c.gain.ensures ∙ simp (c.args.octaves.now.is_partial_octaves, get_d_tabulate octaves_of 25 c.args.partial nan (omega (arith, c.requires)))

@@ -14,13 +14,13 @@ layers-requires c =
     let start = c.args.start in
     let count = c.args.count in
     let xs = c.args.row.now in (
-      c.requires.1,
+      c.requires.0,
       search rules,
       search rules,
       search rules,
       λ k h.
           joined (get_or xs (start + k) nan) size phase _ _ _
-          (wave-at (λ x. broad_angle x size phase) start count xs c.args.broad.now c.requires.2 c.layer_angles.ensures.0 c.sin_row.ensures k h)
-          (wave-at (λ x. middle_angle x size phase) start count xs c.args.middle.now c.requires.3 c.layer_angles.ensures.1 c.sin_row-2.ensures k h)
-          (wave-at (λ x. detail_angle x size phase) start count xs c.args.detail.now c.requires.4 c.layer_angles.ensures.2 c.sin_row-3.ensures k h),
+          (wave-at (λ x. broad_angle x size phase) start count xs c.args.broad.now c.requires.1 c.layer_angles.ensures.0 c.sin_row.ensures k h)
+          (wave-at (λ x. middle_angle x size phase) start count xs c.args.middle.now c.requires.2 c.layer_angles.ensures.1 c.sin_row-2.ensures k h)
+          (wave-at (λ x. detail_angle x size phase) start count xs c.args.detail.now c.requires.3 c.layer_angles.ensures.2 c.sin_row-3.ensures k h),
     )

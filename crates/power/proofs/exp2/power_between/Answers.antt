@@ -18,7 +18,7 @@ pub steps-y-requires : goal.steps-y-requires
 steps-y-requires s = (s.requires.1, s.requires.2)
 
 pub interpolate-requires : goal.interpolate-requires
-interpolate-requires c = (c.requires.0, lt_of_le_of_lt (and_le_r c.steps-y.result _) (lit< tt))
+interpolate-requires c = lt_of_le_of_lt (and_le_r c.steps-y.result _) (lit< tt)
 
 pub power_of_steps-requires : goal.power_of_steps-requires
 power_of_steps-requires c =

@@ -37,13 +37,13 @@ stepped : (c : After-step_of-h) → Step (t c.before) c.step_of-h.result
 stepped c = step_is (t c.before) c.step_of-h.result (from c.before) (below c.before) c.step_of-h.ensures
 
 pub step_of-h-requires : goal.step_of-h-requires
-step_of-h-requires c = (c.requires, from c, below c)
+step_of-h-requires c = (from c, below c)
 
 pub entry-requires : goal.entry-requires
-entry-requires c = let l = (stepped c).within in (c.requires, omega arith)
+entry-requires c = let l = (stepped c).within in omega arith
 
 pub entry-requires-2 : goal.entry-requires-2
-entry-requires-2 c = let l = (stepped c.before).within in (c.requires, omega arith)
+entry-requires-2 c = let l = (stepped c.before).within in omega arith
 
 pub log_in_step-requires : goal.log_in_step-requires
 log_in_step-requires c =

@@ -9,4 +9,4 @@ guessed : (c : After-guess-h) → Guess c.args.t c.guess-h.result
 guessed c = let p = c.requires in rw c.guess-h.ensures (guess-is c.args.t p.1 p.2)
 
 pub entry-requires : goal.entry-requires
-entry-requires c = let l = (guessed c).within in (c.requires.0, omega arith)
+entry-requires c = let l = (guessed c).within in omega arith

@@ -6,4 +6,4 @@ use lib.ListN.{get_or}
 use Rattle.power.proofs.table.entry.Goals as goal
 
 pub returns : goal.returns
-returns c = ap (λ (l : List ℕ). get_or l c.args.j 0) c.requires.0
+returns c = ap (λ (l : List ℕ). get_or l c.args.j 0) c.args.powers.now.is_power_table

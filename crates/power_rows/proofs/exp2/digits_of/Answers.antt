@@ -13,7 +13,7 @@ pub overflow_cast-y : goal.overflow_cast-y
 overflow_cast-y c = let m = mask_lt c.args.y 24 in omega arith
 
 pub interpolate-requires : goal.interpolate-requires
-interpolate-requires c = (c.requires, mask_lt c.args.y 24)
+interpolate-requires c = mask_lt c.args.y 24
 
 pub overflow_cast-result : goal.overflow_cast-result
 overflow_cast-result c = let h = interp-high P-rule (bit_and c.args.y 16777215) (mask_lt c.args.y 24) in omega (arith, c.interpolate.ensures)

@@ -12,12 +12,12 @@ rooms s = (s.requires.2, s.requires.3, s.requires.4)
 
 pub steps-requires : goal.steps-requires
 steps-requires c =
-    (omega (arith, c.requires.2, c.clip.auto.inside), c.requires.3, inside-between c.args.start c.args.count c.args.row.now c.args.inside.now c.args.found.now c.args.values.now (rooms c.before.before.before.before.before.before.before.before.before.before) c.clip.ensures)
+    (omega (arith, c.requires.1, c.clip.auto.inside), c.requires.2, inside-between c.args.start c.args.count c.args.row.now c.args.inside.now c.args.found.now c.args.values.now (rooms c.before.before.before.before.before.before.before.before.before.before) c.clip.ensures)
 
 pub finish-requires : goal.finish-requires
 finish-requires c = (
-  c.requires.1,
-  omega (arith, c.requires.3, c.steps.auto.found),
-  omega (arith, c.requires.4, c.leading.auto.values),
+  c.requires.0,
+  omega (arith, c.requires.2, c.steps.auto.found),
+  omega (arith, c.requires.3, c.leading.auto.values),
   found_at c.args.start c.args.count c.args.row.now c.args.inside.now c.args.found.now c.args.values.now (rooms c.before.before.before.before.before.before.before.before.before.before.before.before.before.before.before.before.before) c.clip.ensures c.steps.ensures c.leading.ensures,
 )

@@ -14,15 +14,15 @@ use Rattle.power_rows.proofs.log2.few_logs.Goals as goal
 
 pub take_digits-requires : goal.take_digits-requires
 take_digits-requires c =
-    let normal : (k : ℕ) → k < c.args.count → T (positive_normal (get_or c.make_ready.new.row (c.args.start + k) nan)) = λ k l. ready_at c.args.start (c.args.start + c.args.count) c.args.row.now _ c.requires.1 c.make_ready.ensures _ (omega arith) (omega arith) in
-    (c.requires.2.in-digits, omega (arith, c.requires.1, c.make_ready.auto.row), normal)
+    let normal : (k : ℕ) → k < c.args.count → T (positive_normal (get_or c.make_ready.new.row (c.args.start + k) nan)) = λ k l. ready_at c.args.start (c.args.start + c.args.count) c.args.row.now _ c.requires.0 c.make_ready.ensures _ (omega arith) (omega arith) in
+    (c.requires.1.in-digits, omega (arith, c.requires.0, c.make_ready.auto.row), normal)
 
 pub find_steps-requires : goal.find_steps-requires
 find_steps-requires c =
-    let normal : (k : ℕ) → k < c.args.count → T (positive_normal (get_or c.make_ready.new.row (c.args.start + k) nan)) = λ k l. ready_at c.args.start (c.args.start + c.args.count) c.args.row.now _ c.requires.1 c.make_ready.ensures _ (omega arith) (omega arith) in
+    let normal : (k : ℕ) → k < c.args.count → T (positive_normal (get_or c.make_ready.new.row (c.args.start + k) nan)) = λ k l. ready_at c.args.start (c.args.start + c.args.count) c.args.row.now _ c.requires.0 c.make_ready.ensures _ (omega arith) (omega arith) in
     let a = c.args in
-    let room = c.requires.2 in (
-      c.requires.0,
+    let room = c.requires.1 in (
+      c.args.powers.now.is_power_table,
       record {
         in-digits = omega (arith, room.in-digits, c.take_digits.auto.digits);
         in-steps = room.in-steps;
@@ -34,10 +34,10 @@ find_steps-requires c =
 
 pub take_logs-requires : goal.take_logs-requires
 take_logs-requires c =
-    let normal : (k : ℕ) → k < c.args.count → T (positive_normal (get_or c.make_ready.new.row (c.args.start + k) nan)) = λ k l. ready_at c.args.start (c.args.start + c.args.count) c.args.row.now _ c.requires.1 c.make_ready.ensures _ (omega arith) (omega arith) in
+    let normal : (k : ℕ) → k < c.args.count → T (positive_normal (get_or c.make_ready.new.row (c.args.start + k) nan)) = λ k l. ready_at c.args.start (c.args.start + c.args.count) c.args.row.now _ c.requires.0 c.make_ready.ensures _ (omega arith) (omega arith) in
     let a = c.args in
-    let room = c.requires.2 in (
-      omega (arith, c.requires.1, c.make_ready.auto.row),
+    let room = c.requires.1 in (
+      omega (arith, c.requires.0, c.make_ready.auto.row),
       record {
         in-digits = omega (arith, room.in-digits, c.take_digits.auto.digits);
         in-steps = omega (arith, room.in-steps, c.find_steps.auto.steps);

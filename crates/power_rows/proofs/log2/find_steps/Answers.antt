@@ -25,27 +25,27 @@ found digits k h w = step_is (get_or digits k 0) h w.0.low w.0.high w.1
 
 pub step_of-h-requires : goal.step_of-h-requires
 step_of-h-requires c =
-    let w = c.requires.2 c.loop-k.k c.loop-k-test.true in (c.requires.0, w.low, w.high)
+    let w = c.requires.1 c.loop-k.k c.loop-k-test.true in (c.args.powers.now.is_power_table, w.low, w.high)
 
 pub entry-a-requires : goal.entry-a-requires
 entry-a-requires c =
-    let w = c.requires.2 c.loop-k.k c.loop-k-test.true in
+    let w = c.requires.1 c.loop-k.k c.loop-k-test.true in
     let l = (found c.args.digits.now c.loop-k.k c.step_of-h.result (w, c.step_of-h.ensures)).within in
-    (c.requires.0, omega arith)
+    (c.args.powers.now.is_power_table, omega arith)
 
 pub entry-b-requires : goal.entry-b-requires
 entry-b-requires c =
-    let w = c.requires.2 c.loop-k.k c.loop-k-test.true in
+    let w = c.requires.1 c.loop-k.k c.loop-k-test.true in
     let l = (found c.args.digits.now c.loop-k.k c.step_of-h.result (w, c.step_of-h.ensures)).within in
-    (c.requires.0, omega arith)
+    (c.args.powers.now.is_power_table, omega arith)
 
 pub loop-k-preserved : goal.loop-k-preserved
 loop-k-preserved c =
     let v = c.loop-k.invariant in (
       omega arith,
-      turned_more 0 v.1 (omega (arith, c.requires.1.in-steps)) c.step_of-h.ensures,
-      turned_more 0 v.2 (omega (arith, c.requires.1.in-from)) (c.entry-a.ensures ∙ ap P c.step_of-h.ensures),
-      turned_more 0 v.3 (omega (arith, c.requires.1.in-to)) (c.entry-b.ensures ∙ ap (λ (h : ℕ). P (h + 1)) c.step_of-h.ensures),
+      turned_more 0 v.1 (omega (arith, c.requires.0.in-steps)) c.step_of-h.ensures,
+      turned_more 0 v.2 (omega (arith, c.requires.0.in-from)) (c.entry-a.ensures ∙ ap P c.step_of-h.ensures),
+      turned_more 0 v.3 (omega (arith, c.requires.0.in-to)) (c.entry-b.ensures ∙ ap (λ (h : ℕ). P (h + 1)) c.step_of-h.ensures),
     )
 
 pub shape_of-steps : goal.shape_of-steps

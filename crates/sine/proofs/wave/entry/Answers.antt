@@ -12,8 +12,8 @@ use Rattle.sine.proofs.wave.entry.Goals as goal
 pub overflow_cast-result : goal.overflow_cast-result
 overflow_cast-result c =
     record {
-      fits = subst (λ (l : List ℕ). get_or l c.args.j 0 < 18446744073709551616) (sym c.requires.0) (lt_of_le_of_lt (R-small c.args.j c.requires.1) (lit< tt));
+      fits = subst (λ (l : List ℕ). get_or l c.args.j 0 < 18446744073709551616) (sym c.args.sines.now.is_sine_table) (lt_of_le_of_lt (R-small c.args.j c.requires) (lit< tt));
     }
 
 pub returns : goal.returns
-returns c = ap (λ (l : List ℕ). get_or l c.args.j 0) c.requires.0
+returns c = ap (λ (l : List ℕ). get_or l c.args.j 0) c.args.sines.now.is_sine_table

@@ -11,7 +11,7 @@ use Rattle.sine.proofs.wave.interpolated.Goals.{After-entry-b}
 use Rattle.sine.proofs.wave.interpolated.Goals as goal
 
 pub returns-then-h-gt255 : goal.returns-then-h-gt255
-returns-then-h-gt255 c = at-end c.args.p c.requires.1 (omega arith)
+returns-then-h-gt255 c = at-end c.args.p c.requires (omega arith)
 
 module _ (c : After-entry-b) where
   abbrev p : ℕ

@@ -11,7 +11,7 @@ use Rattle.sine.proofs.wave.wave_at.Goals.{After-interpolated}
 use Rattle.sine.proofs.wave.wave_at.Goals as goal
 
 pub interpolated-requires : goal.interpolated-requires
-interpolated-requires c = (c.requires.0, subst (λ (z : ℕ). z ≤ 4194304) (sym c.turned_place.ensures) (turned_le c.args.place))
+interpolated-requires c = subst (λ (z : ℕ). z ≤ 4194304) (sym c.turned_place.ensures) (turned_le c.args.place)
 
 abbrev u : After-interpolated → ℕ
 u r = r.args.place

@@ -5,7 +5,7 @@ use Rattle.lobes.specs.Peak.{cents}
 use Rattle.tone_lobes.proofs.peaks.cents.Goals as goal
 
 pub int_to_float-bin : goal.int_to_float-bin
-int_to_float-bin c = in-float _ c.requires.1
+int_to_float-bin c = in-float _ c.requires
 
 pub returns : goal.returns
 unfolding cents

@@ -5,11 +5,11 @@ use Rattle.lobes.specs.Distance.{distance}
 use Rattle.tone_lobes.proofs.reach.distance.Goals as goal
 
 pub distance_by_table-requires : goal.distance_by_table-requires
-distance_by_table-requires c = c.requires.3 c.if-tabled.true
+distance_by_table-requires c = c.requires.2 c.if-tabled.true
 
 pub returns-then-tabled : goal.returns-then-tabled
 unfolding distance
-returns-then-tabled c = simp c.if-tabled.true (c.distance_by_table.ensures ∙ simp c.requires.1)
+returns-then-tabled c = simp c.if-tabled.true (c.distance_by_table.ensures ∙ simp c.requires.0)
 
 pub returns : goal.returns
 returns c = simp c.if-tabled.false c.distance_by_hertz.ensures

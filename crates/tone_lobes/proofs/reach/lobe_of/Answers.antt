@@ -10,7 +10,7 @@ use Rattle.tone_lobes.proofs.reach.lobe_of.Goals as goal
 pub distance-peak-requires : goal.distance-peak-requires
 distance-peak-requires c =
     let le = subst (λ (bin : ℕ). bin ≤ c.args.grid.last_bin) (sym c.closest_bin_in_cents-peak_bin.ensures) (closest-le _ _ _) in
-    (c.requires.0, c.log2-center_log2.ensures, le_trans le c.requires.2, λ lent. lt_of_le_of_lt le (c.requires.4 lent))
+    (c.log2-center_log2.ensures, le_trans le c.requires.0, λ lent. lt_of_le_of_lt le (c.requires.2 lent))
 
 pub returns : goal.returns
 unfolding lobe_of
