@@ -73,10 +73,6 @@ raise_above-least-requires c =
       },
     )
 
-pub overflow_add-p : goal.overflow_add-p
-overflow_add-p c =
-    omega (arith, c.loop-p-test.true, c.requires.0.few)
-
 pub loop-p-preserved : goal.loop-p-preserved
 loop-p-preserved c =
     let l = c.loop-p in (

@@ -15,9 +15,6 @@ offset_bounds-table-bin c = omega arith
 pub bounds-table-bin : goal.bounds-table-bin
 bounds-table-bin c = omega arith
 
-pub overflow_add-bin : goal.overflow_add-bin
-overflow_add-bin c = omega arith
-
 pub loop-bin-preserved : goal.loop-bin-preserved
 loop-bin-preserved c = (turned_more nan c.loop-bin.invariant.0 (omega arith) c.hertz.ensures, omega arith)
 

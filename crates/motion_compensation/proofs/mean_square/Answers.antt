@@ -17,9 +17,6 @@ use Rattle.motion_compensation.proofs.mean_square.Goals as goal
 pub loop-index-init : goal.loop-index-init
 loop-index-init c = (omega arith, refl)
 
-pub overflow_add-index : goal.overflow_add-index
-overflow_add-index c = omega arith
-
 pub loop-index-preserved : goal.loop-index-preserved
 loop-index-preserved c =
     let l = c.loop-index in

@@ -22,9 +22,6 @@ lobe_of-requires c =
 pub bounds-lobes-p : goal.bounds-lobes-p
 bounds-lobes-p c = omega (arith, c.loop-p-test.true, c.loop-p.invariant.2)
 
-pub overflow_add-p-in-loop-p : goal.overflow_add-p-in-loop-p
-overflow_add-p-in-loop-p c = omega (arith, c.loop-p-test.true, c.loop-p.invariant.2)
-
 pub loop-p-preserved : goal.loop-p-preserved
 loop-p-preserved c =
     let l : length c.empty_lobes-lobes.result ≡ 24 = c.empty_lobes-lobes.ensures in

@@ -35,9 +35,6 @@ offset_bounds-peaks-p c = omega (arith, c.loop-p-test.true, c.requires.0)
 pub bounds-peaks-p : goal.bounds-peaks-p
 bounds-peaks-p c = omega (arith, c.loop-p-test.true, c.requires.1.peaks-long, c.loop-p.invariant.4.len)
 
-pub overflow_add-p : goal.overflow_add-p
-overflow_add-p c = omega (arith, c.loop-p-test.true, c.requires.0)
-
 pub loop-p-preserved : goal.loop-p-preserved
 loop-p-preserved c =
     let l = c.loop-p in (

@@ -42,10 +42,6 @@ pub overflow_add-cost : goal.overflow_add-cost
 overflow_add-cost c =
     omega (arith, c.bins_between-cost.ensures, c.loop-p.invariant.3, c.loop-p-test.true, c.requires.0)
 
-pub overflow_add-p : goal.overflow_add-p
-overflow_add-p c =
-    omega (arith, c.loop-p-test.true, c.requires.0)
-
 pub loop-p-preserved : goal.loop-p-preserved
 loop-p-preserved c =
     let l = c.loop-p in (
