@@ -4,7 +4,7 @@ ghost use Rattle.float32.specs.Value.{moved};
 ghost use Rattle.power.specs.Table.{low_bits, power_table, P, I};
 ghost use Rattle.power.specs.Power.{lowest, limit, power_at, E2};
 
-use crate::table::{PowerTable, interpolate};
+use crate::table::{PowerEntries, interpolate};
 use fixed_point::{LEAST, far_steps, near_steps};
 use float32::order::{abs, in_range};
 
@@ -47,7 +47,7 @@ pub fn power_of_steps(y: u64, i: u64) -> f32
 }
 
 // 2^x for an x between the ends.
-fn power_between(powers: &PowerTable, x: f32) -> f32
+fn power_between<E: PowerEntries>(powers: &E, x: f32) -> f32
     requires { T (le lowest x) × T (lt x limit) }
     ensures { result ≡ E2 x }
 {
@@ -65,7 +65,7 @@ fn power_between(powers: &PowerTable, x: f32) -> f32
 // one number without the table.
 // Error, measured over the floats from -126 to 128: from -1.6e-7 to 5.7e-8 of 2^x. The line lies
 // above the curve, and rounding down lowers it.
-pub fn exp2(powers: &PowerTable, x: f32) -> f32
+pub fn exp2<E: PowerEntries>(powers: &E, x: f32) -> f32
     ensures { result ≡ E2 x }
 {
     if in_range(x, LOWEST, HIGHEST) {

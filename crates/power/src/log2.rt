@@ -4,7 +4,7 @@ ghost use Rattle.power.specs.Log.{greatest, positive_normal, L2};
 ghost use Rattle.power.specs.Stages.{digits_of, guess_of, EndsAt};
 
 use crate::exp2::LARGEST;
-use crate::table::{LOW_BITS, LOW_MASK, PowerTable, entry};
+use crate::table::{LOW_BITS, LOW_MASK, PowerEntries};
 
 pub const LEAST_NORMAL: f32 = 1.1754944e-38;
 
@@ -55,12 +55,12 @@ pub fn step_from(h: u32, next: u32, t: u32) -> u32
 }
 
 // The same, from the table.
-pub fn step_of(powers: &PowerTable, t: u32) -> u32
+pub fn step_of<E: PowerEntries>(powers: &E, t: u32) -> u32
     requires { (2 ^ 30 ≤ t) × (t < 2 ^ 31) }
     ensures { result ≡ greatest P t (2 ^ high_bits) }
 {
     let h = guess(t) as usize;
-    step_from(h as u32, entry(powers, h + 1), t)
+    step_from(h as u32, powers.entry(h + 1), t)
 }
 
 // ((x << LOW_BITS) - 1) / d, by one f64 division: one less than x / d in steps of 2^-LOW_BITS,
@@ -106,7 +106,7 @@ pub fn log_in_step(v: f32, t: u32, h: u32, a: u32, b: u32) -> f32
 // number without the table.
 // Error, measured over every mantissa: F / 2^24 is at most 1.4e-7 below and 2.1e-9 above the
 // fraction of log2(v), to which the rounding adds up to half a unit of the last place.
-pub fn log2(powers: &PowerTable, v: f32) -> f32
+pub fn log2<E: PowerEntries>(powers: &E, v: f32) -> f32
     ensures { result ≡ L2 v }
 {
     if !(LEAST_NORMAL <= v) {
@@ -117,11 +117,7 @@ pub fn log2(powers: &PowerTable, v: f32) -> f32
     }
     let t = digits(v);
     let h = step_of(powers, t);
-    log_in_step(
-        v,
-        t,
-        h,
-        entry(powers, h as usize),
-        entry(powers, h as usize + 1),
-    )
+    let a = powers.entry(h as usize);
+    let b = powers.entry(h as usize + 1);
+    log_in_step(v, t, h, a, b)
 }

@@ -25,20 +25,19 @@ pub fn power_table() -> PowerTable
     PowerTable { entries: POWERS }
 }
 
-// P[j]
-pub fn entry(powers: &PowerTable, j: usize) -> u32
-    requires { j ≤ 2 ^ high_bits }
-    ensures { result ≡ P j }
-{
-    powers.entries[j]
+// Where a power or a logarithm reads P: the table itself, or its entries one by one, for a caller of
+// a single number (single_power).
+pub trait PowerEntries {
+    // P[j]
+    fn entry(&self, j: usize) -> u32
+        requires { j ≤ 2 ^ high_bits }
+        ensures { result ≡ P j };
 }
 
-// P[j] as a u64, so that a product fits.
-pub(crate) fn power(powers: &PowerTable, j: usize) -> u64
-    requires { j ≤ 2 ^ high_bits }
-    ensures { result ≡ P j }
-{
-    entry(powers, j) as u64
+impl PowerEntries for PowerTable {
+    fn entry(&self, j: usize) -> u32 {
+        self.entries[j]
+    }
 }
 
 // I(F) from the two entries around it, P[h] and P[h + 1] where h is F's high bits: linear
@@ -51,12 +50,12 @@ pub fn between(a: u64, b: u64, f: u64) -> u64
 }
 
 // I(F), from the table.
-pub fn interpolate(powers: &PowerTable, f: u64) -> u64
+pub fn interpolate<E: PowerEntries>(powers: &E, f: u64) -> u64
     requires { f < 2 ^ 24 }
     ensures { result ≡ I f }
 {
     let h = (f >> LOW_BITS) as usize;
-    between(power(powers, h), power(powers, h + 1), f)
+    between(powers.entry(h) as u64, powers.entry(h + 1) as u64, f)
 }
 
 const POWERS: [u32; (1 << HIGH_BITS) + 1] = [

@@ -4,6 +4,6 @@ use mathlib.Core.Path.{refl}
 use Rattle.gaussian.specs.Table.{gaussian_table, gaussian_bits}
 use Rattle.gaussian.proofs.gaussian_table.Goals as goal
 
-pub returns : goal.returns
+pub invariant_of-result : goal.invariant_of-result
 unfolding gaussian_table gaussian_bits
-returns c = refl
+invariant_of-result c = record { is_gaussian_table = refl }

@@ -61,7 +61,7 @@ bounds-highs-block c =
 
 pub bounds_of-requires : goal.bounds_of-requires
 bounds_of-requires c =
-    (c.requires.0.gaussians, omega (arith, c.loop-block.invariant.3, c.requires.0.few), c.requires.2.columns.room.centers-long, c.requires.2.columns.room.strengths-long, c.requires.2.columns.room.peaks-long)
+    (omega (arith, c.loop-block.invariant.3, c.requires.0.few), c.requires.2.columns.room.centers-long, c.requires.2.columns.room.strengths-long, c.requires.2.columns.room.peaks-long)
 
 -- the ends of a block's row
 row_ends : (block last n end : ℕ) → block * 64 < last → last < n → end ≡ min (1 + block * 64 + 64) n → (1 + block * 64 ≤ end) × (end ≤ 1 + block * 64 + 64) × (end ≤ n) × (end ≤ 65 + 64 * block)

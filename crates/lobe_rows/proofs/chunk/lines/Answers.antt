@@ -14,7 +14,7 @@ loop-k-init c = (turned_none _ _ _, omega arith)
 
 pub line-requires : goal.line-requires
 line-requires c =
-    (c.args.gaussians.now.is_gaussian_table, c.requires.1 c.loop-k.k c.loop-k-test.true)
+    c.requires.1 c.loop-k.k c.loop-k-test.true
 
 pub loop-k-preserved : goal.loop-k-preserved
 loop-k-preserved c = (turned-next nan c.loop-k.invariant.0 (omega arith) c.line.ensures, omega arith)

@@ -2,5 +2,5 @@
 use Rattle.lobes.proofs.Logged.{octaves-listed}
 use Rattle.lobes.proofs.octaves.partial_octaves.Goals as goal
 
-pub returns : goal.returns
-returns c = octaves-listed
+pub invariant_of-result : goal.invariant_of-result
+invariant_of-result c = record { is_partial_octaves = octaves-listed }

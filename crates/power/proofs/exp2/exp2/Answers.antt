@@ -8,46 +8,47 @@ use Rattle.float32.specs.Order.{within}
 use Rattle.power.specs.Power.{lowest, limit}
 use Rattle.power.proofs.InSteps.{highest, near-from, near-under, not-from, not-under}
 use Rattle.power.proofs.exp2.exp2.Goals.{Start, Then-in_range}
+use Rattle.power.proofs.exp2.exp2.Given.{Over}
 use Rattle.power.proofs.exp2.exp2.Goals as goal
 
-held : (c : Start) → T (fits binary32 c.args.x)
-held c = subst T (sym c.well_formed.1.0.1) tt
+held : (g : Over) (c : Start g) → T (fits binary32 c.args.x)
+held g c = subst T (sym c.well_formed.1.0.1) tt
 
 passed : (b : Bool) → not b ≡ false → T b
 passed true e = tt
 passed false e = absurd (true≢false e)
 
-ranged : (c : Then-in_range) → T (within lowest highest c.args.x)
+ranged : (g : Over) (c : Then-in_range g) → T (within lowest highest c.args.x)
 unfolding of_bits
-ranged c = subst T (sym (sym c.in_range.ensures ∙ c.if-in_range.true)) tt
+ranged g c = subst T (sym (sym c.in_range.ensures ∙ c.if-in_range.true)) tt
 
 pub power_between-requires : goal.power_between-requires
-power_between-requires c =
+power_between-requires g c =
     let s = c.before.before in
     let x = s.args.x in
-    (s.requires, near-from x (held s) (ranged c), near-under x (held s) (ranged c))
+    (near-from x (held g s) (ranged g c), near-under x (held g s) (ranged g c))
 
 pub returns-then-in_range : goal.returns-then-in_range
-returns-then-in_range c = c.power_between.ensures
+returns-then-in_range g c = c.power_between.ensures
 
 pub returns-then-not-x : goal.returns-then-not-x
 unfolding of_bits
-returns-then-not-x c =
+returns-then-not-x g c =
     let s = c.before.before.before in
-    not-from s.args.x (held s) (subst T (sym c.if-not-x.true-raw) tt)
+    not-from s.args.x (held g s) (subst T (sym c.if-not-x.true-raw) tt)
 
 pub returns-then-not-x-2 : goal.returns-then-not-x-2
 unfolding of_bits
-returns-then-not-x-2 c =
+returns-then-not-x-2 g c =
     let s = c.before.before.before.before in
-    not-under s.args.x (held s) (passed (le lowest s.args.x) c.if-not-x.false-raw) (subst T (sym c.if-not-x-2.true-raw) tt)
+    not-under s.args.x (held g s) (passed (le lowest s.args.x) c.if-not-x.false-raw) (subst T (sym c.if-not-x-2.true-raw) tt)
 
 pub power_between-requires-2 : goal.power_between-requires-2
 unfolding of_bits
-power_between-requires-2 c =
+power_between-requires-2 g c =
     let s = c.before.before.before.before in
     let x = s.args.x in
-    (s.requires, passed (le lowest x) c.if-not-x.false-raw, passed (lt x limit) c.if-not-x-2.false-raw)
+    (passed (le lowest x) c.if-not-x.false-raw, passed (lt x limit) c.if-not-x-2.false-raw)
 
 pub returns : goal.returns
-returns c = c.power_between-2.ensures
+returns g c = c.power_between-2.ensures

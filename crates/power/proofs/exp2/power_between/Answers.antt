@@ -7,23 +7,24 @@ use lib.Dec.{T, lit<}
 use Rattle.power.specs.Table.{I}
 use Rattle.power.proofs.InSteps.{InSteps, in-steps}
 use Rattle.power.proofs.exp2.power_between.Goals.{After-steps-y}
+use Rattle.power.proofs.exp2.power_between.Given.{Over}
 use Rattle.power.proofs.exp2.power_between.Goals as goal
 
-found : (c : After-steps-y) → InSteps c.args.x c.steps-y.result
-found c =
+found : (g : Over) (c : After-steps-y g) → InSteps c.args.x c.steps-y.result
+found g c =
     let s = c.before in
-    in-steps s.args.x c.steps-y.result (subst T (sym s.well_formed.1.0.1) tt) s.requires.1 s.requires.2 c.steps-y.ensures
+    in-steps s.args.x c.steps-y.result (subst T (sym s.well_formed.1.0.1) tt) s.requires.0 s.requires.1 c.steps-y.ensures
 
 pub steps-y-requires : goal.steps-y-requires
-steps-y-requires s = (s.requires.1, s.requires.2)
+steps-y-requires g s = s.requires
 
 pub interpolate-requires : goal.interpolate-requires
-interpolate-requires c = lt_of_le_of_lt (and_le_r c.steps-y.result _) (lit< tt)
+interpolate-requires g c = lt_of_le_of_lt (and_le_r c.steps-y.result _) (lit< tt)
 
 pub power_of_steps-requires : goal.power_of_steps-requires
-power_of_steps-requires c =
-    let f = found c.before in
+power_of_steps-requires g c =
+    let f = found g c.before in
     (f.from, f.below, c.interpolate.ensures ∙ ap I (and_mask c.steps-y.result 24))
 
 pub returns : goal.returns
-returns c = (found c.before.before).power c.power_of_steps.ensures
+returns g c = (found g c.before.before).power c.power_of_steps.ensures

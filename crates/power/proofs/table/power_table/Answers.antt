@@ -4,6 +4,6 @@ use mathlib.Core.Path.{refl}
 use Rattle.power.specs.Table.{power_table}
 use Rattle.power.proofs.table.power_table.Goals as goal
 
-pub returns : goal.returns
+pub invariant_of-result : goal.invariant_of-result
 unfolding power_table
-returns c = refl
+invariant_of-result c = record { is_power_table = refl }

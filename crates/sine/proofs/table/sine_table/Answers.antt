@@ -3,6 +3,6 @@ use mathlib.Core.Path.{refl}
 use Rattle.sine.specs.Table.{sine_table}
 use Rattle.sine.proofs.table.sine_table.Goals as goal
 
-pub returns : goal.returns
+pub invariant_of-result : goal.invariant_of-result
 unfolding sine_table
-returns c = refl
+invariant_of-result c = record { is_sine_table = refl }
