@@ -19,7 +19,7 @@ use counts::lesser;
 use float32::constants::LOG10_2;
 use power::exp2::LARGEST;
 use power::log2::{LEAST_NORMAL, log_in_step, step_of};
-use power::table::{PowerTable, entry};
+use power::table::{PowerEntries, PowerTable};
 
 // How many numbers are computed together.
 const ROW: usize = 64;
@@ -79,8 +79,8 @@ fn find_steps(
 {
     for k in 0..count {
         let h = step_of(powers, digits[k]);
-        let a = entry(powers, h as usize);
-        let b = entry(powers, h as usize + 1);
+        let a = powers.entry(h as usize);
+        let b = powers.entry(h as usize + 1);
         steps[k] = h;
         from[k] = a;
         to[k] = b;

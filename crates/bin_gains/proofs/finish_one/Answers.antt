@@ -13,7 +13,13 @@ pub loop-start-init : goal.loop-start-init
 loop-start-init c = (search rules, search rules, omega arith, turned_none _ _ _)
 
 pub ceilings-requires : goal.ceilings-requires
-ceilings-requires c = ()
+ceilings-requires c = (
+  c.requires.0,
+  c.shared_of-shared.ensures,
+  omega (arith, c.lesser-count.ensures, c.loop-start.invariant.0),
+  omega (arith, c.lesser-count.ensures, c.loop-start.invariant.1),
+  omega (arith, c.lesser-count.ensures, c.requires.2, c.loop-start.invariant.2, c.loop-start.invariant.3.len),
+)
 
 pub finish_row-requires : goal.finish_row-requires
 finish_row-requires c =

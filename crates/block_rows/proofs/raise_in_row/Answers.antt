@@ -8,7 +8,13 @@ overflow_add-lobe c =
     omega (arith, c.requires.0.sound.last, c.requires.1.last)
 
 pub openings_by_table-requires : goal.openings_by_table-requires
-openings_by_table-requires c = ()
+openings_by_table-requires c = (
+  record {
+    in-chunk = omega (arith, c.lesser-to.ensures, c.greater-from.ensures, c.requires.0.scratch.chunk-64, c.requires.1.most);
+    in-indexes = omega (arith, c.lesser-to.ensures, c.greater-from.ensures, c.requires.0.scratch.indexes-64, c.requires.1.most);
+  },
+  record { log-of-center = c.requires.0.sound.log-of-center; inside = omega (arith, c.lesser-to.ensures, c.requires.1.inside) },
+)
 
 pub overflow_sub-from : goal.overflow_sub-from
 overflow_sub-from c =

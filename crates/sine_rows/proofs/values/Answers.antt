@@ -13,7 +13,10 @@ pub loop-k-init : goal.loop-k-init
 loop-k-init c = (turned_none _ _ _, omega arith)
 
 pub value_at-requires : goal.value_at-requires
-value_at-requires c = ()
+value_at-requires c = (
+  subst (λ (z : ℕ). z < 256) (sym (turned-read 0 c.loop-k.invariant.0 (omega (arith, c.requires.0)))) (c.requires.2 c.loop-k.k c.loop-k-test.true),
+  c.requires.3 c.loop-k.k c.loop-k-test.true,
+)
 
 pub loop-k-preserved : goal.loop-k-preserved
 loop-k-preserved c = (turned-held 0 c.loop-k.invariant.0 (omega arith) c.value_at.ensures, omega arith)

@@ -8,10 +8,15 @@ use Rattle.sine_rows.proofs.waves.Goals as goal
 
 -- the lent buffers have room
 rooms : (s : Start) → (s.args.count ≤ length s.args.found.now) × (s.args.count ≤ length s.args.indexes.now) × (s.args.count ≤ length s.args.parts.now)
-rooms s = (s.requires.2, s.requires.3, s.requires.4)
+rooms s = (s.requires.1, s.requires.2, s.requires.3)
 
 pub values-requires : goal.values-requires
-values-requires c = ()
+values-requires c = (
+  omega (arith, c.requires.2, c.steps.auto.indexes),
+  omega (arith, c.requires.3, c.steps.auto.parts),
+  index-most c.args.ahead c.args.start c.args.count c.args.row.now c.args.found.now c.args.indexes.now c.args.parts.now (rooms c.before.before.before.before.before.before.before.before.before.before.before.before.before.before.before.before) c.places.ensures c.steps.ensures.0 c.steps.ensures.1,
+  part-most c.args.ahead c.args.start c.args.count c.args.row.now c.args.found.now c.args.indexes.now c.args.parts.now (rooms c.before.before.before.before.before.before.before.before.before.before.before.before.before.before.before.before) c.places.ensures c.steps.ensures.0 c.steps.ensures.1,
+)
 
 pub levels-requires : goal.levels-requires
 levels-requires c = (

@@ -24,7 +24,11 @@ decibel_row-requires c =
     (omega (arith, c.lesser-count.ensures, c.loop-start.invariant.0), omega (arith, c.lesser-count.ensures, c.requires.1, c.loop-start.invariant.1, c.loop-start.invariant.2.low))
 
 pub soften_row-requires : goal.soften_row-requires
-soften_row-requires c = ()
+soften_row-requires c = (
+  omega arith,
+  omega (arith, c.lesser-count.ensures, c.requires.0, c.requires.1, c.loop-start.invariant.1, c.loop-start.invariant.2.len),
+  omega (arith, c.lesser-count.ensures, c.loop-start.invariant.0, c.decibel_row.auto.row),
+)
 
 pub loop-start-smaller : goal.loop-start-smaller
 loop-start-smaller c = omega (arith, c.lesser-count.ensures)

@@ -20,7 +20,13 @@ steps-requires c = (
 )
 
 pub lines-requires : goal.lines-requires
-lines-requires c = ()
+lines-requires c = (
+  record {
+    in-chunk = omega (arith, c.requires.0.in-chunk, c.places.auto.chunk, c.steps.auto.chunk);
+    in-indexes = omega (arith, c.requires.0.in-indexes, c.steps.auto.indexes);
+  },
+  index-most (place_at c.before.before.before.before.before.before.before.before.before.before.before.before.before.before.before.before) c.args.count c.args.chunk.now c.requires.0.in-chunk c.places.ensures c.args.indexes.now c.requires.0.in-indexes c.steps.ensures.1,
+)
 
 pub returns : goal.returns
 returns c =

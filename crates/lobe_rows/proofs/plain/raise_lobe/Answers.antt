@@ -14,7 +14,17 @@ pub loop-start-init : goal.loop-start-init
 loop-start-init c = (refl, refl, inr refl, turned_none _ _ _, turned_none _ _ _)
 
 pub openings-requires : goal.openings-requires
-openings-requires c = ()
+openings-requires c = (
+  record {
+    in-chunk = omega (arith, c.lesser-count.ensures);
+    in-indexes = omega (arith, c.lesser-count.ensures, c.requires.1.chunk-64, c.requires.1.indexes-64, c.loop-start.invariant.0, c.loop-start.invariant.1);
+  },
+  record {
+    log-of-center = c.requires.2.log-of-center;
+    last = omega (arith, c.lesser-count.ensures, c.requires.2.last);
+    inside = λ e. omega (arith, c.lesser-count.ensures, c.requires.2.inside e);
+  },
+)
 
 pub loop-start-smaller : goal.loop-start-smaller
 loop-start-smaller c =

@@ -8,7 +8,7 @@ use Rattle.power_rows.proofs.exp2.few_powers.Goals as goal
 
 -- the lent buffers have room
 rooms : (s : Start) → (s.args.count ≤ length s.args.inside.now) × (s.args.count ≤ length s.args.found.now) × (s.args.count ≤ length s.args.values.now)
-rooms s = (s.requires.2, s.requires.3, s.requires.4)
+rooms s = (s.requires.1, s.requires.2, s.requires.3)
 
 pub steps-requires : goal.steps-requires
 steps-requires c =

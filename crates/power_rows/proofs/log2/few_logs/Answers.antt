@@ -22,7 +22,6 @@ find_steps-requires c =
     let normal : (k : ℕ) → k < c.args.count → T (positive_normal (get_or c.make_ready.new.row (c.args.start + k) nan)) = λ k l. ready_at c.args.start (c.args.start + c.args.count) c.args.row.now _ c.requires.0 c.make_ready.ensures _ (omega arith) (omega arith) in
     let a = c.args in
     let room = c.requires.1 in (
-      c.args.powers.now.is_power_table,
       record {
         in-digits = omega (arith, room.in-digits, c.take_digits.auto.digits);
         in-steps = room.in-steps;

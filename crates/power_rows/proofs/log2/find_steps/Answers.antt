@@ -25,19 +25,19 @@ found digits k h w = step_is (get_or digits k 0) h w.0.low w.0.high w.1
 
 pub step_of-h-requires : goal.step_of-h-requires
 step_of-h-requires c =
-    let w = c.requires.1 c.loop-k.k c.loop-k-test.true in (c.args.powers.now.is_power_table, w.low, w.high)
+    let w = c.requires.1 c.loop-k.k c.loop-k-test.true in (w.low, w.high)
 
 pub entry-a-requires : goal.entry-a-requires
 entry-a-requires c =
     let w = c.requires.1 c.loop-k.k c.loop-k-test.true in
     let l = (found c.args.digits.now c.loop-k.k c.step_of-h.result (w, c.step_of-h.ensures)).within in
-    (c.args.powers.now.is_power_table, omega arith)
+    omega arith
 
 pub entry-b-requires : goal.entry-b-requires
 entry-b-requires c =
     let w = c.requires.1 c.loop-k.k c.loop-k-test.true in
     let l = (found c.args.digits.now c.loop-k.k c.step_of-h.result (w, c.step_of-h.ensures)).within in
-    (c.args.powers.now.is_power_table, omega arith)
+    omega arith
 
 pub loop-k-preserved : goal.loop-k-preserved
 loop-k-preserved c =
