@@ -19,7 +19,7 @@ bounds-lobes-top c =
 
 pub raise_in_row-requires : goal.raise_in_row-requires
 raise_in_row-requires c = (
-  record { gaussians = c.requires.0.gaussians; scratch = c.requires.0.scratch; sound = c.requires.0.sound c.args.top c.requires.2.top-inside },
+  record { scratch = c.requires.0.scratch; sound = c.requires.0.sound c.args.top c.requires.2.top-inside },
   c.requires.1.block,
   omega (arith, c.fill.auto, c.requires.2.row-64),
 )
@@ -58,7 +58,6 @@ raise_above-least-requires c =
     let few : c.args.count ≤ length c.args.lobes = omega (arith, l.invariant.0, c.requires.0.few) in
     let j = l.invariant.6 c.requires.0.sound few c.requires.2.top-inside in (
       record {
-        gaussians = c.requires.0.gaussians;
         scratch = record { chunk-64 = l.invariant.2; indexes-64 = l.invariant.3 };
         sound = c.requires.0.sound l.p c.loop-p-test.true;
       },

@@ -12,8 +12,6 @@ open_two-requires c =
     let config = c.args.config in
     let last : c.grid_of-grid.result.last_bin ≡ config.fft_size / 2 = rw e (grid-last config) in
     record {
-      tables = record { powers = search rules; gaussians = search rules };
-      sines = search rules;
       few = rw e (grid-partials config);
       on-grid = record { last = omega arith; inside = λ t. omega arith };
       heard = search rules;

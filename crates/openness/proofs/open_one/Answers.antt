@@ -21,9 +21,6 @@ raise_voices-requires c =
     let lows : length c.ends_where.new.lows ≡ 128 = c.ends_where.auto.lows in
     let highs : length c.ends_where.new.highs ≡ 128 = c.ends_where.auto.highs in
     record {
-      tables = c.requires.tables;
-      sines = c.requires.sines;
-      octaves = c.partial_octaves-octaves.ensures;
       scratch = record { chunk-64 = c.ends_where.auto.row; indexes-64 = refl };
       few = c.requires.few;
       on-grid = c.requires.on-grid;

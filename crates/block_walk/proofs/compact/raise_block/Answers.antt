@@ -35,7 +35,6 @@ returns-then-nothing_rises c =
 pub raise_partials-requires : goal.raise_partials-requires
 raise_partials-requires c = (
   record {
-    gaussians = c.requires.0.gaussians;
     scratch = record { chunk-64 = omega (arith, c.nothing_rises.auto, c.requires.0.scratch.chunk-64); indexes-64 = c.requires.0.scratch.indexes-64 };
     few = c.requires.0.few;
     sound = c.requires.0.sound;

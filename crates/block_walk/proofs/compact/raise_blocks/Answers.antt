@@ -72,7 +72,7 @@ raise_block-requires c =
     let i = c.loop-block.invariant in
     let e = row_ends c.loop-block.block c.args.span.last_bin (length c.args.table.now) c.lesser-end.result (omega (arith, c.loop-block-test.true)) (omega (arith, c.requires.2.spanned.ready.inside, c.requires.2.spanned.last)) c.lesser-end.ensures in
     let z : 1 + 64 * c.loop-block.block ≡ 1 + c.loop-block.block * 64 = omega arith in (
-      record { gaussians = c.requires.0.gaussians; scratch = record { chunk-64 = i.1; indexes-64 = i.2 }; few = c.requires.0.few; sound = c.requires.0.sound },
+      record { scratch = record { chunk-64 = i.1; indexes-64 = i.2 }; few = c.requires.0.few; sound = c.requires.0.sound },
       record { sides = record { first-open = i.5; second-open = i.6 }; gains = c.requires.1.gains },
       record {
         block = record { from = e.0; most = e.1; inside = e.2; last = omega (arith, c.requires.2.spanned.ready.last) };

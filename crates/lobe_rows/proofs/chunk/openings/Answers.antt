@@ -3,7 +3,7 @@ use Rattle.lobe_rows.proofs.chunk.openings.Goals as goal
 
 pub openings_by_table-requires : goal.openings_by_table-requires
 openings_by_table-requires c =
-    (c.requires.1, record { log-of-center = c.requires.2.log-of-center; inside = c.requires.2.inside c.if-tabled.true })
+    (c.requires.0, record { log-of-center = c.requires.1.log-of-center; inside = c.requires.1.inside c.if-tabled.true })
 
 pub returns-then-tabled : goal.returns-then-tabled
 returns-then-tabled c = rw c.if-tabled.true c.openings_by_table.ensures

@@ -17,18 +17,18 @@ pub openings-requires : goal.openings-requires
 openings-requires c = (
   record {
     in-chunk = omega (arith, c.lesser-count.ensures);
-    in-indexes = omega (arith, c.lesser-count.ensures, c.requires.1.chunk-64, c.requires.1.indexes-64, c.loop-start.invariant.0, c.loop-start.invariant.1);
+    in-indexes = omega (arith, c.lesser-count.ensures, c.requires.0.chunk-64, c.requires.0.indexes-64, c.loop-start.invariant.0, c.loop-start.invariant.1);
   },
   record {
-    log-of-center = c.requires.2.log-of-center;
-    last = omega (arith, c.lesser-count.ensures, c.requires.2.last);
-    inside = λ e. omega (arith, c.lesser-count.ensures, c.requires.2.inside e);
+    log-of-center = c.requires.1.log-of-center;
+    last = omega (arith, c.lesser-count.ensures, c.requires.1.last);
+    inside = λ e. omega (arith, c.lesser-count.ensures, c.requires.1.inside e);
   },
 )
 
 pub loop-start-smaller : goal.loop-start-smaller
 loop-start-smaller c =
-    omega (arith, c.loop-start-test.true, c.lesser-count.ensures, c.loop-start.invariant.0, c.requires.1.chunk-64)
+    omega (arith, c.loop-start-test.true, c.lesser-count.ensures, c.loop-start.invariant.0, c.requires.0.chunk-64)
 
 pub loop-start-preserved : goal.loop-start-preserved
 loop-start-preserved c =

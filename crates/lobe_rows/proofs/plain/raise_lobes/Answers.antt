@@ -17,20 +17,19 @@ pub offset_bounds-lobes-p : goal.offset_bounds-lobes-p
 offset_bounds-lobes-p c = omega arith
 
 pub bounds-lobes-p : goal.bounds-lobes-p
-bounds-lobes-p c = omega (arith, c.loop-p-test.true, c.requires.2.few)
+bounds-lobes-p c = omega (arith, c.loop-p-test.true, c.requires.1.few)
 
 pub raise_lobe-requires : goal.raise_lobe-requires
 raise_lobe-requires c =
-    let w = c.requires.2.known c.loop-p.p c.loop-p-test.true in
-    let g = c.requires.2.on-grid in (
-      c.requires.0,
-      record { chunk-64 = c.loop-p.invariant.3 ∙ c.requires.1.chunk-64; indexes-64 = c.loop-p.invariant.4 ∙ c.requires.1.indexes-64 },
+    let w = c.requires.1.known c.loop-p.p c.loop-p-test.true in
+    let g = c.requires.1.on-grid in (
+      record { chunk-64 = c.loop-p.invariant.3 ∙ c.requires.0.chunk-64; indexes-64 = c.loop-p.invariant.4 ∙ c.requires.0.indexes-64 },
       record { log-of-center = w.0; last = omega (arith, w.1, g.last); inside = λ e. omega (arith, w.1, g.inside e) },
     )
 
 pub loop-p-preserved : goal.loop-p-preserved
 loop-p-preserved c =
-    let some : c.args.count ≤ length c.args.lobes = omega (arith, c.requires.2.few, c.loop-p.invariant.0) in (
+    let some : c.args.count ≤ length c.args.lobes = omega (arith, c.requires.1.few, c.loop-p.invariant.0) in (
       c.loop-p.invariant.0,
       omega (arith, c.raise_lobe.auto.first, c.loop-p.invariant.1),
       omega (arith, c.raise_lobe.auto.second, c.loop-p.invariant.2),

@@ -18,7 +18,6 @@ pub raised_together-requires : goal.raised_together-requires
 raised_together-requires c =
     let of = c.lobes_of-lobes.ensures.0 in
     record {
-      gaussians = c.requires.tables.gaussians;
       scratch = c.requires.scratch;
       few = omega (arith, c.requires.few, c.partials_of-count.ensures.1);
       walk = λ e.
@@ -44,7 +43,6 @@ returns-then-raised_together c =
 
 pub raise_lobes-requires : goal.raise_lobes-requires
 raise_lobes-requires c = (
-  c.requires.tables,
   record {
     chunk-64 = omega (arith, c.raised_together.auto.chunk, c.requires.scratch.chunk-64);
     indexes-64 = omega (arith, c.raised_together.auto.indexes, c.requires.scratch.indexes-64);

@@ -6,7 +6,7 @@ use Rattle.openness.proofs.raise.raised_together.Goals as goal
 pub rasterize_compact_harmonic_envelope-requires : goal.rasterize_compact_harmonic_envelope-requires
 rasterize_compact_harmonic_envelope-requires c =
     let k = c.requires.walk c.if-way.true in (
-      record { gaussians = c.requires.gaussians; scratch = c.requires.scratch; few = c.requires.few; sound = k.sound },
+      record { scratch = c.requires.scratch; few = c.requires.few; sound = k.sound },
       record { sides = k.sides.sides; gains = k.gains },
       k.sides.ready,
     )

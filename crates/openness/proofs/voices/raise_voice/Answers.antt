@@ -11,8 +11,6 @@ returns-then-voice c = (voice-skipped _ _ _ _ _ c.if-voice.true, voice-skipped _
 pub raise_tone-requires : goal.raise_tone-requires
 raise_tone-requires c =
     record {
-      tables = c.requires.tables;
-      octaves = c.requires.octaves;
       scratch = c.requires.scratch;
       few = c.requires.few;
       on-grid = c.requires.on-grid;

@@ -25,9 +25,6 @@ pub raise_voice-requires : goal.raise_voice-requires
 raise_voice-requires c =
     let some : c.args.count ≤ length c.args.voices = omega (arith, c.requires.heard, c.loop-index.invariant.0) in
     record {
-      tables = c.requires.tables;
-      sines = c.requires.sines;
-      octaves = c.requires.octaves;
       scratch = record { chunk-64 = c.loop-index.invariant.3 ∙ c.requires.scratch.chunk-64; indexes-64 = c.loop-index.invariant.4 ∙ c.requires.scratch.indexes-64 };
       few = c.requires.few;
       on-grid = c.requires.on-grid;
