@@ -14,7 +14,6 @@ ghost use Rattle.limits.specs.Lengths.{manual_mask_points};
 ghost use Rattle.bin_gains.specs.Gains.{gate_at, ceiling_at, gain_at};
 ghost use Rattle.bin_gains.specs.Shared.{shared_of};
 
-use counts::lesser;
 use motion::field::RESTING_DEPTH_DB;
 use power::table::PowerTable;
 use scene::{MaskConfig, MotionConfig};
@@ -151,7 +150,7 @@ pub fn finish_one(
     let mut field = [0.0f32; ROW];
     let mut start: usize = 0;
     while start < out.len() {
-        let count = lesser(out.len() - start, ROW);
+        let count = (out.len() - start).min(ROW);
         let next = start + count;
         ceilings(
             &mut row, &mut field, powers, sines, curve, config, shared, start, count,
@@ -184,7 +183,7 @@ pub fn finish_two(
     let mut field = [0.0f32; ROW];
     let mut start: usize = 0;
     while start < left.len() {
-        let count = lesser(left.len() - start, ROW);
+        let count = (left.len() - start).min(ROW);
         let next = start + count;
         ceilings(
             &mut row, &mut field, powers, sines, curve, config, shared, start, count,

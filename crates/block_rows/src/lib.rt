@@ -14,7 +14,6 @@ ghost use Rattle.block_rows.specs.Premises.{LobeReady, LobesReady, Block, BlockB
 ghost use Rattle.block_rows.specs.Premises.{RowFrom, RowSoFar};
 
 use blocks::least_from;
-use counts::{greater, lesser};
 use gaussian::GaussianTable;
 use limits::lengths::MAX_PARTIALS;
 use lobe_joins::join;
@@ -46,8 +45,8 @@ fn raise_in_row(
         (λ k held. lobe_joined grid (lent table.now) one (start + k) held lobe) 0
         (end - start) row.old }
 {
-    let from = greater(lobe.first_bin, start);
-    let to = lesser(lobe.last_bin + 1, end);
+    let from = lobe.first_bin.max(start);
+    let to = (lobe.last_bin + 1).min(end);
     if from < to {
         openings_by_table(
             chunk,

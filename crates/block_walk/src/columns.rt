@@ -8,7 +8,6 @@ ghost use Rattle.lobe_joins.specs.Joined.{no_lobe};
 ghost use Rattle.block_walk.specs.Premises.{ColumnRoom};
 
 use blocks::BLOCK;
-use counts::{greater, lesser};
 use limits::lengths::MAX_PARTIALS;
 use lobes::{Grid, Lobe};
 
@@ -47,8 +46,8 @@ pub fn span_of(lobes: [Lobe; MAX_PARTIALS], count: usize, last_bin: usize) -> Sp
     let mut cost: usize = 0;
     for p in 0..count {
         let lobe = lobes[p];
-        first = lesser(first, lobe.first_bin);
-        last = greater(last, lobe.last_bin);
+        first = first.min(lobe.first_bin);
+        last = last.max(lobe.last_bin);
         cost += bins_between(lobe.first_bin, lobe.last_bin);
     }
     Span {

@@ -25,7 +25,6 @@ use crate::columns::{Span, bins_between, block_of, columns_of, span_of};
 use block_rows::raise_partials;
 use block_rows::rises::nothing_rises;
 use blocks::BLOCK;
-use counts::lesser;
 use gaussian::GaussianTable;
 use limits::lengths::MAX_PARTIALS;
 use lobe_bounds::{bounds_of, greatest_at};
@@ -102,10 +101,10 @@ fn raise_blocks(
         second.old) }
 {
     let mut bounds = [0.0f32; MAX_PARTIALS];
-    let mut block = block_of(lesser(span.first_bin, span.last_bin));
+    let mut block = block_of(span.first_bin.min(span.last_bin));
     while block * BLOCK < span.last_bin {
         let start = 1 + block * BLOCK;
-        let end = lesser(start + BLOCK, table.len());
+        let end = (start + BLOCK).min(table.len());
         bounds_of(
             &mut bounds,
             gaussians,

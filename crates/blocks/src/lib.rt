@@ -6,7 +6,6 @@ ghost use Rattle.blocks.specs.Least.{Numbers, Least, Greatest, largest, lowest};
 ghost use Rattle.blocks.specs.Row.{RowOf};
 ghost use Rattle.blocks.specs.Ends.{Ends};
 
-use counts::lesser;
 use rows::{copy_row, least_of, negate};
 
 pub mod rows;
@@ -24,7 +23,7 @@ fn take_row(row: &mut [f32], from: &[f32], start: usize)
     ensures { RowOf start from.now row.new }
 {
     slices::fill(row, from[start]);
-    copy_row(row, from, start, lesser(BLOCK, from.len() - start));
+    copy_row(row, from, start, BLOCK.min(from.len() - start));
 }
 
 // The minimum of the 64 numbers from `start` on, or of as many as the slice has; the largest f32 if

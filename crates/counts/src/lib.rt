@@ -4,7 +4,7 @@
 // for infinity, the result is the largest usize.
 #![tactic(auto)]
 
-ghost use Rattle.std.specs.Prelude.{◌≡◌, ◌≤◌, ◌<◌, ◌^◌, min, max};
+ghost use Rattle.std.specs.Prelude.{◌≡◌, ◌≤◌, ◌<◌, ◌^◌};
 ghost use Rattle.counts.specs.Counts.{whole, count_of, floor_count, ceil_count, millionths};
 
 use float32::bits::{capped_shift, decode};
@@ -81,17 +81,4 @@ pub fn millionths(x: f32) -> u64
         return digits << (expo - 149);
     }
     MOST_MILLIONTHS
-}
-
-// The lesser and the greater of two counts.
-pub fn lesser(a: usize, b: usize) -> usize
-    ensures { result ≡ min a b }
-{
-    if b < a { b } else { a }
-}
-
-pub fn greater(a: usize, b: usize) -> usize
-    ensures { result ≡ max a b }
-{
-    if a < b { b } else { a }
 }

@@ -12,7 +12,6 @@ ghost use Rattle.std.specs.Prelude.{◌≡◌, ◌≤◌};
 ghost use Rattle.gaussian.specs.Table.{gaussian_table};
 ghost use Rattle.gaussian.specs.Bell.{Place, position, index_of, part_of, line};
 
-use counts::lesser;
 use float32::order::clamp;
 
 pub const GAUSSIAN_LUT_STEPS: usize = 1024;
@@ -74,7 +73,7 @@ pub fn line(gaussians: &GaussianTable, index: u32, part: f32) -> f32
     ensures { result ≡ line index part }
 {
     let left = index as usize;
-    let right = lesser(left + 1, GAUSSIAN_LUT_STEPS);
+    let right = (left + 1).min(GAUSSIAN_LUT_STEPS);
     let near = gaussians.entries[left];
     near + (gaussians.entries[right] - near) * part
 }

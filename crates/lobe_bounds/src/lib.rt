@@ -16,7 +16,6 @@ ghost use Rattle.gaussian.specs.Table.{gaussian_table};
 ghost use Rattle.lobe_bounds.specs.Bound.{least_distance, nearest_place, bound_at, bound_of};
 ghost use Rattle.lobe_bounds.specs.Bound.{Numbers, GreatestAt};
 
-use counts::lesser;
 use float32::order::{clamp, max};
 use gaussian::{GAUSSIAN_LUT_STEPS, GaussianTable};
 use lobes::distances::in_widths;
@@ -61,7 +60,7 @@ fn nearest_places(
 fn bound_at(gaussians: &GaussianTable, strength: f32, place: f32) -> f32
     ensures { result ≡ bound_at strength place }
 {
-    let left = lesser(counts::floor_to_count(place), GAUSSIAN_LUT_STEPS);
+    let left = counts::floor_to_count(place).min(GAUSSIAN_LUT_STEPS);
     clamp(strength * gaussians.entries[left], 0.0, 1.0)
 }
 

@@ -6,7 +6,6 @@ ghost use Rattle.std.specs.Float.{nan};
 ghost use Rattle.lists.specs.Maps.{map_range};
 ghost use Rattle.lobe_joins.specs.Joined.{joined};
 
-use counts::lesser;
 
 // What a bin holds after a lobe is joined to it; `gain` is the voice's gain on this side.
 fn joined(held: f32, opening: f32, gain: f32) -> f32
@@ -23,7 +22,7 @@ pub fn join(out: &mut [f32], openings: &[f32], gain: f32, start: usize, end: usi
         (λ bin held. joined gain held (get_or openings.now (bin - start) nan)) start end
         out.old }
 {
-    let stop = lesser(end, out.len());
+    let stop = end.min(out.len());
     for bin in start..stop {
         out[bin] = joined(out[bin], openings[bin - start], gain);
     }

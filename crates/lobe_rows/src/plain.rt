@@ -8,7 +8,6 @@ ghost use Rattle.lobe_rows.specs.Premises.{Scratch, LobeKnown, LobesKnown};
 
 use crate::Gains;
 use crate::chunk::openings;
-use counts::lesser;
 use gaussian::GaussianTable;
 use limits::lengths::MAX_PARTIALS;
 use lobe_joins::join;
@@ -40,7 +39,7 @@ fn raise_lobe(
     let end = lobe.last_bin + 1;
     let mut start = lobe.first_bin;
     while start < end {
-        let count = lesser(end - start, chunk.len());
+        let count = (end - start).min(chunk.len());
         let next = start + count;
         openings(
             chunk, indexes, powers, gaussians, tabled, table, grid, lobe, start, count,

@@ -4,7 +4,6 @@ ghost use Rattle.power.specs.Table.{power_table};
 ghost use Rattle.lobes.specs.Grid.{grid_of};
 
 use crate::Grid;
-use counts::{greater, lesser};
 use float32::order::max;
 use limits::lengths::MAX_PARTIALS;
 use power::exp2::exp2;
@@ -34,7 +33,7 @@ pub fn grid_of(powers: &PowerTable, config: MaskConfig) -> Grid
         lower_ratio: exp2(powers, -radius),
         upper_ratio: exp2(powers, radius),
         last_bin: size / 2,
-        partials: lesser(greater(config.partials, 1), MAX_PARTIALS),
+        partials: config.partials.max(1).min(MAX_PARTIALS),
         rolloff: config.harmonic_rolloff_db_per_octave,
     }
 }

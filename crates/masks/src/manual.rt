@@ -3,7 +3,6 @@ ghost use Rattle.std.specs.Prelude.{◌≡◌, length};
 ghost use Rattle.limits.specs.Lengths.{manual_mask_points};
 ghost use Rattle.masks.specs.Manual.{curve_point, curve_gain, manual_gain};
 
-use counts::lesser;
 use float32::order::min;
 use limits::lengths::LAST_POINT;
 
@@ -17,10 +16,7 @@ pub fn curve_point(bin: usize, size: usize) -> usize
     if source_bins == 0 {
         return 0;
     }
-    lesser(
-        (lesser(bin, LAST_POINT) * LAST_POINT + source_bins / 2) / source_bins,
-        LAST_POINT,
-    )
+    ((bin.min(LAST_POINT) * LAST_POINT + source_bins / 2) / source_bins).min(LAST_POINT)
 }
 
 // The gain of a curve value: 0 where it is not above MANUAL_CURVE_MUTE_DB, as an erased point, a

@@ -10,7 +10,6 @@ ghost use Rattle.masks.specs.Manual.{curve_point, manual_gain};
 ghost use Rattle.masks.specs.Counted.{counted_as};
 
 use crate::manual::{MANUAL_CURVE_MUTE_DB, curve_point};
-use counts::lesser;
 use float32::order::min;
 use limits::lengths::LAST_POINT;
 use power::table::PowerTable;
@@ -43,7 +42,7 @@ fn values_by_step(row: &mut [f32], curve: &[f32], step: usize, start: usize, cou
         row.old }
 {
     for k in 0..count {
-        row[k] = curve[lesser((start + k) * step, LAST_POINT)];
+        row[k] = curve[((start + k) * step).min(LAST_POINT)];
     }
 }
 

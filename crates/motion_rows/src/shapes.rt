@@ -16,7 +16,6 @@ ghost use Rattle.motion.specs.Shapes.{ripple, harmonic, broad_angle, middle_angl
 ghost use Rattle.motion.specs.Shapes.{layered, drift, window_exponent, window, saw};
 ghost use Rattle.motion_rows.specs.Rows.{shaped};
 
-use counts::lesser;
 use float32::constants::TAU;
 use float32::order::clamp;
 use float32::powers::powi5;
@@ -176,7 +175,7 @@ fn drifts(row: &mut [f32], sines: &SineTable, size: f32, phase: f32, count: usiz
     let mut detail = [0.0f32; ROW];
     let mut start: usize = 0;
     while start < count {
-        let few = lesser(count - start, ROW);
+        let few = (count - start).min(ROW);
         few_drifts(
             row,
             &mut broad,

@@ -14,7 +14,6 @@ ghost use Rattle.power.specs.Power.{power_at, E2};
 ghost use Rattle.power.specs.Decimal.{pow10, exp};
 ghost use Rattle.power_rows.specs.Exp2.{between, clipped, digits, Found};
 
-use counts::lesser;
 use fixed_point::far_steps;
 use float32::constants::{LOG2_10, LOG2_E};
 use power::exp2::{FAR_MORE, LARGEST, LIMIT, LOWEST};
@@ -155,7 +154,7 @@ pub fn exp2_row(row: &mut [f32], powers: &PowerTable, count: usize)
     let mut values = [0u32; ROW];
     let mut start: usize = 0;
     while start < count {
-        let few = lesser(count - start, ROW);
+        let few = (count - start).min(ROW);
         few_powers(
             row,
             &mut inside,

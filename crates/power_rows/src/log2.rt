@@ -15,7 +15,6 @@ ghost use Rattle.power.specs.Stages.{digits_of};
 ghost use Rattle.power_rows.specs.Log2.{ready_of, step_of, from_of, to_of, Room, Scaled, Found};
 
 use crate::exp2::scale;
-use counts::lesser;
 use float32::constants::LOG10_2;
 use power::exp2::LARGEST;
 use power::log2::{LEAST_NORMAL, log_in_step, step_of};
@@ -142,7 +141,7 @@ pub fn log2_row(row: &mut [f32], powers: &PowerTable, count: usize)
     let mut to = [0u32; ROW];
     let mut start: usize = 0;
     while start < count {
-        let few = lesser(count - start, ROW);
+        let few = (count - start).min(ROW);
         few_logs(
             row,
             &mut digits,

@@ -13,7 +13,6 @@ ghost use Rattle.sine.specs.Table.{sine_table};
 ghost use Rattle.sine.specs.Sine.{wave, sin_of, cos_of};
 ghost use Rattle.sine.specs.Rows.{place_ahead, index_of, part_of, value_at, level_at};
 
-use counts::lesser;
 use sine::table::SineTable;
 use sine::turns::{QUARTER, place_ahead};
 use sine::wave::{entry, level};
@@ -158,7 +157,7 @@ fn waves_ahead(row: &mut [f32], sines: &SineTable, count: usize, ahead: u64)
     let mut parts = [0u32; ROW];
     let mut start: usize = 0;
     while start < count {
-        let few = lesser(count - start, ROW);
+        let few = (count - start).min(ROW);
         waves(
             row,
             &mut found,

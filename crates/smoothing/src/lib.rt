@@ -103,7 +103,7 @@ fn soften_inside(powers: &PowerTable, source: &[f32], output: &mut [f32])
     let mut row = [0.0f32; ROW];
     let mut start: usize = 1;
     while start < last {
-        let count = counts::lesser(last - start, INSIDE);
+        let count = (last - start).min(INSIDE);
         let stop = start + count;
         decibel_row(&mut row, source, powers, start - 1, count + 2);
         soften_row(output, &row, powers, start, stop);
@@ -175,7 +175,7 @@ fn smooth_all(powers: &PowerTable, current: &mut [f32], target: &[f32], elapsed_
     let mut target_db = [0.0f32; ROW];
     let mut start: usize = 0;
     while start < current.len() {
-        let count = counts::lesser(current.len() - start, ROW);
+        let count = (current.len() - start).min(ROW);
         let stop = start + count;
         decibel_row(&mut current_db, current, powers, start, count);
         decibel_row(&mut target_db, target, powers, start, count);

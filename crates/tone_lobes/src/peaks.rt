@@ -3,7 +3,6 @@ ghost use Rattle.std.specs.Prelude.{◌≡◌, ◌^◌, ◌≤◌};
 ghost use Rattle.power.specs.Table.{power_table};
 ghost use Rattle.lobes.specs.Peak.{cents, closest_bin};
 
-use counts::{greater, lesser};
 use lobes::grids::CENTS_PER_OCTAVE;
 use power::table::PowerTable;
 
@@ -20,8 +19,8 @@ pub fn closest_bin_in_cents(powers: &PowerTable, center: f32, bin_hz: f32, last:
     requires { last ≤ 2 ^ 24 }
     ensures { result ≡ closest_bin center bin_hz last }
 {
-    let lower = lesser(greater(counts::floor_to_count(center / bin_hz), 1), last);
-    let upper = lesser(lower + 1, last);
+    let lower = counts::floor_to_count(center / bin_hz).max(1).min(last);
+    let upper = (lower + 1).min(last);
     if cents(powers, bin_hz, center, upper) < cents(powers, bin_hz, center, lower) {
         return upper;
     }

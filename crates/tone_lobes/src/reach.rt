@@ -8,7 +8,6 @@ ghost use Rattle.lobes.specs.Distance.{logs_of, distance};
 ghost use Rattle.lobes.specs.Lobe.{first_bin_of, last_bin_of, lobe_of};
 
 use crate::peaks::closest_bin_in_cents;
-use counts::{greater, lesser};
 use lobes::distances::{distance_by_hertz, distance_by_table};
 use lobes::octaves::PartialOctaves;
 use lobes::tones::{center_of, harmonic_gain};
@@ -20,14 +19,14 @@ pub fn first_bin(grid: Grid, center: f32) -> usize
     ensures { result ≡ first_bin_of grid center }
 {
     let place = center * grid.lower_ratio / grid.bin_hz;
-    greater(counts::floor_to_count(place), 1)
+    counts::floor_to_count(place).max(1)
 }
 
 pub fn last_bin(grid: Grid, center: f32) -> usize
     ensures { result ≡ last_bin_of grid center }
 {
     let place = center * grid.upper_ratio / grid.bin_hz;
-    lesser(counts::ceil_to_count(place), grid.last_bin)
+    counts::ceil_to_count(place).min(grid.last_bin)
 }
 
 // A bin's distance from a centre: from the table where one was lent.

@@ -16,23 +16,23 @@ pub ceilings-requires : goal.ceilings-requires
 ceilings-requires c = (
   c.requires.0,
   c.shared_of-shared.ensures,
-  omega (arith, c.lesser-count.ensures, c.loop-start.invariant.0),
-  omega (arith, c.lesser-count.ensures, c.loop-start.invariant.1),
-  omega (arith, c.lesser-count.ensures, c.requires.2, c.loop-start.invariant.2, c.loop-start.invariant.3.len),
+  omega (arith, c.min-count.ensures, c.loop-start.invariant.0),
+  omega (arith, c.min-count.ensures, c.loop-start.invariant.1),
+  omega (arith, c.min-count.ensures, c.requires.2, c.loop-start.invariant.2, c.loop-start.invariant.3.len),
 )
 
 pub finish_row-requires : goal.finish_row-requires
 finish_row-requires c =
-    (c.shared_of-shared.ensures, omega arith, omega (arith, c.lesser-count.ensures, c.loop-start.invariant.3.len), omega (arith, c.lesser-count.ensures, c.loop-start.invariant.0, c.ceilings.auto.row))
+    (c.shared_of-shared.ensures, omega arith, omega (arith, c.min-count.ensures, c.loop-start.invariant.3.len), omega (arith, c.min-count.ensures, c.loop-start.invariant.0, c.ceilings.auto.row))
 
 pub loop-start-preserved : goal.loop-start-preserved
 loop-start-preserved c =
     let a = c.args in
-    let room : c.lesser-count.result ≤ length c.loop-start.row = omega (arith, c.lesser-count.ensures, c.loop-start.invariant.0) in (
+    let room : c.min-count.result ≤ length c.loop-start.row = omega (arith, c.min-count.ensures, c.loop-start.invariant.0) in (
       search rules,
       search rules,
-      omega (arith, c.lesser-count.ensures, c.loop-start.invariant.3.len),
-      turned_on nan _ c.loop-start.invariant.3 (omega arith) (finished a.curve.now a.config c.loop-start.start c.lesser-count.result c.loop-start.row c.loop-start.out room c.ceilings.ensures c.finish_row.ensures),
+      omega (arith, c.min-count.ensures, c.loop-start.invariant.3.len),
+      turned_on nan _ c.loop-start.invariant.3 (omega arith) (finished a.curve.now a.config c.loop-start.start c.min-count.result c.loop-start.row c.loop-start.out room c.ceilings.ensures c.finish_row.ensures),
     )
 
 pub shape_of-out : goal.shape_of-out

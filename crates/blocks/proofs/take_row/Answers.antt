@@ -10,7 +10,7 @@ bounds-from-start c = c.requires.1
 
 pub copy_row-requires : goal.copy_row-requires
 copy_row-requires c =
-    (omega (arith, c.lesser.ensures, c.fill.auto.output, c.requires.0), omega (arith, c.lesser.ensures, c.requires.1))
+    (omega (arith, c.min.ensures, c.fill.auto.output, c.requires.0), omega (arith, c.min.ensures, c.requires.1))
 
 pub shape_of-row : goal.shape_of-row
 shape_of-row c =
@@ -18,4 +18,4 @@ shape_of-row c =
 
 pub returns : goal.returns
 returns c =
-    row_of c.args.start c.lesser.result c.args.from.now c.args.row.now c.requires.1 c.requires.0 c.fill.ensures c.lesser.ensures c.copy_row.ensures
+    row_of c.args.start c.min.result c.args.from.now c.args.row.now c.requires.1 c.requires.0 c.fill.ensures c.min.ensures c.copy_row.ensures

@@ -3,4 +3,4 @@
 use Rattle.gaussian.proofs.line.Goals as goal
 
 pub returns : goal.returns
-returns c = simp (c.args.gaussians.now.is_gaussian_table, c.lesser-right.ensures)
+returns c = simp (c.args.gaussians.now.is_gaussian_table, c.min-right.ensures)

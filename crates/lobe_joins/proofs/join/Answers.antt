@@ -11,7 +11,7 @@ use Rattle.lists.specs.Runs.{turned-within, turned-next}
 use Rattle.lobe_joins.proofs.join.Goals as goal
 
 pub loop-bin-init : goal.loop-bin-init
-loop-bin-init c = (turned_none _ _ _, c.lesser-stop.ensures, inr refl)
+loop-bin-init c = (turned_none _ _ _, c.min-stop.ensures, inr refl)
 
 pub loop-bin-preserved : goal.loop-bin-preserved
 loop-bin-preserved c =

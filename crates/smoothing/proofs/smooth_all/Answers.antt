@@ -15,31 +15,31 @@ loop-start-init c = (search rules, search rules, omega arith, turned_none _ _ _)
 
 pub decibel_row-requires : goal.decibel_row-requires
 decibel_row-requires c =
-    (omega (arith, c.lesser-count.ensures, c.loop-start.invariant.0), omega (arith, c.lesser-count.ensures, c.loop-start.invariant.2, c.loop-start.invariant.3.len))
+    (omega (arith, c.min-count.ensures, c.loop-start.invariant.0), omega (arith, c.min-count.ensures, c.loop-start.invariant.2, c.loop-start.invariant.3.len))
 
 pub decibel_row-requires-in-loop-start : goal.decibel_row-requires-in-loop-start
 decibel_row-requires-in-loop-start c =
-    (omega (arith, c.lesser-count.ensures, c.loop-start.invariant.1), omega (arith, c.lesser-count.ensures, c.requires, c.loop-start.invariant.2, c.loop-start.invariant.3.len))
+    (omega (arith, c.min-count.ensures, c.loop-start.invariant.1), omega (arith, c.min-count.ensures, c.requires, c.loop-start.invariant.2, c.loop-start.invariant.3.len))
 
 pub move_row-requires : goal.move_row-requires
 move_row-requires c =
-    let room : c.lesser-count.result ≤ length c.loop-start.current_db = omega (arith, c.lesser-count.ensures, c.loop-start.invariant.0) in (
+    let room : c.min-count.result ≤ length c.loop-start.current_db = omega (arith, c.min-count.ensures, c.loop-start.invariant.0) in (
       omega arith,
-      omega (arith, c.lesser-count.ensures, c.loop-start.invariant.2, c.loop-start.invariant.3.len),
-      omega (arith, c.lesser-count.ensures, c.loop-start.invariant.0, c.decibel_row.auto.row),
-      omega (arith, c.lesser-count.ensures, c.loop-start.invariant.1, c.decibel_row-in-loop-start.auto.row),
-      decibels-at c.loop-start.start c.lesser-count.result c.loop-start.current c.loop-start.current_db room c.decibel_row.ensures,
+      omega (arith, c.min-count.ensures, c.loop-start.invariant.2, c.loop-start.invariant.3.len),
+      omega (arith, c.min-count.ensures, c.loop-start.invariant.0, c.decibel_row.auto.row),
+      omega (arith, c.min-count.ensures, c.loop-start.invariant.1, c.decibel_row-in-loop-start.auto.row),
+      decibels-at c.loop-start.start c.min-count.result c.loop-start.current c.loop-start.current_db room c.decibel_row.ensures,
     )
 
 pub loop-start-smaller : goal.loop-start-smaller
-loop-start-smaller c = omega (arith, c.lesser-count.ensures)
+loop-start-smaller c = omega (arith, c.min-count.ensures)
 
 pub loop-start-preserved : goal.loop-start-preserved
 loop-start-preserved c =
     let a = c.args in
-    let room : c.lesser-count.result ≤ length c.loop-start.target_db = omega (arith, c.lesser-count.ensures, c.loop-start.invariant.1) in
-    let e = moved c.loop-start.start c.lesser-count.result a.target.now c.loop-start.target_db room c.decibel_row-in-loop-start.ensures c.blend-part.result (blend_of a.elapsed_seconds) c.loop-start.current c.blend-part.ensures c.move_row.ensures in
-    (search rules, search rules, omega (arith, c.lesser-count.ensures, c.loop-start.invariant.3.len), turned_on nan _ c.loop-start.invariant.3 (omega arith) e)
+    let room : c.min-count.result ≤ length c.loop-start.target_db = omega (arith, c.min-count.ensures, c.loop-start.invariant.1) in
+    let e = moved c.loop-start.start c.min-count.result a.target.now c.loop-start.target_db room c.decibel_row-in-loop-start.ensures c.blend-part.result (blend_of a.elapsed_seconds) c.loop-start.current c.blend-part.ensures c.move_row.ensures in
+    (search rules, search rules, omega (arith, c.min-count.ensures, c.loop-start.invariant.3.len), turned_on nan _ c.loop-start.invariant.3 (omega arith) e)
 
 pub shape_of-current : goal.shape_of-current
 shape_of-current c = c.loop-start.invariant.3.len

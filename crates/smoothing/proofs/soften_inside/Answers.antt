@@ -17,28 +17,28 @@ pub overflow_sub-start : goal.overflow_sub-start
 overflow_sub-start c = c.loop-start.invariant.2.low
 
 pub overflow_add-count : goal.overflow_add-count
-overflow_add-count c = omega (arith, c.lesser-count.ensures)
+overflow_add-count c = omega (arith, c.min-count.ensures)
 
 pub decibel_row-requires : goal.decibel_row-requires
 decibel_row-requires c =
-    (omega (arith, c.lesser-count.ensures, c.loop-start.invariant.0), omega (arith, c.lesser-count.ensures, c.requires.1, c.loop-start.invariant.1, c.loop-start.invariant.2.low))
+    (omega (arith, c.min-count.ensures, c.loop-start.invariant.0), omega (arith, c.min-count.ensures, c.requires.1, c.loop-start.invariant.1, c.loop-start.invariant.2.low))
 
 pub soften_row-requires : goal.soften_row-requires
 soften_row-requires c = (
   omega arith,
-  omega (arith, c.lesser-count.ensures, c.requires.0, c.requires.1, c.loop-start.invariant.1, c.loop-start.invariant.2.len),
-  omega (arith, c.lesser-count.ensures, c.loop-start.invariant.0, c.decibel_row.auto.row),
+  omega (arith, c.min-count.ensures, c.requires.0, c.requires.1, c.loop-start.invariant.1, c.loop-start.invariant.2.len),
+  omega (arith, c.min-count.ensures, c.loop-start.invariant.0, c.decibel_row.auto.row),
 )
 
 pub loop-start-smaller : goal.loop-start-smaller
-loop-start-smaller c = omega (arith, c.lesser-count.ensures)
+loop-start-smaller c = omega (arith, c.min-count.ensures)
 
 pub loop-start-preserved : goal.loop-start-preserved
 loop-start-preserved c =
     let a = c.args in
-    let room : c.lesser-count.result + 2 ≤ length c.loop-start.row = omega (arith, c.lesser-count.ensures, c.loop-start.invariant.0) in
-    let e = softened-inside c.loop-start.start c.lesser-count.result a.source.now c.loop-start.row c.loop-start.output c.loop-start.invariant.2.low room c.decibel_row.ensures c.soften_row.ensures in
-    (search rules, omega (arith, c.lesser-count.ensures, c.loop-start.invariant.1), turned_on nan _ c.loop-start.invariant.2 (omega arith) e)
+    let room : c.min-count.result + 2 ≤ length c.loop-start.row = omega (arith, c.min-count.ensures, c.loop-start.invariant.0) in
+    let e = softened-inside c.loop-start.start c.min-count.result a.source.now c.loop-start.row c.loop-start.output c.loop-start.invariant.2.low room c.decibel_row.ensures c.soften_row.ensures in
+    (search rules, omega (arith, c.min-count.ensures, c.loop-start.invariant.1), turned_on nan _ c.loop-start.invariant.2 (omega arith) e)
 
 pub shape_of-output : goal.shape_of-output
 shape_of-output c = c.loop-start.invariant.2.len

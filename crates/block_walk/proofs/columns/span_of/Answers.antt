@@ -47,9 +47,9 @@ loop-p-preserved c =
     let l = c.loop-p in (
       l.invariant.0,
       omega (arith, c.loop-p-test.true),
-      omega (arith, c.greater-last.ensures, l.invariant.2, c.requires.2 _ c.loop-p-test.true),
+      omega (arith, c.max-last.ensures, l.invariant.2, c.requires.2 _ c.loop-p-test.true),
       omega (arith, c.bins_between-cost.ensures, l.invariant.3),
-      one_more c.args.lobes _ _ _ _ _ l.invariant.4 c.lesser-first.ensures c.greater-last.ensures,
+      one_more c.args.lobes _ _ _ _ _ l.invariant.4 c.min-first.ensures c.max-last.ensures,
     )
 
 pub returns : goal.returns

@@ -16,7 +16,7 @@ begins first last block n e h l = (omega arith, omega arith)
 pub loop-block-init : goal.loop-block-init
 loop-block-init c =
     let span = c.args.span in
-    let e : c.block_of-block.result ≡ block_of (min span.first_bin span.last_bin) = rw c.lesser.ensures at c.block_of-block.ensures in
+    let e : c.block_of-block.result ≡ block_of (min span.first_bin span.last_bin) = rw c.min.ensures at c.block_of-block.ensures in
     let b = begins span.first_bin span.last_bin c.block_of-block.result (length c.args.table.now) e (omega (arith, c.requires.2.spanned.ready.last, c.requires.2.spanned.last)) (omega (arith, c.requires.2.spanned.ready.inside, c.requires.2.spanned.last)) in (
       b.0,
       c.requires.0.scratch.chunk-64,
@@ -70,7 +70,7 @@ row_ends block last n end h l e = (omega arith, omega arith, omega arith, omega 
 pub raise_block-requires : goal.raise_block-requires
 raise_block-requires c =
     let i = c.loop-block.invariant in
-    let e = row_ends c.loop-block.block c.args.span.last_bin (length c.args.table.now) c.lesser-end.result (omega (arith, c.loop-block-test.true)) (omega (arith, c.requires.2.spanned.ready.inside, c.requires.2.spanned.last)) c.lesser-end.ensures in
+    let e = row_ends c.loop-block.block c.args.span.last_bin (length c.args.table.now) c.min-end.result (omega (arith, c.loop-block-test.true)) (omega (arith, c.requires.2.spanned.ready.inside, c.requires.2.spanned.last)) c.min-end.ensures in
     let z : 1 + 64 * c.loop-block.block ≡ 1 + c.loop-block.block * 64 = omega arith in (
       record { scratch = record { chunk-64 = i.1; indexes-64 = i.2 }; few = c.requires.0.few; sound = c.requires.0.sound },
       record { sides = record { first-open = i.5; second-open = i.6 }; gains = c.requires.1.gains },
@@ -78,7 +78,7 @@ raise_block-requires c =
         block = record { from = e.0; most = e.1; inside = e.2; last = omega (arith, c.requires.2.spanned.ready.last) };
         some = c.requires.2.spanned.some;
         bounds-long = omega (arith, c.bounds_of.auto, i.3, c.requires.0.few);
-        bounds = rw z at (block-bounded c.requires.2.spanned.ready.ends c.requires.2.spanned.ready.table-real c.loop-block.block c.args.grid c.args.lobes c.args.count c.args.centers.now c.args.strengths.now c.args.peaks.now c.loop-block.bounds c.requires.0.sound c.requires.2.columns.values (omega (arith, i.3, c.requires.0.few)) c.lesser-end.result e.3 e.2 c.bounds_of.ensures);
+        bounds = rw z at (block-bounded c.requires.2.spanned.ready.ends c.requires.2.spanned.ready.table-real c.loop-block.block c.args.grid c.args.lobes c.args.count c.args.centers.now c.args.strengths.now c.args.peaks.now c.loop-block.bounds c.requires.0.sound c.requires.2.columns.values (omega (arith, i.3, c.requires.0.few)) c.min-end.result e.3 e.2 c.bounds_of.ensures);
       },
     )
 
@@ -95,8 +95,8 @@ loop-block-preserved c =
     let i = c.loop-block.invariant in
     let last : c.args.span.last_bin < length c.args.table.now = omega (arith, c.requires.2.spanned.ready.inside, c.requires.2.spanned.last) in
     let few : c.args.count ≤ length c.args.lobes = omega (arith, i.4, c.requires.0.few) in
-    let first = rw c.lesser-end.ensures at c.raise_block.ensures.0 in
-    let second = rw c.lesser-end.ensures at c.raise_block.ensures.1 in (
+    let first = rw c.min-end.ensures at c.raise_block.ensures.0 in
+    let second = rw c.min-end.ensures at c.raise_block.ensures.1 in (
       omega (arith, c.loop-block-test.true, c.requires.2.spanned.ready.last, c.requires.2.spanned.last),
       omega (arith, c.raise_block.auto.chunk, i.1),
       omega (arith, c.raise_block.auto.indexes, i.2),

@@ -16,29 +16,29 @@ loop-start-init c = (refl, refl, inr refl, turned_none _ _ _, turned_none _ _ _)
 pub openings-requires : goal.openings-requires
 openings-requires c = (
   record {
-    in-chunk = omega (arith, c.lesser-count.ensures);
-    in-indexes = omega (arith, c.lesser-count.ensures, c.requires.0.chunk-64, c.requires.0.indexes-64, c.loop-start.invariant.0, c.loop-start.invariant.1);
+    in-chunk = omega (arith, c.min-count.ensures);
+    in-indexes = omega (arith, c.min-count.ensures, c.requires.0.chunk-64, c.requires.0.indexes-64, c.loop-start.invariant.0, c.loop-start.invariant.1);
   },
   record {
     log-of-center = c.requires.1.log-of-center;
-    last = omega (arith, c.lesser-count.ensures, c.requires.1.last);
-    inside = λ e. omega (arith, c.lesser-count.ensures, c.requires.1.inside e);
+    last = omega (arith, c.min-count.ensures, c.requires.1.last);
+    inside = λ e. omega (arith, c.min-count.ensures, c.requires.1.inside e);
   },
 )
 
 pub loop-start-smaller : goal.loop-start-smaller
 loop-start-smaller c =
-    omega (arith, c.loop-start-test.true, c.lesser-count.ensures, c.loop-start.invariant.0, c.requires.0.chunk-64)
+    omega (arith, c.loop-start-test.true, c.min-count.ensures, c.loop-start.invariant.0, c.requires.0.chunk-64)
 
 pub loop-start-preserved : goal.loop-start-preserved
 loop-start-preserved c =
     let logs = logs_of c.args.tabled c.args.table.now in
-    let room : c.lesser-count.result ≤ length c.loop-start.chunk = omega (arith, c.lesser-count.ensures) in (
+    let room : c.min-count.result ≤ length c.loop-start.chunk = omega (arith, c.min-count.ensures) in (
       c.openings.auto.chunk ∙ c.loop-start.invariant.0,
       omega (arith, c.openings.auto.indexes, c.loop-start.invariant.1),
-      inl (omega (arith, c.lesser-count.ensures)),
-      chunk-joined _ logs _ _ c.loop-start.start c.lesser-count.result c.loop-start.chunk _ room c.openings.ensures c.loop-start.invariant.3 c.join.ensures,
-      chunk-joined _ logs _ _ c.loop-start.start c.lesser-count.result c.loop-start.chunk _ room c.openings.ensures c.loop-start.invariant.4 c.join-in-loop-start.ensures,
+      inl (omega (arith, c.min-count.ensures)),
+      chunk-joined _ logs _ _ c.loop-start.start c.min-count.result c.loop-start.chunk _ room c.openings.ensures c.loop-start.invariant.3 c.join.ensures,
+      chunk-joined _ logs _ _ c.loop-start.start c.min-count.result c.loop-start.chunk _ room c.openings.ensures c.loop-start.invariant.4 c.join-in-loop-start.ensures,
     )
 
 pub shape_of-first : goal.shape_of-first

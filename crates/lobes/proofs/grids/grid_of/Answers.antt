@@ -5,7 +5,7 @@ use Rattle.lobes.proofs.grids.grid_of.Goals as goal
 pub returns : goal.returns
 unfolding grid_of
 returns c =
-    let partials = simp c.greater.ensures at c.lesser.ensures in
+    let partials = simp c.max.ensures at c.min.ensures in
     simp (
       partials,
       c.exp2-2.ensures,

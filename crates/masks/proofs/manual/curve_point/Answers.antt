@@ -11,4 +11,4 @@ returns-then-source_bins-eq0 c = sym (point-of-none c.args.bin c.args.size (omeg
 
 pub returns : goal.returns
 unfolding curve_point
-returns c = simp (c.lesser-2.ensures, c.lesser.ensures, halved)
+returns c = simp (c.min-2.ensures, c.min.ensures, halved)

@@ -22,7 +22,7 @@ overflow_mul-start c =
 pub loop-k-preserved : goal.loop-k-preserved
 loop-k-preserved c =
     let curve = c.args.curve.now in
-    (turned_more nan c.loop-k.invariant.0 (omega arith) (ap (λ i. get_or curve i nan) c.lesser.ensures), omega arith)
+    (turned_more nan c.loop-k.invariant.0 (omega arith) (ap (λ i. get_or curve i nan) c.min.ensures), omega arith)
 
 pub shape_of-row : goal.shape_of-row
 shape_of-row c = c.loop-k.invariant.0.len

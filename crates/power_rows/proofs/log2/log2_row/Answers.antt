@@ -15,8 +15,8 @@ loop-start-init c = (turned_none _ _ _, omega arith, refl, refl, refl, refl)
 
 pub loop-start-preserved : goal.loop-start-preserved
 loop-start-preserved c = (
-  subst (λ (l : List Float). Turned (λ i v. L2 v) 0 c.args.row.now l (c.loop-start.start + c.lesser-few.result)) (sym c.few_logs.ensures) (turned-part _ c.loop-start.invariant.0 (omega arith)),
-  omega (arith, c.lesser-few.ensures, c.loop-start.invariant.1),
+  subst (λ (l : List Float). Turned (λ i v. L2 v) 0 c.args.row.now l (c.loop-start.start + c.min-few.result)) (sym c.few_logs.ensures) (turned-part _ c.loop-start.invariant.0 (omega arith)),
+  omega (arith, c.min-few.ensures, c.loop-start.invariant.1),
   omega (arith, c.few_logs.auto.digits, c.loop-start.invariant.2),
   omega (arith, c.few_logs.auto.steps, c.loop-start.invariant.3),
   omega (arith, c.few_logs.auto.from, c.loop-start.invariant.4),
