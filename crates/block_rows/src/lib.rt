@@ -121,7 +121,7 @@ pub fn raise_partials(
     ensures { HasMost grid table.now (take count lobes) start end
         row.new }
 {
-    slices::fill(row, 0.0);
+    row.fill(0.0);
     let first = lobes[top];
     raise_in_row(
         row, chunk, indexes, gaussians, table, grid, first, start, end,

@@ -22,7 +22,7 @@ fn take_row(row: &mut [f32], from: &[f32], start: usize)
     requires { (length row.old ≡ 64) × (start < length from.now) }
     ensures { RowOf start from.now row.new }
 {
-    slices::fill(row, from[start]);
+    row.fill(from[start]);
     copy_row(row, from, start, BLOCK.min(from.len() - start));
 }
 

@@ -10,7 +10,6 @@ ghost use Rattle.decibels.specs.Gain.{decibels_per_decade, gain_of};
 use crate::{DECIBELS_PER_DECADE, gain};
 use power::table::PowerTable;
 use power_rows::exp2::pow10_row;
-use slices::fill_first;
 
 fn decades(row: &mut [f32], count: usize)
     requires { count ≤ length row.old }
@@ -60,7 +59,7 @@ pub fn gains(row: &mut [f32], powers: &PowerTable, count: usize)
 {
     if is_level(row, count) {
         let level = gain(powers, row[0]);
-        fill_first(row, level, count);
+        row[..count].fill(level);
         return;
     }
     decades(row, count);

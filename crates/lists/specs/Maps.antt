@@ -3,12 +3,13 @@
 -- For each its length and its entries. Assumes nothing.
 use Rattle.std.specs.Prelude.{◌≡◌, Bool, true, false, cond, ◌&&◌, leb, ltb, length, get_or}
 use Rattle.std.proofs.Math.Path.{refl, ap}
-use Rattle.std.proofs.Common.{sym, ◌∙◌, add-zero, zero-add, le_of_suc-le-suc, not-suc-le-zero, le_refl, arith, le-leb, lt-ltb, le-ltb, ext_get_or}
+use Rattle.std.proofs.Common.{replicate, drop, ◌++◌, length-append, sym, ◌∙◌, add-zero, zero-add, le_of_suc-le-suc, not-suc-le-zero, le_refl, arith, le-leb, lt-ltb, le-ltb, ext_get_or}
 use mathlib.Core.List.{List, [], ◌∷◌}
-use Prim.Native.Nat.{ℕ, zero, suc, ◌+◌, ◌≤◌, ◌<◌}
+use Prim.Native.Nat.{ℕ, zero, suc, ◌+◌, ◌-◌, ◌≤◌, ◌<◌}
 use Rattle.std.proofs.Math.Nat.{suc-add, add-suc}
 use Rattle.std.proofs.Math.Decide.{dec_lt}
 use Rattle.std.proofs.lemmas.Bool.{lt-leb}
+use Rattle.std.proofs.lemmas.List.{length-replicate, length-drop, get_or-replicate, get_or-drop, get_or_append_left, get_or-append_right}
 
 module _ {A B : Type 0} where
   -- g at each entry and its place, counted from j
@@ -115,3 +116,25 @@ module _ {A : Type 0} where
   -- an empty range changes nothing
   pub map_range-empty : (g : ℕ → A → A) (lo : ℕ) (xs : List A) → map_range g lo lo xs ≡ xs
   map_range-empty g lo xs = empty g lo 0 xs
+
+  -- ---- a value at every place, and at the first n places of a list
+  pub replicate-tabulate : (v : A) (n : ℕ) → replicate n v ≡ tabulate n (λ k. v)
+  replicate-tabulate v n =
+      ext_get_or v (replicate n v) (tabulate n (λ k. v)) (length-replicate n v ∙ sym (length-tab (λ k. v) 0 n))
+      (λ k h. let l : k < n = omega (arith, length-replicate n v) in get_or-replicate n k v v l ∙ sym (get_d_tabulate (λ k. v) n k v l))
+
+  pub replicate-front : (v : A) (n : ℕ) (xs : List A) → n ≤ length xs → replicate n v ++ drop n xs ≡ map_range (λ k x. v) 0 n xs
+  replicate-front v n xs h =
+      let front = length-replicate n v in
+      ext_get_or v (replicate n v ++ drop n xs) (map_range (λ k x. v) 0 n xs)
+      (omega (arith, front, length-append (replicate n v) (drop n xs), length-drop n xs, length-map_range (λ k x. v) 0 n xs))
+      (λ k l. at k (omega (arith, front, length-append (replicate n v) (drop n xs), length-drop n xs)) (dec_lt k n))
+    where
+      at : (k : ℕ) → k < length xs → Dec (k < n) → get_or (replicate n v ++ drop n xs) k v ≡ get_or (map_range (λ k x. v) 0 n xs) k v
+      at k l (yes m) =
+          get_or_append_left (replicate n v) (drop n xs) v k (omega (arith, length-replicate n v)) ∙ get_or-replicate n k v v m
+          ∙ sym (get_or-map_range (λ k x. v) 0 n xs k v l ∙ between_in (λ k x. v) 0 n k (get_or xs k v) (omega arith) m)
+      at k l (no m) =
+          get_or-append_right (replicate n v) (drop n xs) n k v (length-replicate n v) (omega arith)
+          ∙ get_or-drop n xs (k - n) v ∙ ap (λ (i : ℕ). get_or xs i v) (omega arith)
+          ∙ sym (get_or-map_range (λ k x. v) 0 n xs k v l ∙ between-high (λ k x. v) 0 n k (get_or xs k v) (omega arith))

@@ -47,7 +47,7 @@ fn open_mono(
             out, powers, sines, &gaussians, tabled, table, voices, count, grid,
         );
     } else {
-        slices::fill(out, 0.0);
+        out.fill(0.0);
     }
 }
 
@@ -80,8 +80,8 @@ fn open_sides(
             left, right, powers, sines, &gaussians, table, voices, count, grid,
         );
     } else {
-        slices::fill(left, 0.0);
-        slices::fill(right, 0.0);
+        left.fill(0.0);
+        right.fill(0.0);
     }
 }
 
@@ -136,7 +136,7 @@ pub fn build_two(
     // Centered voices give identical masks; copy rather than rebuild.
     if centers::all_centered(voices, count) {
         build_one(left, curve, voices, count, config, true, table);
-        slices::copy(left, right);
+        right.copy_from_slice(left);
         return;
     }
     let powers = power::table::power_table();

@@ -244,7 +244,7 @@ pub(crate) fn ones(row: &mut [f32], count: usize)
     requires { count ≤ length row.old }
     ensures { row.new ≡ map_range (λ k held. one) 0 count row.old }
 {
-    slices::fill_first(row, 1.0, count);
+    row[..count].fill(1.0);
 }
 
 // Replaces each of the first `count` positions by the shape's openness there.

@@ -18,7 +18,6 @@ use lobes::octaves::partial_octaves;
 use power::table::PowerTable;
 use scene::MaskVoice;
 use sine::table::SineTable;
-use slices::fill;
 use voices::raise_voices;
 
 pub mod raise;
@@ -92,7 +91,7 @@ pub fn open_one(
     let mut highs = [0.0f32; BLOCKS];
     let octaves = partial_octaves();
     let compact = walks(tabled, grid);
-    fill(out, 0.0);
+    out.fill(0.0);
     ends_where(compact, &mut lows, &mut highs, &mut chunk, table);
     let way = Way {
         tabled,
@@ -143,8 +142,8 @@ pub fn open_two(
     let mut highs = [0.0f32; BLOCKS];
     let octaves = partial_octaves();
     let compact = block_walk_pays(grid);
-    fill(left, 0.0);
-    fill(right, 0.0);
+    left.fill(0.0);
+    right.fill(0.0);
     ends_where(compact, &mut lows, &mut highs, &mut chunk, table);
     let way = Way {
         tabled: true,

@@ -117,7 +117,7 @@ pub fn soften(source: &[f32], output: &mut [f32])
     requires { length source.now ≡ length output.old }
     ensures { output.new ≡ softened_of source.now }
 {
-    slices::copy(source, output);
+    output.copy_from_slice(source);
     if source.len() < 3 {
         return;
     }

@@ -1,6 +1,7 @@
 -- `raise_partials` joins the lobes to a row of zeros, the one at `top` first: what is left to join
 -- makes of the row what all of them make of it, and joining the first again would change nothing.
 -- Assumes nothing.
+use Rattle.lists.specs.Maps.{replicate-tabulate}
 use mathlib.Core.Path.{◌≡◌, sym, ◌∙◌, subst}
 use Prim.Native.Nat.{ℕ, ◌-◌, ◌≤◌}
 use native.Mathlib.Omega.{arith}
@@ -28,7 +29,7 @@ pub least_from-least-requires : goal.least_from-least-requires
 least_from-least-requires c =
     let l : length c.args.lobes ≡ 24 = c.well_formed.1.1.1.1.1.1.1.0.1.0.1 in
     let few : c.args.count ≤ length c.args.lobes = omega (arith, l, c.requires.0.few) in
-    let j = joining-start c.args.grid c.args.table.now c.args.lobes c.args.count c.requires.0.sound few c.args.start c.args.end c.args.top c.requires.2.top-inside _ _ c.fill.ensures c.raise_in_row.ensures in
+    let j = joining-start c.args.grid c.args.table.now c.args.lobes c.args.count c.requires.0.sound few c.args.start c.args.end c.args.top c.requires.2.top-inside _ _ (c.fill.ensures.after (λ y e. e) ∙ replicate-tabulate _ _) c.raise_in_row.ensures in
     (omega (arith, c.raise_in_row.auto.chunk, c.requires.0.scratch.chunk-64), joining-numbers c.args.grid c.args.table.now c.args.lobes c.args.count c.requires.0.sound few c.args.start c.args.end c.args.top c.requires.2.top-inside 0 64 0 j)
 
 pub loop-p-init : goal.loop-p-init
@@ -39,7 +40,7 @@ loop-p-init c = (
   omega (arith, c.raise_in_row.auto.indexes, c.requires.0.scratch.indexes-64),
   omega arith,
   c.least_from-least.ensures.0,
-  λ sound few inside. joining-start c.args.grid c.args.table.now c.args.lobes c.args.count sound few c.args.start c.args.end c.args.top inside _ _ c.fill.ensures c.raise_in_row.ensures,
+  λ sound few inside. joining-start c.args.grid c.args.table.now c.args.lobes c.args.count sound few c.args.start c.args.end c.args.top inside _ _ (c.fill.ensures.after (λ y e. e) ∙ replicate-tabulate _ _) c.raise_in_row.ensures,
 )
 
 pub offset_bounds-lobes-p : goal.offset_bounds-lobes-p

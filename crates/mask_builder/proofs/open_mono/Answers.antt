@@ -1,5 +1,6 @@
 -- `open_mono` meets its contract, with the note layer on and off. Assumes nothing.
-use mathlib.Core.Path.{◌≡◌}
+use Rattle.lists.specs.Maps.{replicate-tabulate}
+use mathlib.Core.Path.{◌∙◌, ◌≡◌}
 use Prim.Native.Nat.{◌/◌}
 use native.Mathlib.Omega.{arith}
 use Rattle.mask_builder.proofs.Built.{grid-partials, grid-last, opened, shut}
@@ -23,4 +24,4 @@ returns-then-config c =
     opened _ _ _ _ _ c.grid_of-grid.result c.grid_of-grid.ensures c.if-config.true c.open_one.ensures
 
 pub returns-else-config : goal.returns-else-config
-returns-else-config c = shut _ _ _ _ _ c.if-config.false c.fill.ensures
+returns-else-config c = shut _ _ _ _ _ c.if-config.false (c.fill.ensures.after (λ y e. e) ∙ replicate-tabulate _ _)

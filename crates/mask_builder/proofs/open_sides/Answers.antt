@@ -1,5 +1,6 @@
 -- `open_sides` meets its contract, with the note layer on and off. Assumes nothing.
-use mathlib.Core.Path.{◌≡◌}
+use Rattle.lists.specs.Maps.{replicate-tabulate}
+use mathlib.Core.Path.{◌∙◌, ◌≡◌}
 use Prim.Native.Nat.{◌/◌}
 use native.Mathlib.Omega.{arith}
 use Rattle.mask_builder.proofs.Built.{grid-partials, grid-last, opened, shut}
@@ -26,4 +27,4 @@ returns-then-config c =
 pub returns-else-config : goal.returns-else-config
 returns-else-config c =
     let off = c.if-config.false in
-    record { left_after = shut _ _ _ _ _ off c.fill.ensures; right_after = shut _ _ _ _ _ off c.fill-else-config.ensures }
+    record { left_after = shut _ _ _ _ _ off (c.fill.ensures.after (λ y e. e) ∙ replicate-tabulate _ _); right_after = shut _ _ _ _ _ off (c.fill-else-config.ensures.after (λ y e. e) ∙ replicate-tabulate _ _) }

@@ -1,5 +1,6 @@
 -- `open_one` joins the voices onto 0. Assumes nothing.
-use mathlib.Core.Path.{◌≡◌, refl}
+use Rattle.lists.specs.Maps.{replicate-tabulate}
+use mathlib.Core.Path.{◌∙◌, ◌≡◌, refl}
 use native.Mathlib.Omega.{arith}
 use lib.ListN.{length}
 use Rattle.openness.proofs.Opened.{opened}
@@ -41,7 +42,7 @@ raise_voices-requires c =
                         ends = c.ends_where.ensures e;
                         table-real = k.table-real;
                       };
-                  sides = record { first-open = zeros-open _ c.fill.ensures; second-open = one-zero-open };
+                  sides = record { first-open = zeros-open _ (c.fill.ensures.after (λ y e. e) ∙ replicate-tabulate _ _); second-open = one-zero-open };
                 };
             grid-real = k.grid-real;
             voices-real = k.voices-real;
@@ -50,4 +51,4 @@ raise_voices-requires c =
 
 pub returns : goal.returns
 returns c =
-    opened _ _ _ _ _ c.fill.ensures c.raise_voices.ensures.0
+    opened _ _ _ _ _ (c.fill.ensures.after (λ y e. e) ∙ replicate-tabulate _ _) c.raise_voices.ensures.0

@@ -1,5 +1,6 @@
 -- `open_two` joins the voices onto 0 on both sides. Assumes nothing.
-use mathlib.Core.Path.{◌≡◌, refl}
+use Rattle.lists.specs.Maps.{replicate-tabulate}
+use mathlib.Core.Path.{◌∙◌, ◌≡◌, refl}
 use native.Mathlib.Omega.{arith}
 use lib.ListN.{length}
 use Rattle.openness.proofs.Opened.{opened}
@@ -35,7 +36,7 @@ raise_voices-requires c =
                         ends = c.ends_where.ensures e;
                         table-real = k.table-real;
                       };
-                  sides = record { first-open = zeros-open _ c.fill.ensures; second-open = zeros-open _ c.fill-2.ensures };
+                  sides = record { first-open = zeros-open _ (c.fill.ensures.after (λ y e. e) ∙ replicate-tabulate _ _); second-open = zeros-open _ (c.fill-2.ensures.after (λ y e. e) ∙ replicate-tabulate _ _) };
                 };
             grid-real = k.grid-real;
             voices-real = k.voices-real;
@@ -44,4 +45,4 @@ raise_voices-requires c =
 
 pub returns : goal.returns
 returns c =
-    (opened _ _ _ _ _ c.fill.ensures c.raise_voices.ensures.0, opened _ _ _ _ _ c.fill-2.ensures c.raise_voices.ensures.1)
+    (opened _ _ _ _ _ (c.fill.ensures.after (λ y e. e) ∙ replicate-tabulate _ _) c.raise_voices.ensures.0, opened _ _ _ _ _ (c.fill-2.ensures.after (λ y e. e) ∙ replicate-tabulate _ _) c.raise_voices.ensures.1)
