@@ -27,8 +27,6 @@ pub fn nothing_rises(
         (NotAbove (mul binary32 bound gains.second) start (start + 64)
         second.now) }
 {
-    if bound * gains.first <= least_from(scratch, first, start) {
-        return bound * gains.second <= least_from(scratch, second, start);
-    }
-    false
+    bound * gains.first <= least_from(scratch, first, start)
+        && bound * gains.second <= least_from(scratch, second, start)
 }

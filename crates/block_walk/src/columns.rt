@@ -98,10 +98,7 @@ pub fn block_of(bin: usize) -> usize
 // units of the fundamental, partial n reaches from n times the lower ratio to n times the upper
 // one.
 pub fn block_walk_pays(grid: Grid) -> bool {
-    if grid.partials < 3 {
-        return false;
-    }
-    if grid.partials > MAX_PARTIALS {
+    if grid.partials < 3 || grid.partials > MAX_PARTIALS {
         return false;
     }
     let partials = grid.partials as f32;

@@ -46,7 +46,7 @@ pub fn abs(x: f32) -> f32
 pub fn in_range(x: f32, lo: f32, hi: f32) -> bool
     ensures { result ≡ within lo hi x }
 {
-    if lo <= x { x <= hi } else { false }
+    lo <= x && x <= hi
 }
 
 // Neither NaN nor infinite: for both, x - x is NaN.

@@ -49,7 +49,7 @@ pub fn bins(size: usize) -> usize
 pub fn window_length(n: usize) -> bool
     ensures { result ≡ window_length n }
 {
-    if 1 <= n { n <= MOST_WINDOW } else { false }
+    1 <= n && n <= MOST_WINDOW
 }
 
 // Whether a list of gains can be this long.

@@ -179,11 +179,7 @@ pub fn note(n: u8) -> bool
 pub fn partials(n: usize) -> bool
     ensures { result ≡ partials n }
 {
-    if 1 <= n {
-        n <= lengths::MAX_PARTIALS
-    } else {
-        false
-    }
+    1 <= n && n <= lengths::MAX_PARTIALS
 }
 
 pub fn bin(n: usize) -> bool
@@ -204,11 +200,5 @@ pub fn size(n: usize) -> bool
 pub fn overlap(n: usize, length: usize) -> bool
     ensures { result ≡ overlap n length }
 {
-    if n < 1 {
-        return false;
-    }
-    if lengths::MOST_OVERLAP < n {
-        return false;
-    }
-    length % n == 0
+    1 <= n && n <= lengths::MOST_OVERLAP && length % n == 0
 }

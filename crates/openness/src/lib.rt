@@ -61,10 +61,7 @@ fn ends_where(compact: bool, lows: &mut [f32], highs: &mut [f32], row: &mut [f32
 fn walks(tabled: bool, grid: Grid) -> bool
     ensures { result ≡ true → tabled ≡ true }
 {
-    if tabled {
-        return block_walk_pays(grid);
-    }
-    false
+    tabled && block_walk_pays(grid)
 }
 
 // The openness of a mono mask.

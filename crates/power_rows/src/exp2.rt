@@ -25,7 +25,7 @@ const ROW: usize = 64;
 fn is_between(x: f32) -> bool
     ensures { result ≡ between x }
 {
-    if LOWEST <= x { x < LIMIT } else { false }
+    LOWEST <= x && x < LIMIT
 }
 
 fn clipped(x: f32) -> f32
