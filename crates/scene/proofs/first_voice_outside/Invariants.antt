@@ -13,7 +13,4 @@ abbrev pub accepted : ℕ → MaskVoice → Bool
 accepted index voice = voice_accepted voice
 
 abbrev pub invariant-loop-i : goal.invariant-loop-i
-invariant-loop-i l = (l.i ≤ l.count) × (first_bad_from accepted l.i (drop l.i (take l.count l.voices)) ≡ first_bad accepted (take l.count l.voices))
-
-abbrev pub decreases-loop-i : goal.decreases-loop-i
-decreases-loop-i l = l.count - l.i
+invariant-loop-i l = first_bad_from accepted l.i (drop l.i (take l.count l.voices)) ≡ first_bad accepted (take l.count l.voices)
