@@ -5,6 +5,7 @@ pub mod levels;
 pub mod pitches;
 
 ghost use Rattle.std.specs.Prelude.{◌≡◌, ◌&&◌, ◌≤◌, ◌<◌, replicate};
+ghost use Rattle.limits.specs.Found.{Finds};
 ghost use Rattle.limits.specs.Lengths.{most_voices};
 ghost use Rattle.scene.specs.Accepted.{motion_accepted, size_accepted, settings_accepted};
 ghost use Rattle.scene.specs.Accepted.{voice_accepted, first_voice_outside};

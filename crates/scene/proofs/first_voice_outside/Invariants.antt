@@ -2,7 +2,7 @@
 -- voices, finds what the whole search finds. Assumes nothing.
 use mathlib.Core.Path.{◌≡◌}
 use mathlib.Core.Bool.{Bool}
-use Prim.Native.Nat.{ℕ, ◌≤◌, ◌-◌}
+use Prim.Native.Nat.{ℕ}
 use lib.ListN.{take, drop}
 use Rattle.lists.specs.Folds.{first_bad_from, first_bad}
 use Rattle.scene.specs.declared.MaskVoice.{MaskVoice}
