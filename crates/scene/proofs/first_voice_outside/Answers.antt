@@ -1,12 +1,11 @@
 -- `scene::first_voice_outside` meets its contract: the search from here on, among the first `count`
 -- voices, finds what the whole search finds. Assumes nothing.
 use mathlib.Core.Path.{◌≡◌, refl, sym, ◌∙◌}
-use Prim.Native.Nat.{◌-◌}
 use native.Mathlib.Omega.{arith}
 use lib.ListN.{length}
 use borrow.Author.Rules.{rules}
 use Rattle.lists.specs.Folds.{rest-next, rest-none, bad-step, bad-stop, bad-end}
-use Rattle.scene.specs.Accepted.{voice_accepted, no_voice}
+use Rattle.scene.specs.Accepted.{no_voice}
 use Rattle.scene.proofs.first_voice_outside.Invariants.{accepted}
 use Rattle.scene.proofs.first_voice_outside.Goals as goal
 
