@@ -20,9 +20,9 @@ pub fn motion_of(
     let shape = MotionShape::try_from(shape)?;
     Ok(MotionConfig {
         shape,
-        depth_db: depth_db,
-        phase: phase,
-        size_octaves: size_octaves,
+        depth_db,
+        phase,
+        size_octaves,
     })
 }
 
@@ -44,13 +44,14 @@ pub struct Settings {
 }
 
 // A shape outside 0..7 is refusal 2, unless refusal 1 comes first.
+#[tactic(auto, unfolding(scene::specs::Accepted::size_accepted))]
 fn shape_refused(settings: Settings) -> Refusal
     ensures { of_refusal result ≡ shape_reply settings }
 {
     if limits::size(settings.fft_size) && limits::rate(settings.sample_rate) {
-        return Refusal::from(Reason::Setting);
+        return Reason::Setting.into();
     }
-    Refusal::from(Reason::SizeOrRate)
+    Reason::SizeOrRate.into()
 }
 
 impl TryFrom<Settings> for MaskConfig {
