@@ -31,9 +31,6 @@ move_row-requires c =
       decibels-at c.loop-start.start c.min-count.result c.loop-start.current c.loop-start.current_db room c.decibel_row.ensures,
     )
 
-pub loop-start-smaller : goal.loop-start-smaller
-loop-start-smaller c = omega (arith, c.min-count.ensures)
-
 pub loop-start-preserved : goal.loop-start-preserved
 loop-start-preserved c =
     let a = c.args in

@@ -30,9 +30,6 @@ soften_row-requires c = (
   omega (arith, c.min-count.ensures, c.loop-start.invariant.0, c.decibel_row.auto.row),
 )
 
-pub loop-start-smaller : goal.loop-start-smaller
-loop-start-smaller c = omega (arith, c.min-count.ensures)
-
 pub loop-start-preserved : goal.loop-start-preserved
 loop-start-preserved c =
     let a = c.args in

@@ -26,10 +26,6 @@ openings-requires c = (
   },
 )
 
-pub loop-start-smaller : goal.loop-start-smaller
-loop-start-smaller c =
-    omega (arith, c.loop-start-test.true, c.min-count.ensures, c.loop-start.invariant.0, c.requires.0.chunk-64)
-
 pub loop-start-preserved : goal.loop-start-preserved
 loop-start-preserved c =
     let logs = logs_of c.args.tabled c.args.table.now in
