@@ -62,12 +62,9 @@ pub fn block_ends(lows: &mut [f32], highs: &mut [f32], row: &mut [f32], table: &
         × Numbers 1 (length table.now) table.now }
     ensures { Ends table.now lows.new highs.new }
 {
-    let mut block: usize = 0;
-    let mut start: usize = 1;
-    while start < table.len() {
+    for start in (1..table.len()).step_by(BLOCK) {
+        let block = start / BLOCK;
         lows[block] = least_from(row, table, start);
         highs[block] = greatest_from(row, table, start);
-        block += 1;
-        start += BLOCK;
     }
 }

@@ -24,8 +24,8 @@ pub(crate) fn copy_row(row: &mut [f32], from: &[f32], start: usize, count: usize
 pub(crate) fn negate(row: &mut [f32])
     ensures { row.new ≡ map_at (λ k held. neg held) row.old }
 {
-    for k in 0..row.len() {
-        row[k] = -row[k];
+    for x in row.iter_mut() {
+        *x = -*x;
     }
 }
 

@@ -2,7 +2,7 @@
 -- of the part before it, and a run over a list at each entry. Assumes nothing.
 use Rattle.std.specs.Prelude.{◌≡◌, ◌⊎◌, length, get_or, set}
 use Rattle.std.proofs.Math.Path.{refl, ap}
-use Rattle.std.proofs.Common.{sym, ◌∙◌, arith, lt-ltb, le-ltb}
+use Rattle.std.proofs.Common.{sym, subst, ◌∙◌, arith, lt-ltb, le-ltb}
 use mathlib.Core.List.{List, [], ◌∷◌}
 use Prim.Native.Nat.{ℕ, zero, suc, ◌+◌, ◌≤◌, ◌<◌, min}
 use Rattle.std.proofs.Math.Decide.{dec_lt}
@@ -73,6 +73,11 @@ module _ {A : Type 0} where
           between_in g i j k (between lo i g k x) (omega arith) q ∙ ap (g k) (between-high g lo i k x (omega arith)) ∙ sym (between_in g lo j k x (omega arith) q)
       at k x b (no p) (no q) =
           between-high g i j k (between lo i g k x) (omega arith) ∙ between-high g lo i k x (omega arith) ∙ sym (between-high g lo j k x (omega arith))
+
+  -- the part of n entries after what is done, which ends at j
+  pub turned-by : {g : ℕ → A → A} {lo : ℕ} {xs₀ xs ys : List A} {i : ℕ} (n j : ℕ) → Turned g lo xs₀ xs i → ys ≡ map_range g i (i + n) xs → i + n ≡ j → Turned g lo xs₀ ys j
+  turned-by {g} {lo} {xs₀} {xs} {ys} {i} n j t e w =
+      subst (λ (k : ℕ). Turned g lo xs₀ ys k) w (subst (λ (l : List A). Turned g lo xs₀ l (i + n)) (sym e) (turned-part (i + n) t (omega arith)))
 
 -- ---- a run over the list l at each entry, which is where the run starts
 module _ {A S : Type 0} (step : ℕ → S → A → S) where

@@ -16,7 +16,7 @@ use Rattle.lobes.specs.Distance.{Logs}
 use Rattle.lobes.specs.Lobe.{opening}
 use Rattle.lobe_joins.specs.Joined.{joined, lobe_joined}
 use Rattle.lobe_joins.proofs.Reached.{lobe-there, lobe-away}
-use Rattle.lists.specs.Runs.{map_same, turned-part}
+use Rattle.lists.specs.Runs.{map_same, turned-by}
 use Rattle.lists.specs.Stages.{stage-same}
 
 module _ (grid : Grid) (logs : Logs) (lobe : Lobe) (gain : Float) where
@@ -24,12 +24,12 @@ module _ (grid : Grid) (logs : Logs) (lobe : Lobe) (gain : Float) where
   abbrev pub reached : ℕ → Float → Float
   reached bin held = joined gain held (opening grid logs lobe bin)
 
-  -- one chunk
-  pub chunk-joined : (start count : ℕ) (before chunk : List Float) → count ≤ length before
+  -- one chunk, which ends at `next`
+  pub chunk-joined : (start count next : ℕ) (before chunk : List Float) → count ≤ length before → start + count ≡ next
       → chunk ≡ map_range (λ k held. opening grid logs lobe (start + k)) 0 count before → {xs₀ xs ys : List Float} {lo : ℕ} → Turned reached lo xs₀ xs start
-      → ys ≡ map_range (λ bin held. joined gain held (get_or chunk (bin - start) nan)) start (start + count) xs → Turned reached lo xs₀ ys (start + count)
-  chunk-joined start count before chunk room e {xs₀} {xs} {ys} {lo} t w =
-      rw (w ∙ stage-same (λ bin held. joined gain held (get_or chunk (bin - start) nan)) reached start (start + count) xs at) (turned-part (start + count) t (omega arith))
+      → ys ≡ map_range (λ bin held. joined gain held (get_or chunk (bin - start) nan)) start (start + count) xs → Turned reached lo xs₀ ys next
+  chunk-joined start count next before chunk room end e {xs₀} {xs} {ys} {lo} t w =
+      turned-by count next t (w ∙ stage-same (λ bin held. joined gain held (get_or chunk (bin - start) nan)) reached start (start + count) xs at) end
     where
       f : ℕ → Float → Float
       f k held = opening grid logs lobe (start + k)

@@ -37,16 +37,15 @@ fn raise_lobe(
         second.old) }
 {
     let end = lobe.last_bin + 1;
-    let mut start = lobe.first_bin;
-    while start < end {
-        let count = (end - start).min(chunk.len());
+    let room = chunk.len();
+    for start in (lobe.first_bin..end).step_by(room) {
+        let count = (end - start).min(room);
         let next = start + count;
         openings(
             chunk, indexes, powers, gaussians, tabled, table, grid, lobe, start, count,
         );
         join(first, chunk, gains.first, start, next);
         join(second, chunk, gains.second, start, next);
-        start = next;
     }
 }
 

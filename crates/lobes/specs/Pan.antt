@@ -10,12 +10,8 @@ use Rattle.float32.specs.Order.{clamp, finite}
 use Rattle.float32.specs.Remainder.{zero, one}
 use Rattle.sine.specs.Sine.{sin_of, cos_of}
 use Rattle.scene.specs.declared.MaskVoice.{MaskVoice}
-
--- which mask is built: mono, or one side of a stereo pair
-pub data Side : Type 0 where
-  mono : Side
-  left : Side
-  right : Side
+pub use Rattle.lobes.specs.declared.pan.Side.{Side}
+pub use Rattle.lobes.specs.declared.pan.Side.TheVariants.{Mono as mono, Left as left, Right as right}
 
 abbrev pub hard_left : Float
 hard_left = of_bits binary32 0xbf80_0000

@@ -2,8 +2,7 @@
 // balance.
 ghost use Rattle.std.specs.Prelude.{◌≡◌};
 ghost use Rattle.sine.specs.Table.{sine_table};
-ghost use Rattle.lobes.specs.Pan.{mono, left, right, balance, pan_of, expression_of};
-ghost use Rattle.lobes.specs.Pan.{channel_gain};
+ghost use Rattle.lobes.specs.Pan.{balance, pan_of, expression_of, channel_gain};
 
 use float32::constants::{FRAC_PI_4, SQRT_2};
 use float32::order::{clamp, is_finite};
@@ -16,8 +15,16 @@ const HARD_RIGHT: f32 = 1.0;
 
 const MAX_EXPRESSION_GAIN: f32 = 4.0;
 
-// The balance of a mono mask.
+// The balance at the center, and of a mono mask.
 const UNITY: f32 = 1.0;
+
+// Which mask is built: mono, or one side of a stereo pair.
+#[derive(Clone, Copy, Debug, PartialEq, Eq)]
+pub enum Side {
+    Mono,
+    Left,
+    Right,
+}
 
 pub fn pan_of(voice: MaskVoice) -> f32
     ensures { result ≡ pan_of voice }
@@ -40,44 +47,24 @@ fn expression_of(voice: MaskVoice) -> f32
 }
 
 // Constant-power pan law with unity at center. The center and the silent far side are exact.
-fn left_balance(sines: &SineTable, pan: f32) -> f32
-    ensures { result ≡ balance left pan }
+fn balance(sines: &SineTable, side: Side, pan: f32) -> f32
+    ensures { result ≡ balance side pan }
 {
     if pan == 0.0 {
-        return 1.0;
+        return UNITY;
     }
-    if pan == HARD_RIGHT {
-        return 0.0;
+    let angle = (pan + 1.0) * FRAC_PI_4;
+    match side {
+        Side::Mono => UNITY,
+        Side::Left if pan == HARD_RIGHT => 0.0,
+        Side::Left => sine::cos(sines, angle) * SQRT_2,
+        Side::Right if pan == HARD_LEFT => 0.0,
+        Side::Right => sine::sin(sines, angle) * SQRT_2,
     }
-    sine::cos(sines, (pan + 1.0) * FRAC_PI_4) * SQRT_2
 }
 
-fn right_balance(sines: &SineTable, pan: f32) -> f32
-    ensures { result ≡ balance right pan }
+pub fn channel_gain(sines: &SineTable, side: Side, voice: MaskVoice) -> f32
+    ensures { result ≡ channel_gain side voice }
 {
-    if pan == 0.0 {
-        return 1.0;
-    }
-    if pan == HARD_LEFT {
-        return 0.0;
-    }
-    sine::sin(sines, (pan + 1.0) * FRAC_PI_4) * SQRT_2
-}
-
-pub fn mono_gain(voice: MaskVoice) -> f32
-    ensures { result ≡ channel_gain mono voice }
-{
-    expression_of(voice) * UNITY
-}
-
-pub fn left_gain(sines: &SineTable, voice: MaskVoice) -> f32
-    ensures { result ≡ channel_gain left voice }
-{
-    expression_of(voice) * left_balance(sines, pan_of(voice))
-}
-
-pub fn right_gain(sines: &SineTable, voice: MaskVoice) -> f32
-    ensures { result ≡ channel_gain right voice }
-{
-    expression_of(voice) * right_balance(sines, pan_of(voice))
+    expression_of(voice) * balance(sines, side, pan_of(voice))
 }

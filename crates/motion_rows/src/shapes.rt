@@ -173,8 +173,7 @@ fn drifts(row: &mut [f32], sines: &SineTable, size: f32, phase: f32, count: usiz
     let mut broad = [0.0f32; ROW];
     let mut middle = [0.0f32; ROW];
     let mut detail = [0.0f32; ROW];
-    let mut start: usize = 0;
-    while start < count {
+    for start in (0..count).step_by(ROW) {
         let few = (count - start).min(ROW);
         few_drifts(
             row,
@@ -187,7 +186,6 @@ fn drifts(row: &mut [f32], sines: &SineTable, size: f32, phase: f32, count: usiz
             start,
             few,
         );
-        start += few;
     }
 }
 

@@ -15,7 +15,7 @@ use gaussian::GaussianTable;
 use limits::lengths::MOST_VOICES;
 use lobe_rows::Gains;
 use lobes::octaves::PartialOctaves;
-use lobes::pan::{left_gain, mono_gain, right_gain};
+use lobes::pan::{Side, channel_gain};
 use lobes::tones::tone_of;
 use power::table::PowerTable;
 use scene::MaskVoice;
@@ -31,11 +31,11 @@ fn gains_of(sines: &SineTable, stereo: bool, voice: MaskVoice) -> Gains
 {
     if stereo {
         return Gains {
-            first: left_gain(sines, voice),
-            second: right_gain(sines, voice),
+            first: channel_gain(sines, Side::Left, voice),
+            second: channel_gain(sines, Side::Right, voice),
         };
     }
-    let gain = mono_gain(voice);
+    let gain = channel_gain(sines, Side::Mono, voice);
     Gains {
         first: gain,
         second: gain,

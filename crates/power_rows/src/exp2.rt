@@ -152,8 +152,7 @@ pub fn exp2_row(row: &mut [f32], powers: &PowerTable, count: usize)
     let mut inside = [0.0f32; ROW];
     let mut found = [0u32; ROW];
     let mut values = [0u32; ROW];
-    let mut start: usize = 0;
-    while start < count {
+    for start in (0..count).step_by(ROW) {
         let few = (count - start).min(ROW);
         few_powers(
             row,
@@ -164,7 +163,6 @@ pub fn exp2_row(row: &mut [f32], powers: &PowerTable, count: usize)
             start,
             few,
         );
-        start += few;
     }
 }
 

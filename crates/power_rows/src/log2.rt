@@ -139,8 +139,7 @@ pub fn log2_row(row: &mut [f32], powers: &PowerTable, count: usize)
     let mut steps = [0u32; ROW];
     let mut from = [0u32; ROW];
     let mut to = [0u32; ROW];
-    let mut start: usize = 0;
-    while start < count {
+    for start in (0..count).step_by(ROW) {
         let few = (count - start).min(ROW);
         few_logs(
             row,
@@ -152,7 +151,6 @@ pub fn log2_row(row: &mut [f32], powers: &PowerTable, count: usize)
             start,
             few,
         );
-        start += few;
     }
 }
 

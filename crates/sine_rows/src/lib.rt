@@ -155,8 +155,7 @@ fn waves_ahead(row: &mut [f32], sines: &SineTable, count: usize, ahead: u64)
     let mut found = [0u32; ROW];
     let mut indexes = [0u32; ROW];
     let mut parts = [0u32; ROW];
-    let mut start: usize = 0;
-    while start < count {
+    for start in (0..count).step_by(ROW) {
         let few = (count - start).min(ROW);
         waves(
             row,
@@ -168,7 +167,6 @@ fn waves_ahead(row: &mut [f32], sines: &SineTable, count: usize, ahead: u64)
             few,
             ahead,
         );
-        start += few;
     }
 }
 

@@ -101,13 +101,11 @@ fn soften_inside(powers: &PowerTable, source: &[f32], output: &mut [f32])
 {
     let last = source.len() - 1;
     let mut row = [0.0f32; ROW];
-    let mut start: usize = 1;
-    while start < last {
+    for start in (1..last).step_by(INSIDE) {
         let count = (last - start).min(INSIDE);
         let stop = start + count;
         decibel_row(&mut row, source, powers, start - 1, count + 2);
         soften_row(output, &row, powers, start, stop);
-        start = stop;
     }
 }
 
@@ -173,14 +171,12 @@ fn smooth_all(powers: &PowerTable, current: &mut [f32], target: &[f32], elapsed_
     let part = blend(powers, elapsed_seconds);
     let mut current_db = [0.0f32; ROW];
     let mut target_db = [0.0f32; ROW];
-    let mut start: usize = 0;
-    while start < current.len() {
+    for start in (0..current.len()).step_by(ROW) {
         let count = (current.len() - start).min(ROW);
         let stop = start + count;
         decibel_row(&mut current_db, current, powers, start, count);
         decibel_row(&mut target_db, target, powers, start, count);
         move_row(current, &current_db, &target_db, powers, part, start, stop);
-        start = stop;
     }
 }
 

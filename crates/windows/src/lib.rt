@@ -49,8 +49,8 @@ fn sum(window: &[f32]) -> f32
     ensures { result ≡ sum_of window.now }
 {
     let mut total: f32 = 0.0;
-    for index in 0..window.len() {
-        total = total + window[index];
+    for &value in window {
+        total = total + value;
     }
     total
 }

@@ -1,12 +1,9 @@
 -- `waves_ahead` walks along the row: the angles below `start` are done. Assumes nothing.
-use mathlib.Core.Path.{refl, sym, subst}
+use mathlib.Core.Path.{refl}
 use mathlib.Core.Logic.{inl}
-use mathlib.Core.List.{List}
-use Prim.Native.Nat.{◌+◌, ◌-◌}
 use native.Mathlib.Omega.{arith}
-use lib.Ieee.{Float}
 use Rattle.lists.specs.Turned.{Turned, turned_none, turned-to}
-use Rattle.lists.specs.Runs.{turned-part}
+use Rattle.lists.specs.Runs.{turned-by}
 use Rattle.sine.specs.Sine.{wave}
 use Rattle.sine.specs.Rows.{place_ahead}
 use Rattle.sine_rows.proofs.waves_ahead.Goals as goal
@@ -16,7 +13,7 @@ loop-start-init c = (turned_none _ _ _, omega arith, refl, refl, refl)
 
 pub loop-start-preserved : goal.loop-start-preserved
 loop-start-preserved c = (
-  subst (λ (l : List Float). Turned (λ i angle. wave (place_ahead c.args.ahead angle)) 0 c.args.row.now l (c.loop-start.start + c.min-few.result)) (sym c.waves.ensures) (turned-part _ c.loop-start.invariant.0 (omega arith)),
+  turned-by _ _ c.loop-start.invariant.0 c.waves.ensures (omega (arith, c.min-few.ensures)),
   omega (arith, c.min-few.ensures, c.loop-start.invariant.1),
   omega (arith, c.waves.auto.found, c.loop-start.invariant.2),
   omega (arith, c.waves.auto.indexes, c.loop-start.invariant.3),
@@ -28,3 +25,7 @@ shape_of-row c = c.loop-start.invariant.0.len
 
 pub returns : goal.returns
 returns c = turned-to _ c.loop-start.invariant.0 (inl c.loop-start.invariant.1) (omega arith)
+
+pub returns-2 : goal.returns-2
+returns-2 c =
+    (turned-by _ c.args.count c.loop-start.invariant.0 c.waves.ensures (omega (arith, c.min-few.ensures))).is

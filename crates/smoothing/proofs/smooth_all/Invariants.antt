@@ -11,6 +11,3 @@ use Rattle.smoothing.proofs.smooth_all.Given as goal
 abbrev pub invariant-loop-start : goal.invariant-loop-start
 invariant-loop-start l =
     (length l.current_db ≡ 64) × (length l.target_db ≡ 64) × (l.start ≤ length l.initial.current) × Turned (λ b x. toward (blend_of l.elapsed_seconds) x (get_or l.target b nan)) 0 l.initial.current l.current l.start
-
-abbrev pub decreases-loop-start : goal.decreases-loop-start
-decreases-loop-start l = length l.initial.current - l.start

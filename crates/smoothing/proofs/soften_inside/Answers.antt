@@ -5,8 +5,8 @@ use Prim.Native.Nat.{◌+◌, ◌-◌, ◌≤◌}
 use native.Mathlib.Omega.{arith}
 use borrow.Author.Rules.{rules}
 use lib.ListN.{length}
-use lib.Ieee.{nan}
-use Rattle.lists.specs.Turned.{turned_none, turned_on, turned-to}
+use Rattle.lists.specs.Turned.{turned_none, turned-to}
+use Rattle.lists.specs.Runs.{turned-by}
 use Rattle.smoothing.proofs.Rows.{softened-inside}
 use Rattle.smoothing.proofs.soften_inside.Goals as goal
 
@@ -30,18 +30,22 @@ soften_row-requires c = (
   omega (arith, c.min-count.ensures, c.loop-start.invariant.0, c.decibel_row.auto.row),
 )
 
-pub loop-start-smaller : goal.loop-start-smaller
-loop-start-smaller c = omega (arith, c.min-count.ensures)
-
 pub loop-start-preserved : goal.loop-start-preserved
 loop-start-preserved c =
     let a = c.args in
     let room : c.min-count.result + 2 ≤ length c.loop-start.row = omega (arith, c.min-count.ensures, c.loop-start.invariant.0) in
     let e = softened-inside c.loop-start.start c.min-count.result a.source.now c.loop-start.row c.loop-start.output c.loop-start.invariant.2.low room c.decibel_row.ensures c.soften_row.ensures in
-    (search rules, omega (arith, c.min-count.ensures, c.loop-start.invariant.1), turned_on nan _ c.loop-start.invariant.2 (omega arith) e)
+    (search rules, omega (arith, c.loop-start.invariant.1), turned-by c.min-count.result _ c.loop-start.invariant.2 e (omega (arith, c.min-count.ensures)))
 
 pub shape_of-output : goal.shape_of-output
 shape_of-output c = c.loop-start.invariant.2.len
 
 pub returns : goal.returns
 returns c = turned-to _ c.loop-start.invariant.2 (inl c.loop-start.invariant.1) (omega arith)
+
+pub returns-2 : goal.returns-2
+returns-2 c =
+    let a = c.args in
+    let room : c.min-count.result + 2 ≤ length c.loop-start.row = omega (arith, c.min-count.ensures, c.loop-start.invariant.0) in
+    let e = softened-inside c.loop-start.start c.min-count.result a.source.now c.loop-start.row c.loop-start.output c.loop-start.invariant.2.low room c.decibel_row.ensures c.soften_row.ensures in
+    (turned-by c.min-count.result _ c.loop-start.invariant.2 e (omega (arith, c.min-count.ensures, c.loop-start.invariant.1))).is

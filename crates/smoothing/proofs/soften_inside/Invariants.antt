@@ -9,6 +9,3 @@ use Rattle.smoothing.proofs.soften_inside.Given as goal
 
 abbrev pub invariant-loop-start : goal.invariant-loop-start
 invariant-loop-start l = (length l.row ≡ 64) × (l.start ≤ l.last) × Turned (λ b x. softened_at l.source b) 1 l.initial.output l.output l.start
-
-abbrev pub decreases-loop-start : goal.decreases-loop-start
-decreases-loop-start l = l.last - l.start

@@ -11,17 +11,17 @@ use lib.Ieee.{nan, binary32, add, of_bits, of_fields}
 use Rattle.lists.specs.Folds.{fold_step, fold_end}
 use Rattle.windows.proofs.sum.Goals as goal
 
-pub loop-index-init : goal.loop-index-init
+pub loop-value-init : goal.loop-value-init
 unfolding of_bits of_fields
-loop-index-init c = refl
+loop-value-init c = refl
 
-pub loop-index-preserved : goal.loop-index-preserved
-loop-index-preserved c =
-    let l = c.loop-index in
+pub loop-value-preserved : goal.loop-value-preserved
+loop-value-preserved c =
+    let l = c.loop-value in
     let w = c.args.window.now in
-    sym (fold_step (λ s x. add binary32 s x) l.total (drop-cons w l.index nan (omega arith) ∙ ap (λ (i : ℕ). get_or w l.index nan ∷ drop i w) (sym (add-one l.index)))) ∙ l.invariant
+    sym (fold_step (λ s x. add binary32 s x) l.total (drop-cons w l.value-index nan (omega arith) ∙ ap (λ (i : ℕ). get_or w l.value-index nan ∷ drop i w) (sym (add-one l.value-index)))) ∙ l.invariant
 
 pub returns : goal.returns
 returns c =
-    let l = c.loop-index in
-    sym (fold_end (λ s x. add binary32 s x) l.total (drop_of_length-le c.args.window.now {i = l.index} (omega arith))) ∙ l.invariant
+    let l = c.loop-value in
+    sym (fold_end (λ s x. add binary32 s x) l.total (drop_of_length-le c.args.window.now {i = l.value-index} (omega arith))) ∙ l.invariant

@@ -8,5 +8,5 @@ use Rattle.lists.specs.Folds.{fold}
 use Rattle.windows.specs.Windows.{sum_of}
 use Rattle.windows.proofs.sum.Given as goal
 
-abbrev pub invariant-loop-index : goal.invariant-loop-index
-invariant-loop-index l = fold (λ s x. add binary32 s x) l.total (drop l.index l.window) ≡ sum_of l.window
+abbrev pub invariant-loop-value : goal.invariant-loop-value
+invariant-loop-value l = fold (λ s x. add binary32 s x) l.total (drop l.value-index l.window) ≡ sum_of l.window

@@ -1,8 +1,8 @@
 -- `raise_lobe`: on each side every bin from the lobe's first on and below `start` is joined, and
 -- the chunk holds the openings of the next ones. Assumes nothing.
-use mathlib.Core.Path.{refl, ◌∙◌}
+use mathlib.Core.Path.{◌≡◌, refl, ◌∙◌}
 use mathlib.Core.Logic.{inl, inr}
-use Prim.Native.Nat.{◌-◌, ◌≤◌}
+use Prim.Native.Nat.{◌+◌, ◌≤◌}
 use native.Mathlib.Omega.{arith}
 use lib.ListN.{length}
 use Rattle.lists.specs.Turned.{turned_none}
@@ -26,19 +26,17 @@ openings-requires c = (
   },
 )
 
-pub loop-start-smaller : goal.loop-start-smaller
-loop-start-smaller c =
-    omega (arith, c.loop-start-test.true, c.min-count.ensures, c.loop-start.invariant.0, c.requires.0.chunk-64)
-
 pub loop-start-preserved : goal.loop-start-preserved
 loop-start-preserved c =
+    let l = c.loop-start in
     let logs = logs_of c.args.tabled c.args.table.now in
-    let room : c.min-count.result ≤ length c.loop-start.chunk = omega (arith, c.min-count.ensures) in (
-      c.openings.auto.chunk ∙ c.loop-start.invariant.0,
-      omega (arith, c.openings.auto.indexes, c.loop-start.invariant.1),
-      inl (omega (arith, c.min-count.ensures)),
-      chunk-joined _ logs _ _ c.loop-start.start c.min-count.result c.loop-start.chunk _ room c.openings.ensures c.loop-start.invariant.3 c.join.ensures,
-      chunk-joined _ logs _ _ c.loop-start.start c.min-count.result c.loop-start.chunk _ room c.openings.ensures c.loop-start.invariant.4 c.join-in-loop-start.ensures,
+    let room : c.min-count.result ≤ length l.chunk = omega (arith, c.min-count.ensures, l.invariant.0) in
+    let next : l.start + c.min-count.result ≡ l.start + length c.args.chunk.now = omega (arith, c.min-count.ensures) in (
+      c.openings.auto.chunk ∙ l.invariant.0,
+      omega (arith, c.openings.auto.indexes, l.invariant.1),
+      inl (omega arith),
+      chunk-joined _ logs _ _ l.start c.min-count.result _ l.chunk _ room next c.openings.ensures l.invariant.3 c.join.ensures,
+      chunk-joined _ logs _ _ l.start c.min-count.result _ l.chunk _ room next c.openings.ensures l.invariant.4 c.join-in-loop-start.ensures,
     )
 
 pub shape_of-first : goal.shape_of-first
@@ -57,3 +55,13 @@ pub returns : goal.returns
 returns c =
     let l = c.loop-start in
     (lobe-walked _ _ _ _ l.invariant.3 l.invariant.2 c.loop-start-test.false, lobe-walked _ _ _ _ l.invariant.4 l.invariant.2 c.loop-start-test.false)
+
+pub returns-2 : goal.returns-2
+returns-2 c =
+    let l = c.loop-start in
+    let logs = logs_of c.args.tabled c.args.table.now in
+    let room : c.min-count.result ≤ length l.chunk = omega (arith, c.min-count.ensures, l.invariant.0) in
+    let next : l.start + c.min-count.result ≡ c.args.lobe.last_bin + 1 = omega (arith, c.min-count.ensures) in (
+      lobe-walked _ _ _ _ (chunk-joined _ logs _ _ l.start c.min-count.result _ l.chunk _ room next c.openings.ensures l.invariant.3 c.join.ensures) (inl (omega arith)) (omega arith),
+      lobe-walked _ _ _ _ (chunk-joined _ logs _ _ l.start c.min-count.result _ l.chunk _ room next c.openings.ensures l.invariant.4 c.join-in-loop-start.ensures) (inl (omega arith)) (omega arith),
+    )

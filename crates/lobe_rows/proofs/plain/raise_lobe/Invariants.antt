@@ -16,7 +16,3 @@ invariant-loop-start l =
     × ((l.start ≤ l.lobe.last_bin + 1) ⊎ (l.start ≡ l.lobe.first_bin))
     × Turned (reached l.grid (logs_of l.tabled l.table) l.lobe l.gains.first) l.lobe.first_bin l.initial.first l.first l.start
     × Turned (reached l.grid (logs_of l.tabled l.table) l.lobe l.gains.second) l.lobe.first_bin l.initial.second l.second l.start
-
-abbrev pub decreases-loop-start : goal.decreases-loop-start
-decreases-loop-start l =
-    l.lobe.last_bin + 1 - l.start

@@ -1,12 +1,9 @@
 -- `exp2_row` walks along the row: the numbers below `start` are done. Assumes nothing.
-use mathlib.Core.Path.{refl, sym, subst}
+use mathlib.Core.Path.{refl}
 use mathlib.Core.Logic.{inl}
-use mathlib.Core.List.{List}
-use Prim.Native.Nat.{◌+◌, ◌-◌}
 use native.Mathlib.Omega.{arith}
-use lib.Ieee.{Float}
 use Rattle.lists.specs.Turned.{Turned, turned_none, turned-to}
-use Rattle.lists.specs.Runs.{turned-part}
+use Rattle.lists.specs.Runs.{turned-by}
 use Rattle.power.specs.Power.{E2}
 use Rattle.power_rows.proofs.exp2.exp2_row.Goals as goal
 
@@ -15,7 +12,7 @@ loop-start-init c = (turned_none _ _ _, omega arith, refl, refl, refl)
 
 pub loop-start-preserved : goal.loop-start-preserved
 loop-start-preserved c = (
-  subst (λ (l : List Float). Turned (λ i x. E2 x) 0 c.args.row.now l (c.loop-start.start + c.min-few.result)) (sym c.few_powers.ensures) (turned-part _ c.loop-start.invariant.0 (omega arith)),
+  turned-by _ _ c.loop-start.invariant.0 c.few_powers.ensures (omega (arith, c.min-few.ensures)),
   omega (arith, c.min-few.ensures, c.loop-start.invariant.1),
   omega (arith, c.few_powers.auto.inside, c.loop-start.invariant.2),
   omega (arith, c.few_powers.auto.found, c.loop-start.invariant.3),
@@ -27,3 +24,7 @@ shape_of-row c = c.loop-start.invariant.0.len
 
 pub returns : goal.returns
 returns c = turned-to _ c.loop-start.invariant.0 (inl c.loop-start.invariant.1) (omega arith)
+
+pub returns-2 : goal.returns-2
+returns-2 c =
+    (turned-by _ c.args.count c.loop-start.invariant.0 c.few_powers.ensures (omega (arith, c.min-few.ensures))).is
