@@ -12,4 +12,4 @@ returns-then-strip-ge-STRIPS c =
 pub returns : goal.returns
 returns c =
     let below = lt-leb strip_count c.args.strip (omega (arith, c.if-strip-ge-STRIPS.false)) in
-    record { outcome_value = simp below; mixer_value = simp (below, c.with_request-after.ensures) }
+    record { outcome_value = simp below; mixer_value = simp (below, c.with_request.ensures) }
