@@ -3,31 +3,62 @@
 #![tactic(auto)]
 
 ghost use Rattle.std.specs.Prelude.{◌≡◌};
-ghost use Rattle.answer.specs.Reply.{number, place, of_answer, of_outcome, of_prepared};
+ghost use Rattle.answer.specs.Reply.{number, number_of, place, of_answer, of_outcome};
 
 use limits::lengths::MIDI_NOTES;
+use std::fmt;
 
-pub mod refusal;
+// Why a call refuses, in the order of document 01's table, and of the requests after it.
+#[derive(Clone, Copy, Debug, PartialEq, Eq)]
+pub enum Reason {
+    // The size is not a power of two in 64..16,384, or the rate is outside its limits.
+    SizeOrRate,
+    // A setting or a lone number is outside its limits.
+    Setting,
+    // There are over 128 voices.
+    VoiceCount,
+    // A slice has the wrong length.
+    Length,
+    // A voice is outside its limits. The place is its index.
+    Voice,
+    // A table entry from 1 on is outside its limits. The place is its index.
+    TableEntry,
+    // A level, gain or window value is outside its limits. The place is its index.
+    ListValue,
+    // The overlap is outside its limits or does not divide the length.
+    Overlap,
+    // A scene record has the wrong length, or a forbidden bit set.
+    Record,
+    // An id is in the bank already where a voice is added, or is not in it where one is taken out
+    // or changed.
+    Id,
+    // A strip is above 15.
+    Strip,
+}
 
-// The answer of a call for a single number.
-#[derive(Clone, Copy)]
-pub enum Answer {
-    Gain(f32),
-    Refused(u8, usize),
+// A refusal: its reason and the place that it names, else 0.
+#[derive(Clone, Copy, Debug, PartialEq, Eq)]
+pub struct Refusal {
+    pub reason: Reason,
+    pub place: usize,
 }
 
 // The answer of a call that writes lent slices.
-#[derive(Clone, Copy)]
-pub enum Outcome {
-    Done,
-    Refused(u8, usize),
+pub type Outcome = Result<(), Refusal>;
+
+// The answer of a call for a single number: document 01 asks for an enum whose cases are
+// Gain(f32) or Refused(number, place), and for no Result.
+#[derive(Clone, Copy, Debug, PartialEq)]
+pub enum Answer {
+    Gain(f32),
+    Refused(Reason, usize),
 }
 
-// The answer of `PreparedSpectrum::new`: the coherent gains of the window and of the smooth window.
-#[derive(Clone, Copy)]
-pub enum Prepared {
-    Gains(f32, f32),
-    Refused(u8, usize),
+// What `PreparedSpectrum::new` answers: the coherent gains of the window and of the smooth window.
+#[derive(Clone, Copy, Debug, PartialEq)]
+pub struct CoherentGains {
+    pub window: f32,
+    pub smooth_window: f32,
 }
 
 // The answer of `advance_note_envelopes`, with the bank that was passed by value beside it.
@@ -37,6 +68,51 @@ pub struct Envelopes {
     pub levels: [f32; MIDI_NOTES],
 }
 
+impl Reason {
+    // Document 01's number.
+    pub fn number(self) -> u8
+        ensures { result ≡ number_of self }
+    {
+        match self {
+            Reason::SizeOrRate => 1,
+            Reason::Setting => 2,
+            Reason::VoiceCount => 3,
+            Reason::Length => 4,
+            Reason::Voice => 5,
+            Reason::TableEntry => 6,
+            Reason::ListValue => 7,
+            Reason::Overlap => 8,
+            Reason::Record => 9,
+            Reason::Id => 10,
+            Reason::Strip => 11,
+        }
+    }
+}
+
+impl Refusal {
+    // A refusal that names a place.
+    pub fn at(reason: Reason, place: usize) -> Refusal
+        ensures { result ≡ record { reason = reason; place = place } }
+    {
+        Refusal { reason, place }
+    }
+}
+
+// A refusal that names no place.
+impl From<Reason> for Refusal {
+    ghost from_gives = { λ reason refusal. refusal ≡ record { reason = reason; place = 0 } };
+
+    fn from(reason: Reason) -> Refusal {
+        Refusal { reason, place: 0 }
+    }
+}
+
+impl fmt::Display for Refusal {
+    fn fmt<W: fmt::Write>(&self, f: &mut fmt::Formatter<W>) -> fmt::Result {
+        write!(f, "refused {} {}", self.reason.number(), self.place)
+    }
+}
+
 impl Answer {
     // Document 01's number: 0 where the call is done.
     pub fn number(self) -> u8
@@ -44,7 +120,7 @@ impl Answer {
     {
         match self {
             Answer::Gain(_) => 0,
-            Answer::Refused(number, _) => number,
+            Answer::Refused(reason, _) => reason.number(),
         }
     }
 
@@ -59,42 +135,22 @@ impl Answer {
     }
 }
 
-impl Outcome {
-    pub fn number(self) -> u8
-        ensures { result ≡ number (of_outcome self) }
-    {
-        match self {
-            Outcome::Done => 0,
-            Outcome::Refused(number, _) => number,
-        }
-    }
-
-    pub fn place(self) -> usize
-        ensures { result ≡ place (of_outcome self) }
-    {
-        match self {
-            Outcome::Done => 0,
-            Outcome::Refused(_, place) => place,
-        }
+// Document 01's number, for a caller that takes numbers: 0 where the call is done.
+pub fn number(outcome: Outcome) -> u8
+    ensures { result ≡ number (of_outcome outcome) }
+{
+    match outcome {
+        Ok(()) => 0,
+        Err(refusal) => refusal.reason.number(),
     }
 }
 
-impl Prepared {
-    pub fn number(self) -> u8
-        ensures { result ≡ number (of_prepared self) }
-    {
-        match self {
-            Prepared::Gains(_, _) => 0,
-            Prepared::Refused(number, _) => number,
-        }
-    }
-
-    pub fn place(self) -> usize
-        ensures { result ≡ place (of_prepared self) }
-    {
-        match self {
-            Prepared::Gains(_, _) => 0,
-            Prepared::Refused(_, place) => place,
-        }
+// The place that a refusal names, else 0.
+pub fn place(outcome: Outcome) -> usize
+    ensures { result ≡ place (of_outcome outcome) }
+{
+    match outcome {
+        Ok(()) => 0,
+        Err(refusal) => refusal.place,
     }
 }
