@@ -8,7 +8,7 @@ ghost use Rattle.answer.specs.Reply.{of_outcome};
 ghost use Rattle.mixer.specs.Mixers.{fresh, request_reply, with_request, mixer_asked};
 ghost use Rattle.mixer.specs.Mixers.{turn_names, mixer_turned};
 
-use answer::{Outcome, refusal};
+use answer::{Outcome, Reason};
 
 pub const STRIPS: usize = 16;
 
@@ -56,10 +56,10 @@ pub fn request(mixer: &mut Mixer, strip: usize) -> Outcome
     ensures mixer_value { mixer.new ≡ mixer_asked mixer.old strip }
 {
     if STRIPS <= strip {
-        return Outcome::Refused(refusal::STRIP, 0);
+        return Err(Reason::Strip.into());
     }
     with_request(mixer, strip);
-    Outcome::Done
+    Ok(())
 }
 
 // Names the strip that has waited longest, and takes it off.

@@ -1,7 +1,7 @@
 -- A bank of voices, in the words of request 105: what each call answers, and the bank that it hands
 -- back. A bank that no call made may say any count, so only its first 128 places are looked at.
 -- Assumes nothing.
-use Rattle.std.specs.Prelude.{Bool, cond, not, List, [], ℕ, ◌+◌, ◌-◌, eqb, ltb, leb, take, set, replicate}
+use Rattle.std.specs.Prelude.{Bool, cond, not, List, [], ℕ, ◌+◌, ◌-◌, eqb, ltb, leb, take, set, replicate, Option, Some, None}
 use Rattle.lists.specs.Folds.{first_bad}
 use Rattle.lists.specs.Closing.{closed}
 use Rattle.answer.specs.Refusal.{VOICE_COUNT, VOICE, ID}
@@ -38,6 +38,10 @@ place_of bank id = place_in id (take (held_in bank) bank.ids)
 
 abbrev pub holds : Bank → ℕ → Bool
 holds bank id = ltb (place_of bank id) (held_in bank)
+
+-- the place where it is there
+abbrev pub found_in : Bank → ℕ → Option ℕ
+found_in bank id = cond (holds bank id) (Some (place_of bank id)) None
 
 -- ---- adding
 
