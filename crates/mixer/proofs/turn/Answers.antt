@@ -1,6 +1,6 @@
 -- `turn` meets its contract: it names the first of the line, where there is one, and the others
 -- move up. Assumes nothing.
-use mathlib.Core.Path.{◌≡◌, sym, ◌∙◌}
+use mathlib.Core.Path.{◌≡◌, sym}
 use Prim.Native.Nat.{◌<◌}
 use native.Mathlib.Omega.{arith}
 use lib.ListN.{length}
