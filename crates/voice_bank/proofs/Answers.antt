@@ -1,55 +1,69 @@
--- What the search for an id says, and what the calls on a bank answer in each case of their tests.
--- Assumes nothing.
+-- What the search for an id answers, and what the calls on a bank answer in each case of their
+-- tests. Assumes nothing.
 use mathlib.Core.Path.{◌≡◌, refl, sym, ap, ◌∙◌}
 use mathlib.Core.Bool.{Bool, true, false, cond}
-use mathlib.Core.List.{[]}
+use mathlib.Core.List.{List, []}
 use Prim.Native.Nat.{ℕ, ◌≤◌, ◌<◌}
 use native.Mathlib.Omega.{arith}
-use borrow.Author.Tests.{le-leb, lt-leb, lt-ltb, le-ltb, ltb-true}
+use lib.Dec.{ltb}
+use lib.ListN.{length, take}
+use borrow.Author.Tests.{le-leb, lt-leb, lt-ltb, le-ltb, ltb-true, ltb-false}
 use Rattle.std.specs.Prelude.{Option, Some, None, is_some}
 use Rattle.answer.specs.Refusal.{VOICE_COUNT, VOICE, ID}
 use Rattle.answer.specs.Reply.{done, refused}
 use Rattle.scene.specs.declared.MaskVoice.{MaskVoice}
 use Rattle.scene.specs.Accepted.{voice_accepted}
+use Rattle.scene.specs.Gathered.{held}
+use Rattle.scene.proofs.Gathered.{held_fits}
 use Rattle.voice_bank.specs.declared.Bank.{Bank}
-use Rattle.voice_bank.specs.Banks.{held_in, place_of, holds, found_in}
+use Rattle.voice_bank.specs.Banks.{held_in, place_in, found_in, holds}
 use Rattle.voice_bank.specs.Banks.{add_reply, remove_reply, change_reply}
 
--- ---- where an id stands
-module _ (bank : Bank) (id : ℕ) where
-  -- by the place that a search of the ids finds
+-- at most 128 places count
+pub places-most : (n : ℕ) {count : ℕ} → count ≡ held n → count ≤ 128
+places-most n e = rw e (held_fits n).1
+
+-- ---- where an id stands in a list of them
+module _ (id : ℕ) (ids : List ℕ) where
+  -- by the place that a search along the list comes to
   pub found-there :
-      {place : ℕ} → place_of bank id ≡ place → place < held_in bank → Some place ≡ found_in bank id
-  found-there {place} e h = rw (e, lt-ltb place (held_in bank) h)
+      {place : ℕ} → place_in id ids ≡ place → place < length ids → Some place ≡ found_in id ids
+  found-there {place} e h = rw (e, lt-ltb place (length ids) h)
 
-  pub found-nowhere : {place : ℕ} → place_of bank id ≡ place → held_in bank ≤ place → None ≡ found_in bank id
-  found-nowhere {place} e h = rw (e, le-ltb place (held_in bank) h)
+  pub found-nowhere :
+      {place : ℕ} → place_in id ids ≡ place → length ids ≤ place → None ≡ found_in id ids
+  found-nowhere {place} e h = rw (e, le-ltb place (length ids) h)
 
-  -- what it says of the id
-  pub some-holds : {found : Option ℕ} → found ≡ found_in bank id → is_some found ≡ holds bank id
-  some-holds e = ap is_some e ∙ go (holds bank id)
+  -- and what it then says of that place
+  told : is_some (found_in id ids) ≡ ltb (place_in id ids) (length ids)
+  told = go (ltb (place_in id ids) (length ids))
     where
-      go : (b : Bool) → is_some (cond b (Some (place_of bank id)) None) ≡ b
+      go : (b : Bool) → is_some (cond b (Some (place_in id ids)) None) ≡ b
       go true = refl
       go false = refl
 
-  pub none-holds : None ≡ found_in bank id → holds bank id ≡ false
-  none-holds e = sym (some-holds e)
+  module _ {found : Option ℕ} (e : found ≡ found_in id ids) where
+    pub some-inside : is_some found ≡ true → place_in id ids < length ids
+    some-inside h = ltb-true _ _ (sym (ap is_some e ∙ told) ∙ h)
 
-  pub found-holds : {place : ℕ} → Some place ≡ found_in bank id → holds bank id ≡ true
-  found-holds e = sym (some-holds e)
+    pub none-beyond : is_some found ≡ false → length ids ≤ place_in id ids
+    none-beyond h = ltb-false _ _ (sym (ap is_some e ∙ told) ∙ h)
 
-  pub found-place : {place : ℕ} → Some place ≡ found_in bank id → place ≡ place_of bank id
-  found-place {place} e = go (holds bank id) e
+  pub found-place : {place : ℕ} → Some place ≡ found_in id ids → place ≡ place_in id ids
+  found-place {place} e = go (ltb (place_in id ids) (length ids)) e
     where
-      go : (b : Bool) → Some place ≡ cond b (Some (place_of bank id)) None → place ≡ place_of bank id
+      go : (b : Bool) → Some place ≡ cond b (Some (place_in id ids)) None → place ≡ place_in id ids
       go true f = cc
       go false f = let z : ◌≡◌ {A = ℕ} 0 1 = cc in absurd (omega arith)
 
-  pub found-held : {place : ℕ} → Some place ≡ found_in bank id → place < held_in bank
-  found-held {place} e =
-      let h = ltb-true (place_of bank id) (held_in bank) (found-holds e) in
-      omega (arith, found-place e, h)
+-- ---- whether an id is there, by the place that a search finds
+module _ (bank : Bank) (id : ℕ) {count place : ℕ} (n : count ≡ held_in bank)
+    (p : place ≡ place_in id (take count bank.ids)) where
+  is-holds : place < count → holds bank id ≡ true
+  is-holds h = rw (sym n, sym p) (lt-ltb place count h)
+
+  is-missing : count ≤ place → holds bank id ≡ false
+  is-missing h = rw (sym n, sym p) (le-ltb place count h)
 
 -- ---- adding: the places that count are all those below the count
 module _ (bank : Bank) (id : ℕ) (voice : MaskVoice) where
@@ -62,35 +76,43 @@ module _ (bank : Bank) (id : ℕ) (voice : MaskVoice) where
     unfolding add_reply
     add-outside a = rw (lt-leb 128 bank.count room, a)
 
-    module _ (a : voice_accepted voice ≡ true) where
-      pub add-again : holds bank id ≡ true → add_reply bank id voice ≡ refused ID 0
-      unfolding add_reply
-      add-again h = rw (lt-leb 128 bank.count room, a, h)
+    module _ (a : voice_accepted voice ≡ true) {place : ℕ}
+        (p : place ≡ place_in id (take bank.count bank.ids)) where
+      all-count : bank.count ≡ held_in bank
+      all-count = sym (simp (le-ltb 128 bank.count (omega arith)))
 
-      pub add_done : holds bank id ≡ false → add_reply bank id voice ≡ done []
+      pub add-again : place < bank.count → add_reply bank id voice ≡ refused ID 0
       unfolding add_reply
-      add_done h = rw (lt-leb 128 bank.count room, a, h)
+      add-again h =
+          rw (lt-leb 128 bank.count room, a, is-holds bank id all-count p h)
+
+      pub add_done : bank.count ≤ place → add_reply bank id voice ≡ done []
+      unfolding add_reply
+      add_done h =
+          rw (lt-leb 128 bank.count room, a, is-missing bank id all-count p h)
 
 -- ---- taking out and changing
-module _ (bank : Bank) (id : ℕ) where
-  pub remove-missing : holds bank id ≡ false → remove_reply bank id ≡ refused ID 0
+module _ (bank : Bank) (id : ℕ) {count place : ℕ} (n : count ≡ held_in bank)
+    (p : place ≡ place_in id (take count bank.ids)) where
+  pub remove-missing : count ≤ place → remove_reply bank id ≡ refused ID 0
   unfolding remove_reply
-  remove-missing h = rw h
+  remove-missing h = rw (is-missing bank id n p h)
 
-  pub remove-done : holds bank id ≡ true → remove_reply bank id ≡ done []
+  pub remove-done : place < count → remove_reply bank id ≡ done []
   unfolding remove_reply
-  remove-done h = rw h
+  remove-done h = rw (is-holds bank id n p h)
 
-  module _ (voice : MaskVoice) where
-    pub change-outside : voice_accepted voice ≡ false → change_reply bank id voice ≡ refused VOICE 0
+  module _ (voice : MaskVoice) (a : voice_accepted voice ≡ true) where
+    pub change-missing : count ≤ place → change_reply bank id voice ≡ refused ID 0
     unfolding change_reply
-    change-outside a = rw a
+    change-missing h = rw (a, is-missing bank id n p h)
 
-    module _ (a : voice_accepted voice ≡ true) where
-      pub change-missing : holds bank id ≡ false → change_reply bank id voice ≡ refused ID 0
-      unfolding change_reply
-      change-missing h = rw (a, h)
+    pub change-done : place < count → change_reply bank id voice ≡ done []
+    unfolding change_reply
+    change-done h = rw (a, is-holds bank id n p h)
 
-      pub change-done : holds bank id ≡ true → change_reply bank id voice ≡ done []
-      unfolding change_reply
-      change-done h = rw (a, h)
+pub change-outside :
+    (bank : Bank) (id : ℕ) (voice : MaskVoice) → voice_accepted voice ≡ false
+    → change_reply bank id voice ≡ refused VOICE 0
+unfolding change_reply
+change-outside bank id voice a = rw a

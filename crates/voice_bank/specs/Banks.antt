@@ -1,7 +1,7 @@
 -- A bank of voices, in the words of request 105: what each call answers, and the bank that it hands
 -- back. A bank that no call made may say any count, so only its first 128 places are looked at.
 -- Assumes nothing.
-use Rattle.std.specs.Prelude.{Bool, cond, not, List, [], ℕ, ◌+◌, ◌-◌, eqb, ltb, leb, take, set, replicate, Option, Some, None}
+use Rattle.std.specs.Prelude.{Bool, cond, not, List, [], ℕ, ◌+◌, ◌-◌, eqb, ltb, leb, length, take, set, replicate, Option, Some, None}
 use Rattle.lists.specs.Folds.{first_bad}
 use Rattle.lists.specs.Closing.{closed}
 use Rattle.answer.specs.Refusal.{VOICE_COUNT, VOICE, ID}
@@ -32,16 +32,16 @@ held_in bank = held bank.count
 abbrev pub place_in : ℕ → List ℕ → ℕ
 place_in id ids = first_bad (λ place other. not (eqb other id)) ids
 
+-- that place where the id is there
+abbrev pub found_in : ℕ → List ℕ → Option ℕ
+found_in id ids = cond (ltb (place_in id ids) (length ids)) (Some (place_in id ids)) None
+
 -- the place of an id in a bank, and whether it is there
 abbrev pub place_of : Bank → ℕ → ℕ
 place_of bank id = place_in id (take (held_in bank) bank.ids)
 
 abbrev pub holds : Bank → ℕ → Bool
 holds bank id = ltb (place_of bank id) (held_in bank)
-
--- the place where it is there
-abbrev pub found_in : Bank → ℕ → Option ℕ
-found_in bank id = cond (holds bank id) (Some (place_of bank id)) None
 
 -- ---- adding
 

@@ -44,13 +44,12 @@ pub fn new_bank() -> Bank
     }
 }
 
-// The place of the voice with that id.
-fn place_in(bank: &Bank, id: u16) -> Option<usize>
-    ensures { result ≡ found_in bank.now id }
+// The place of an id in a list of them.
+fn place_in(ids: &[u16], id: u16) -> Option<usize>
+    ensures { result ≡ found_in id ids.now }
 {
-    let count = held(bank.count);
-    for place in 0..count {
-        if bank.ids[place] == id {
+    for place in 0..ids.len() {
+        if ids[place] == id {
             return Some(place);
         }
     }
@@ -69,7 +68,7 @@ pub fn add_voice(bank: &mut Bank, id: u16, voice: MaskVoice) -> Outcome
     if !voice_accepted(voice) {
         return Err(Reason::Voice.into());
     }
-    if place_in(bank, id).is_some() {
+    if place_in(&bank.ids[..count], id).is_some() {
         return Err(Reason::Id.into());
     }
     bank.ids[count] = id;
@@ -83,10 +82,10 @@ pub fn remove_voice(bank: &mut Bank, id: u16) -> Outcome
     ensures outcome_value { of_outcome result ≡ remove_reply bank.old id }
     ensures bank_value { bank.new ≡ bank_removed bank.old id }
 {
-    let Some(place) = place_in(bank, id) else {
+    let count = held(bank.count);
+    let Some(place) = place_in(&bank.ids[..count], id) else {
         return Err(Reason::Id.into());
     };
-    let count = held(bank.count);
     bank.ids.copy_within(place + 1..count, place);
     bank.voices.copy_within(place + 1..count, place);
     bank.count = count - 1;
@@ -101,10 +100,11 @@ pub fn change_voice(bank: &mut Bank, id: u16, voice: MaskVoice) -> Outcome
     if !voice_accepted(voice) {
         return Err(Reason::Voice.into());
     }
-    let Some(place) = place_in(bank, id) else {
+    let count = held(bank.count);
+    let Some(place) = place_in(&bank.ids[..count], id) else {
         return Err(Reason::Id.into());
     };
     bank.voices[place] = plain_voice(voice);
-    bank.count = held(bank.count);
+    bank.count = count;
     Ok(())
 }

@@ -17,5 +17,8 @@ returns-clause-mixer_value c =
     let moved = c.copy_within.ensures in
     let whole : length mixer.strips ≡ 16 = search rules in
     let some : 0 < held_in mixer = omega (arith, count, c.if-count-eq0.false) in
-    let e = copied-closed 0 mixer.strips c.copy_within.new.self 0 c.min-count.result (omega (arith, count, some)) moved.len moved.by_index.0 moved.by_index.1 moved.by_index.2 in
+    let e =
+    copied-closed 0 mixer.strips c.copy_within.new.self 0 c.min-count.result
+    (omega (arith, count, some))
+    moved.len moved.by_index.0 moved.by_index.1 moved.by_index.2 in
     simp (e, c.saturating_add-mixer.ensures, count) (sym (turned-first mixer whole some))

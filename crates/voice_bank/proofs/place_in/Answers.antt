@@ -2,41 +2,43 @@
 -- nothing.
 use mathlib.Core.Path.{◌≡◌, sym, ap, ◌∙◌}
 use mathlib.Core.Bool.{not}
-use native.Mathlib.Omega.{arith}
-use lib.ListN.{length}
-use borrow.Author.Rules.{rules}
+use mathlib.Core.List.{List, ◌∷◌}
+use Prim.Native.Nat.{ℕ, ◌+◌, ◌<◌}
+use native.Mathlib.Numerals.{add-one}
+use lib.ListN.{length, get_or, drop}
+use lib.Seq.{drop-cons}
 use borrow.Author.Tests.{eq-eqb, ne_eqb}
-use Rattle.lists.specs.Folds.{rest-next, rest-none, bad-step, bad-stop, bad-end}
-use Rattle.scene.proofs.Gathered.{held_fits}
-use Rattle.voice_bank.specs.Banks.{held_in}
+use Rattle.std.proofs.Common.{drop_of_length-le}
+use Rattle.lists.specs.Folds.{bad-step, bad-stop, bad-end}
 use Rattle.voice_bank.proofs.Answers.{found-there, found-nowhere}
 use Rattle.voice_bank.proofs.place_in.Goals as goal
 
-pub returns-then-bank-place : goal.returns-then-bank-place
-returns-then-bank-place c =
-    let bank = c.args.bank.now in
-    let count = c.held-count.ensures in
-    let most = (held_fits bank.count).1 in
-    let l : length bank.ids ≡ 128 = search rules in
-    let next = rest-next bank.ids (held_in bank) c.loop-place.place 0 (omega (arith, l, most)) (omega (arith, count, c.loop-place-test.true)) in
-    found-there bank c.args.id
-    (sym c.loop-place.invariant ∙ bad-stop _ c.loop-place.place next (ap not (eq-eqb _ _ c.if-bank-place.true)))
-    (omega (arith, count, c.loop-place-test.true))
+next : (ids : List ℕ) (i : ℕ) → i < length ids → drop i ids ≡ get_or ids i 0 ∷ drop (i + 1) ids
+next ids i h = rw (add-one i) (drop-cons ids i 0 h)
+
+pub returns-then-ids-place : goal.returns-then-ids-place
+returns-then-ids-place c =
+    let ids = c.args.ids.now in
+    let place = c.loop-place.place in
+    let inside = c.loop-place-test.true in
+    found-there c.args.id ids
+    (sym c.loop-place.invariant
+    ∙ bad-stop _ place (next ids place inside) (ap not (eq-eqb _ _ c.if-ids-place.true)))
+    inside
 
 pub loop-place-preserved : goal.loop-place-preserved
 loop-place-preserved c =
-    let bank = c.args.bank.now in
-    let count = c.held-count.ensures in
-    let most = (held_fits bank.count).1 in
-    let l : length bank.ids ≡ 128 = search rules in
-    let next = rest-next bank.ids (held_in bank) c.loop-place.place 0 (omega (arith, l, most)) (omega (arith, count, c.loop-place-test.true)) in
-    sym (bad-step _ c.loop-place.place next (ap not (ne_eqb _ _ c.if-bank-place.false))) ∙ c.loop-place.invariant
+    let ids = c.args.ids.now in
+    let place = c.loop-place.place in
+    let after = next ids place c.loop-place-test.true in
+    sym (bad-step _ place after (ap not (ne_eqb _ _ c.if-ids-place.false)))
+    ∙ c.loop-place.invariant
 
 pub returns : goal.returns
 returns c =
-    let bank = c.args.bank.now in
-    let count = c.held-count.ensures in
-    found-nowhere bank c.args.id
-    (sym c.loop-place.invariant
-    ∙ bad-end _ c.loop-place.place (rest-none bank.ids (held_in bank) c.loop-place.place (omega (arith, count, c.loop-place-test.false))))
-    (omega (arith, count, c.loop-place-test.false))
+    let ids = c.args.ids.now in
+    let place = c.loop-place.place in
+    let beyond = c.loop-place-test.false in
+    found-nowhere c.args.id ids
+    (sym c.loop-place.invariant ∙ bad-end _ place (drop_of_length-le ids {i = place} beyond))
+    beyond

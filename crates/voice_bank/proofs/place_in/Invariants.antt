@@ -3,12 +3,11 @@
 use mathlib.Core.Path.{◌≡◌}
 use mathlib.Core.Bool.{not}
 use lib.Dec.{eqb}
-use lib.ListN.{take, drop}
+use lib.ListN.{drop}
 use Rattle.lists.specs.Folds.{first_bad_from}
-use Rattle.voice_bank.specs.Banks.{held_in, place_of}
+use Rattle.voice_bank.specs.Banks.{place_in}
 use Rattle.voice_bank.proofs.place_in.Given as goal
 
 abbrev pub invariant-loop-place : goal.invariant-loop-place
 invariant-loop-place l =
-    first_bad_from (λ place x. not (eqb x l.id)) l.place (drop l.place (take (held_in l.bank) l.bank.ids))
-    ≡ place_of l.bank l.id
+    first_bad_from (λ place x. not (eqb x l.id)) l.place (drop l.place l.ids) ≡ place_in l.id l.ids
