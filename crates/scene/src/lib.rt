@@ -138,72 +138,49 @@ pub fn blank_scene() -> Scene
 pub fn held(count: usize) -> usize
     ensures { result ≡ held count }
 {
-    if count <= MOST_VOICES {
-        return count;
-    }
-    MOST_VOICES
+    count.min(MOST_VOICES)
 }
 
-// Whether both tests hold.
-pub fn both(a: bool, b: bool) -> bool
-    ensures { result ≡ (a && b) }
-{
-    if a { b } else { false }
-}
-
+#[tactic(auto, unfolding(crate::specs::Accepted::motion_accepted))]
 pub fn motion_accepted(config: MotionConfig) -> bool
     ensures { result ≡ motion_accepted config }
 {
-    let phase_and_size = both(
-        float32::order::is_finite(config.phase),
-        limits::motion_size(config.size_octaves),
-    );
-    both(limits::motion_depth(config.depth_db), phase_and_size)
+    limits::motion_depth(config.depth_db)
+        && float32::order::is_finite(config.phase)
+        && limits::motion_size(config.size_octaves)
 }
 
 // Tests size and rate.
+#[tactic(auto, unfolding(crate::specs::Accepted::size_accepted))]
 pub fn size_accepted(config: MaskConfig) -> bool
     ensures { result ≡ size_accepted config }
 {
-    both(
-        limits::size(config.fft_size),
-        limits::rate(config.sample_rate),
-    )
+    limits::size(config.fft_size) && limits::rate(config.sample_rate)
 }
 
 // Tests every other setting, including those that the call does not use.
+#[tactic(auto, unfolding(crate::specs::Accepted::settings_accepted))]
 pub fn settings_accepted(config: MaskConfig) -> bool
     ensures { result ≡ settings_accepted config }
 {
-    let motion = config.motion;
-    let notes = both(
-        limits::note_depth(config.note_depth_db),
-        limits::width(config.width_cents),
-    );
-    let harmonics = both(
-        limits::partials(config.partials),
-        limits::rolloff(config.harmonic_rolloff_db_per_octave),
-    );
-    both(notes, both(harmonics, motion_accepted(motion)))
+    limits::note_depth(config.note_depth_db)
+        && limits::width(config.width_cents)
+        && limits::partials(config.partials)
+        && limits::rolloff(config.harmonic_rolloff_db_per_octave)
+        && motion_accepted(config.motion)
 }
 
+#[tactic(auto, unfolding(crate::specs::Accepted::voice_accepted))]
 pub fn voice_accepted(voice: MaskVoice) -> bool
     ensures { result ≡ voice_accepted voice }
 {
-    let pitch = voice.pitch;
-    let touch = both(
-        float32::order::is_finite(voice.pressure),
-        float32::order::is_finite(voice.timbre),
-    );
-    let gains = both(
-        float32::order::is_finite(voice.volume_gain),
-        float32::order::is_finite(voice.expression_gain),
-    );
-    let sound = both(both(touch, gains), float32::order::is_finite(voice.pan));
-    both(
-        pitches::accepted(pitch),
-        both(limits::level(voice.level), sound),
-    )
+    pitches::accepted(voice.pitch)
+        && limits::level(voice.level)
+        && float32::order::is_finite(voice.pressure)
+        && float32::order::is_finite(voice.timbre)
+        && float32::order::is_finite(voice.volume_gain)
+        && float32::order::is_finite(voice.expression_gain)
+        && float32::order::is_finite(voice.pan)
 }
 
 // The lowest index of a voice outside its limits. Voices past the count are not tested.
