@@ -101,8 +101,8 @@ fn raise_blocks(
         second.old) }
 {
     let mut bounds = [0.0f32; MAX_PARTIALS];
-    let mut block = block_of(span.first_bin.min(span.last_bin));
-    while block * BLOCK < span.last_bin {
+    let reached = span.last_bin.div_ceil(BLOCK);
+    for block in block_of(span.first_bin.min(span.last_bin))..reached {
         let start = 1 + block * BLOCK;
         let end = (start + BLOCK).min(table.len());
         bounds_of(
@@ -120,7 +120,6 @@ fn raise_blocks(
             first, second, chunk, indexes, gaussians, table, &bounds, grid, lobes, count, gains,
             start, end,
         );
-        block += 1;
     }
 }
 

@@ -39,9 +39,7 @@ fn whole_root(n: u64) -> u64
     ensures { IsRoot n result }
 {
     let mut r: u64 = 0;
-    let mut k: u32 = 24;
-    while k > 0 {
-        k -= 1;
+    for k in (0..24u32).rev() {
         let t = r + (1u64 << k);
         if t * t <= n {
             r = t;

@@ -22,14 +22,8 @@ overflow_add-t c = record { fits = omega (arith, tried-small c.loop-k.k c.args.n
 pub overflow_mul-t : goal.overflow_mul-t
 overflow_mul-t c = record { fits = omega (arith, tried-square-small c.loop-k.k c.args.n c.loop-k.r c.requires c.loop-k-test.true c.loop-k.invariant) }
 
-pub loop-k-smaller-then-t-n : goal.loop-k-smaller-then-t-n
-loop-k-smaller-then-t-n c = omega arith
-
 pub loop-k-preserved-then-t-n : goal.loop-k-preserved-then-t-n
 loop-k-preserved-then-t-n c = let b = c.before in digit_set b.loop-k.k b.args.n b.loop-k.r b.requires b.loop-k-test.true b.loop-k.invariant c.if-t-n.true
-
-pub loop-k-smaller : goal.loop-k-smaller
-loop-k-smaller c = omega arith
 
 pub loop-k-preserved : goal.loop-k-preserved
 loop-k-preserved c = let b = c.before in digit_clear b.loop-k.k b.args.n b.loop-k.r b.requires b.loop-k-test.true b.loop-k.invariant c.if-t-n.false

@@ -5,6 +5,3 @@ use Rattle.square_root.proofs.whole_root.Given as goal
 
 abbrev pub invariant-loop-k : goal.invariant-loop-k
 invariant-loop-k l = DigitsFrom l.k l.n l.r
-
-abbrev pub decreases-loop-k : goal.decreases-loop-k
-decreases-loop-k l = l.k

@@ -21,7 +21,3 @@ invariant-loop-block l =
     × Opennesses l.second
     × Walked (lobes_joined l.grid (lent l.table) l.gains.first (take l.count l.lobes)) (1 + 64 * block_of (min l.span.first_bin l.span.last_bin)) (length l.table) l.block l.initial.first l.first
     × Walked (lobes_joined l.grid (lent l.table) l.gains.second (take l.count l.lobes)) (1 + 64 * block_of (min l.span.first_bin l.span.last_bin)) (length l.table) l.block l.initial.second l.second
-
-abbrev pub decreases-loop-block : goal.decreases-loop-block
-decreases-loop-block l =
-    129 - l.block
