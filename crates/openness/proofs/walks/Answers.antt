@@ -3,5 +3,5 @@ use mathlib.Core.Path.{sym}
 use mathlib.Core.Bool.{true≢false}
 use Rattle.openness.proofs.walks.Goals as goal
 
-pub returns : goal.returns
-returns c = λ e. absurd (true≢false (sym e))
+pub returns-else-tabled : goal.returns-else-tabled
+returns-else-tabled c = λ e. absurd (true≢false (sym e))

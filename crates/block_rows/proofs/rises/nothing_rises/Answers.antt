@@ -26,5 +26,5 @@ returns-then-bound-gains c =
       under-least (mul binary32 bound gains.second) c.least_from-then-bound-gains.result c.args.start c.args.second.now (upto-mul binary32 0 3 bound gains.second (lit≤ tt) c.requires.2 c.requires.0.gains.second-gain) c.requires.0.sides.second-open c.least_from-then-bound-gains.ensures.0 e,
     )
 
-pub returns : goal.returns
-returns c = λ e. absurd (true≢false (sym e))
+pub returns-else-bound-gains : goal.returns-else-bound-gains
+returns-else-bound-gains c = λ e. absurd (true≢false (sym e))
