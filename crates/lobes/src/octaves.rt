@@ -5,7 +5,7 @@ ghost use Rattle.lobes.specs.Tone.{partial_octaves};
 // Entry 0 is not used: partials count from 1.
 #[derive(Clone, Copy)]
 pub struct PartialOctaves {
-    pub(crate) entries: [f32; 25],
+    pub entries: [f32; 25],
     ghost is_partial_octaves: { entries ≡ partial_octaves },
 }
 

@@ -14,7 +14,7 @@ pub(crate) const LOW_MASK: u64 = (1 << LOW_BITS) - 1;
 // together in specs/Rules.antt.
 #[derive(Clone, Copy)]
 pub struct PowerTable {
-    entries: [u32; (1 << HIGH_BITS) + 1],
+    pub entries: [u32; (1 << HIGH_BITS) + 1],
     ghost is_power_table: { entries ≡ power_table },
 }
 

@@ -10,7 +10,7 @@ ghost use Rattle.sine.specs.Table.{half_angle_cosines, sine_table};
 // R, made once and lent to every function that reads it.
 #[derive(Clone, Copy)]
 pub struct SineTable {
-    pub(crate) entries: [u32; 257],
+    pub entries: [u32; 257],
     ghost is_sine_table: { entries ≡ sine_table },
 }
 
