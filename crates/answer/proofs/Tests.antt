@@ -1,7 +1,7 @@
 -- A reply is a chain of tests in the order of their numbers. Each law takes one test of the chain,
 -- as the code makes it, and either ends there with that test's refusal or goes on to what follows.
 -- Assumes nothing.
-use mathlib.Core.Path.{◌≡◌, sym, ◌∙◌}
+use mathlib.Core.Path.{◌≡◌, sym, ap, ◌∙◌}
 use mathlib.Core.Bool.{Bool, true, false, cond, not}
 use mathlib.Core.List.{List}
 use Prim.Native.Nat.{ℕ, ◌≤◌, ◌<◌}
@@ -9,7 +9,11 @@ use lib.Dec.{eqb, ltb}
 use borrow.Author.Tests.{not-true, not-false, eq-eqb, ne_eqb, lt-ltb, le-ltb}
 use native.Mathlib.Omega.{arith}
 use lib.Ieee.{Float}
-use Rattle.answer.specs.Reply.{Reply, done, refused}
+use Rattle.std.specs.Prelude.{Result}
+use Rattle.std.specs.Result.{IsErrAnd}
+use Rattle.std.proofs.lemmas.Result.{err_from_is_err_and}
+use Rattle.answer.specs.declared.Refusal.{Refusal}
+use Rattle.answer.specs.Reply.{Reply, done, refused, of_refusal, of_outcome}
 
 -- a bool that a callee answers
 pub fails : {b r : Bool} (x y : Reply) → r ≡ b → not r ≡ true → x ≡ cond (not b) x y
@@ -35,3 +39,9 @@ none_found {index} {r} {n} x y e h k = rw (← e, le-ltb r n h) k
 -- a refusal is not done
 pub no-refusal : {number place : ℕ} {values : List Float} {P : Type 0} → refused number place ≡ done values → P
 no-refusal e = let z : ◌≡◌ {A = ℕ} 0 1 = cc in absurd (omega arith)
+
+-- a `?` passes the refusal on as it is
+pub passed-on : (outcome : Result (Unit {0}) Refusal) (refusal : Refusal) → IsErrAnd outcome (λ passed. passed ≡ refusal) → of_outcome outcome ≡ of_refusal refusal
+passed-on outcome refusal e =
+    let p = err_from_is_err_and outcome e in
+    ap of_outcome p.1 ∙ ap of_refusal p.2

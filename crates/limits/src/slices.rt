@@ -1,9 +1,10 @@
-// The lowest place of a slice whose entry is outside its limits.
+// The lowest place of a slice whose entry is outside its limits, or none.
 ghost use Rattle.std.specs.Prelude.{◌≡◌, true, cond, ◌&&◌, length, get_or};
 ghost use Rattle.std.specs.Float.{nan};
 ghost use Rattle.std.specs.Float.Ieee.{lt};
 ghost use Rattle.float32.specs.Order.{within};
 ghost use Rattle.lists.specs.Folds.{first_bad};
+ghost use Rattle.limits.specs.Found.{Finds};
 
 use float32::order::in_range;
 
@@ -26,17 +27,7 @@ fn greater(x: f32, y: f32) -> f32
 fn pair_in_range(x: f32, y: f32, lo: f32, hi: f32) -> bool
     ensures { result ≡ (within lo hi x && within lo hi y) }
 {
-    if lo <= lesser(x, y) {
-        greater(y, x) <= hi
-    } else {
-        false
-    }
-}
-
-fn both(a: bool, b: bool) -> bool
-    ensures { result ≡ (a && b) }
-{
-    if a { b } else { false }
+    lo <= lesser(x, y) && greater(y, x) <= hi
 }
 
 // Whether no entry is outside. None of them ends the loop, so that it is done for several entries
@@ -49,51 +40,42 @@ fn none_outside(xs: &[f32], lo: f32, hi: f32) -> bool
     let rest = xs.len() / 2;
     let half = xs.len() - rest;
     let mut all = true;
-    let mut i: usize = 0;
-    while i < half {
-        all = both(all, pair_in_range(xs[i], xs[rest + i], lo, hi));
-        i += 1;
+    for i in 0..half {
+        all &= pair_in_range(xs[i], xs[rest + i], lo, hi);
     }
     all
 }
 
-fn search_outside(xs: &[f32], lo: f32, hi: f32) -> usize
-    ensures { result ≡ first_bad (λ k x. within lo hi x) xs.now }
+fn search_outside(xs: &[f32], lo: f32, hi: f32) -> Option<usize>
+    ensures { Finds (length xs.now) (first_bad (λ k x. within lo hi x) xs.now) result }
 {
-    let mut i: usize = 0;
-    while i < xs.len() {
-        if in_range(xs[i], lo, hi) {
-            i += 1;
-        } else {
-            return i;
+    for (i, x) in xs.iter().enumerate() {
+        if !in_range(*x, lo, hi) {
+            return Some(i);
         }
     }
-    i
+    None
 }
 
-// The slice's length where no entry is outside.
-pub fn first_outside(xs: &[f32], lo: f32, hi: f32) -> usize
-    ensures { result ≡ first_bad (λ k x. within lo hi x) xs.now }
+pub fn first_outside(xs: &[f32], lo: f32, hi: f32) -> Option<usize>
+    ensures { Finds (length xs.now) (first_bad (λ k x. within lo hi x) xs.now) result }
 {
     if none_outside(xs, lo, hi) {
-        return xs.len();
+        return None;
     }
     search_outside(xs, lo, hi)
 }
 
-// Of two slices of equal length the lowest place at which either is outside, or their length.
-pub fn first_pair_outside(xs: &[f32], ys: &[f32], lo: f32, hi: f32) -> usize
+// Of two slices of equal length the lowest place at which either is outside.
+pub fn first_pair_outside(xs: &[f32], ys: &[f32], lo: f32, hi: f32) -> Option<usize>
     requires { length xs.now ≡ length ys.now }
-    ensures { result ≡ first_bad
-        (λ k x. within lo hi x && within lo hi (get_or ys.now k nan)) xs.now }
+    ensures { Finds (length xs.now) (first_bad
+        (λ k x. within lo hi x && within lo hi (get_or ys.now k nan)) xs.now) result }
 {
-    let mut i: usize = 0;
-    while i < xs.len() {
-        if pair_in_range(xs[i], ys[i], lo, hi) {
-            i += 1;
-        } else {
-            return i;
+    for i in 0..xs.len() {
+        if !pair_in_range(xs[i], ys[i], lo, hi) {
+            return Some(i);
         }
     }
-    i
+    None
 }

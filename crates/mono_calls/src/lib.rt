@@ -15,8 +15,8 @@ use answer::Outcome;
 use limits::lengths;
 use limits::lengths::{MANUAL_MASK_POINTS, MIDI_NOTES, MOST_VOICES};
 use mask_builder::build_one;
-use refusals::{first, of_levels, of_settings, of_table, of_voices};
-use scene::{MaskConfig, MaskVoice, both};
+use refusals::{of_levels, of_settings, of_table, of_voices};
+use scene::{MaskConfig, MaskVoice};
 
 // Builds the mask of a bank of note levels: a voice for each of the 128 notes, with nothing played
 // on it.
@@ -33,30 +33,21 @@ pub fn build_mask(
         (voices_of note_levels.now)) output.old }
 {
     let bins = lengths::bins(config.fft_size);
-    let lengths = both(
-        output.len() == bins,
-        both(
-            manual_mask_db.len() == MANUAL_MASK_POINTS,
-            note_levels.len() == MIDI_NOTES,
-        ),
+    let lent = manual_mask_db.len() == MANUAL_MASK_POINTS && note_levels.len() == MIDI_NOTES;
+    let lengths = output.len() == bins && lent;
+    of_settings(config)?;
+    of_levels(note_levels, lengths)?;
+    let voices = scene::levels::voices_of(note_levels);
+    build_one(
+        output,
+        manual_mask_db,
+        voices,
+        MIDI_NOTES,
+        config,
+        false,
+        note_levels,
     );
-    let outcome = first(of_settings(config), of_levels(note_levels, lengths));
-    match outcome {
-        Outcome::Refused(number, place) => Outcome::Refused(number, place),
-        Outcome::Done => {
-            let voices = scene::levels::voices_of(note_levels);
-            build_one(
-                output,
-                manual_mask_db,
-                voices,
-                MIDI_NOTES,
-                config,
-                false,
-                note_levels,
-            );
-            Outcome::Done
-        }
-    }
+    Ok(())
 }
 
 // Builds the mono mask of the voices, working out each bin's logarithm.
@@ -74,26 +65,19 @@ pub fn build_mask_with_voices(
         output.old }
 {
     let bins = lengths::bins(config.fft_size);
-    let lengths = both(
-        output.len() == bins,
-        manual_mask_db.len() == MANUAL_MASK_POINTS,
+    let lengths = output.len() == bins && manual_mask_db.len() == MANUAL_MASK_POINTS;
+    of_settings(config)?;
+    of_voices(voices, count, lengths)?;
+    build_one(
+        output,
+        manual_mask_db,
+        voices,
+        count,
+        config,
+        false,
+        manual_mask_db,
     );
-    let outcome = first(of_settings(config), of_voices(voices, count, lengths));
-    match outcome {
-        Outcome::Refused(number, place) => Outcome::Refused(number, place),
-        Outcome::Done => {
-            build_one(
-                output,
-                manual_mask_db,
-                voices,
-                count,
-                config,
-                false,
-                manual_mask_db,
-            );
-            Outcome::Done
-        }
-    }
+    Ok(())
 }
 
 // Builds the mono mask of the voices by the lent table, prepared or not.
@@ -112,20 +96,11 @@ pub fn build_mask_with_voices_precomputed(
         (take count voices)) output.old }
 {
     let bins = lengths::bins(config.fft_size);
-    let lengths = both(
-        output.len() == bins,
-        both(
-            manual_mask_db.len() == MANUAL_MASK_POINTS,
-            table.len() == bins,
-        ),
-    );
-    let scene = first(of_voices(voices, count, lengths), of_table(table));
-    let outcome = first(of_settings(config), scene);
-    match outcome {
-        Outcome::Refused(number, place) => Outcome::Refused(number, place),
-        Outcome::Done => {
-            build_one(output, manual_mask_db, voices, count, config, true, table);
-            Outcome::Done
-        }
-    }
+    let lent = manual_mask_db.len() == MANUAL_MASK_POINTS && table.len() == bins;
+    let lengths = output.len() == bins && lent;
+    of_settings(config)?;
+    of_voices(voices, count, lengths)?;
+    of_table(table)?;
+    build_one(output, manual_mask_db, voices, count, config, true, table);
+    Ok(())
 }

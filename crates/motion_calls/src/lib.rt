@@ -7,7 +7,7 @@ ghost use Rattle.answer.specs.Reply.{of_answer};
 ghost use Rattle.motion_calls.specs.Motion.{openness_reply, attenuation_reply};
 ghost use Rattle.motion_calls.specs.Motion.{compensation_reply};
 
-use answer::{Answer, refusal};
+use answer::{Answer, Reason};
 use scene::MotionConfig;
 
 // How open the moving field is at a frequency: 1 is the crest, and 0 receives the whole
@@ -16,10 +16,10 @@ pub fn motion_openness(frequency: f32, config: MotionConfig) -> Answer
     ensures { of_answer result ≡ openness_reply frequency config }
 {
     if !limits::frequency(frequency) {
-        return Answer::Refused(refusal::SETTING, 0);
+        return Answer::Refused(Reason::Setting, 0);
     }
     if !scene::motion_accepted(config) {
-        return Answer::Refused(refusal::SETTING, 0);
+        return Answer::Refused(Reason::Setting, 0);
     }
     let sines = sine::table::sine_table();
     Answer::Gain(motion::field::openness(&sines, frequency, config))
@@ -30,10 +30,10 @@ pub fn motion_attenuation_db(frequency: f32, config: MotionConfig) -> Answer
     ensures { of_answer result ≡ attenuation_reply frequency config }
 {
     if !limits::frequency(frequency) {
-        return Answer::Refused(refusal::SETTING, 0);
+        return Answer::Refused(Reason::Setting, 0);
     }
     if !scene::motion_accepted(config) {
-        return Answer::Refused(refusal::SETTING, 0);
+        return Answer::Refused(Reason::Setting, 0);
     }
     let sines = sine::table::sine_table();
     Answer::Gain(motion::field::attenuation_db(&sines, frequency, config))
@@ -44,7 +44,7 @@ pub fn motion_compensation_gain(config: MotionConfig) -> Answer
     ensures { of_answer result ≡ compensation_reply config }
 {
     if !scene::motion_accepted(config) {
-        return Answer::Refused(refusal::SETTING, 0);
+        return Answer::Refused(Reason::Setting, 0);
     }
     let powers = power::table::power_table();
     let sines = sine::table::sine_table();

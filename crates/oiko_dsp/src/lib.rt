@@ -6,14 +6,14 @@ ghost use Rattle.std.specs.Prelude.{◌≡◌};
 ghost use Rattle.answer.specs.Reply.{of_answer};
 ghost use Rattle.oiko_dsp.specs.Calls.{db_to_gain, note_frequency, note_frequency_with_tuning};
 
-use answer::{Answer, refusal};
+use answer::{Answer, Reason};
 
 // Converts amplitude decibels to a linear gain.
 pub fn db_to_gain(db: f32) -> Answer
     ensures { of_answer result ≡ db_to_gain db }
 {
     if !limits::decibels(db) {
-        return Answer::Refused(refusal::SETTING, 0);
+        return Answer::Refused(Reason::Setting, 0);
     }
     Answer::Gain(decibels::single_gain(db))
 }
@@ -30,10 +30,10 @@ pub fn note_frequency_with_tuning(note: u8, tuning_semitones: f32) -> Answer
     ensures { of_answer result ≡ note_frequency_with_tuning note tuning_semitones }
 {
     if !limits::note(note) {
-        return Answer::Refused(refusal::SETTING, 0);
+        return Answer::Refused(Reason::Setting, 0);
     }
     if !limits::tuning(tuning_semitones) {
-        return Answer::Refused(refusal::SETTING, 0);
+        return Answer::Refused(Reason::Setting, 0);
     }
     Answer::Gain(pitch::note_hertz(note, tuning_semitones))
 }

@@ -3,7 +3,7 @@
 -- the slice itself. Assumes nothing.
 use mathlib.Core.Path.{◌≡◌, sym, subst}
 use mathlib.Core.Bool.{Bool, true}
-use mathlib.Core.List.{List, [], ◌∷◌, map}
+use mathlib.Core.List.{List, [], ◌∷◌}
 use Prim.Native.Nat.{ℕ, zero, suc, ◌<◌}
 use native.Mathlib.Nat.{not-suc-le-zero, le_of_suc-le-suc}
 use lib.Dec.{T}
@@ -14,7 +14,6 @@ use denote.Laws.{Is}
 use denote.Shadow.{shadow}
 use denote.Array.{each, Array}
 use denote.Struct.Declared.{row}
-use denote.Struct.Field.{array_field}
 use denote.Enum.Declared as enum
 use Rattle.scene.specs.declared.MaskVoice.{MaskVoice}
 use Rattle.scene.specs.declared.Pitch.{Pitch}

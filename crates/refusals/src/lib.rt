@@ -3,34 +3,25 @@
 
 ghost use Rattle.std.specs.Prelude.{◌≡◌, true, length};
 ghost use Rattle.answer.specs.Reply.{of_outcome};
-ghost use Rattle.refusals.specs.Masks.{first, settings_reply, voices_reply, table_reply};
+ghost use Rattle.limits.specs.Found.{Finds};
+ghost use Rattle.refusals.specs.Masks.{settings_reply, voices_reply, table_reply};
 ghost use Rattle.refusals.specs.Masks.{levels_reply, entry_accepted, first_entry_outside};
 
-use answer::{Outcome, refusal};
+use answer::{Outcome, Reason, Refusal};
 use limits::lengths::MOST_VOICES;
 use scene::{MaskConfig, MaskVoice};
-
-// The first of two outcomes that is a refusal; done where neither is.
-pub fn first(one: Outcome, two: Outcome) -> Outcome
-    ensures { of_outcome result ≡ first (of_outcome one) (of_outcome two) }
-{
-    match one {
-        Outcome::Done => two,
-        Outcome::Refused(number, place) => Outcome::Refused(number, place),
-    }
-}
 
 // Refusals 1 and 2: size and rate, and every other setting.
 pub fn of_settings(config: MaskConfig) -> Outcome
     ensures { of_outcome result ≡ settings_reply config }
 {
     if !scene::size_accepted(config) {
-        return Outcome::Refused(refusal::SIZE_OR_RATE, 0);
+        return Err(Reason::SizeOrRate.into());
     }
     if !scene::settings_accepted(config) {
-        return Outcome::Refused(refusal::SETTING, 0);
+        return Err(Reason::Setting.into());
     }
-    Outcome::Done
+    Ok(())
 }
 
 // Refusals 3, 4 and 5: the number of voices, the lengths of the slices, and a voice outside its
@@ -39,26 +30,22 @@ pub fn of_voices(voices: [MaskVoice; MOST_VOICES], count: usize, lengths: bool) 
     ensures { of_outcome result ≡ voices_reply voices count lengths }
 {
     if MOST_VOICES < count {
-        return Outcome::Refused(refusal::VOICE_COUNT, 0);
+        return Err(Reason::VoiceCount.into());
     }
     if !lengths {
-        return Outcome::Refused(refusal::LENGTH, 0);
+        return Err(Reason::Length.into());
     }
-    let voice = scene::first_voice_outside(voices, count);
-    if voice < count {
-        return Outcome::Refused(refusal::VOICE, voice);
+    if let Some(voice) = scene::first_voice_outside(voices, count) {
+        return Err(Refusal::at(Reason::Voice, voice));
     }
-    Outcome::Done
+    Ok(())
 }
 
 // Entry 0 is not tested.
 fn entry_accepted(bin: usize, entry: f32) -> bool
     ensures { result ≡ entry_accepted bin entry }
 {
-    if bin == 0 {
-        return true;
-    }
-    limits::table_entry(entry)
+    bin == 0 || limits::table_entry(entry)
 }
 
 // Whether no entry from 1 on is outside its limits. None of them ends the loop, so that it is done
@@ -68,28 +55,22 @@ fn none_outside(table: &[f32]) -> bool
         first_entry_outside table.now ≡ length table.now }
 {
     let mut outside: usize = 0;
-    let mut bin: usize = 0;
-    while bin < table.len() {
-        outside += !entry_accepted(bin, table[bin]) as usize;
-        bin += 1;
+    for (bin, entry) in table.iter().enumerate() {
+        outside += !entry_accepted(bin, *entry) as usize;
     }
     outside == 0
 }
 
-// The lowest index, from 1 on, of a table entry outside its limits; the table's length where there
-// is none.
-fn first_entry_outside(table: &[f32]) -> usize
-    ensures { result ≡ first_entry_outside table.now }
+// The lowest index, from 1 on, of a table entry outside its limits.
+fn first_entry_outside(table: &[f32]) -> Option<usize>
+    ensures { Finds (length table.now) (first_entry_outside table.now) result }
 {
-    let mut bin: usize = 0;
-    while bin < table.len() {
-        if entry_accepted(bin, table[bin]) {
-            bin += 1;
-        } else {
-            return bin;
+    for (bin, entry) in table.iter().enumerate() {
+        if !entry_accepted(bin, *entry) {
+            return Some(bin);
         }
     }
-    bin
+    None
 }
 
 // Refusal 6: a table entry.
@@ -97,13 +78,12 @@ pub fn of_table(table: &[f32]) -> Outcome
     ensures { of_outcome result ≡ table_reply table.now }
 {
     if none_outside(table) {
-        return Outcome::Done;
+        return Ok(());
     }
-    let entry = first_entry_outside(table);
-    if entry < table.len() {
-        return Outcome::Refused(refusal::TABLE_ENTRY, entry);
+    if let Some(entry) = first_entry_outside(table) {
+        return Err(Refusal::at(Reason::TableEntry, entry));
     }
-    Outcome::Done
+    Ok(())
 }
 
 // Refusals 4 and 7 of a bank of levels: the lengths of the slices, and a level outside its limits.
@@ -111,11 +91,10 @@ pub fn of_levels(levels: &[f32], lengths: bool) -> Outcome
     ensures { of_outcome result ≡ levels_reply levels.now lengths }
 {
     if !lengths {
-        return Outcome::Refused(refusal::LENGTH, 0);
+        return Err(Reason::Length.into());
     }
-    let note = limits::first_outside(levels, limits::LEAST_LEVEL, limits::MOST_LEVEL);
-    if note < levels.len() {
-        return Outcome::Refused(refusal::LIST_VALUE, note);
+    if let Some(note) = limits::first_outside(levels, limits::LEAST_LEVEL, limits::MOST_LEVEL) {
+        return Err(Refusal::at(Reason::ListValue, note));
     }
-    Outcome::Done
+    Ok(())
 }

@@ -5,6 +5,7 @@ pub mod levels;
 pub mod pitches;
 
 ghost use Rattle.std.specs.Prelude.{◌≡◌, ◌&&◌, ◌≤◌, ◌<◌, replicate};
+ghost use Rattle.limits.specs.Found.{Finds};
 ghost use Rattle.limits.specs.Lengths.{most_voices};
 ghost use Rattle.scene.specs.Accepted.{motion_accepted, size_accepted, settings_accepted};
 ghost use Rattle.scene.specs.Accepted.{voice_accepted, first_voice_outside};
@@ -236,20 +237,15 @@ pub fn voice_accepted(voice: MaskVoice) -> bool
     )
 }
 
-// The lowest index of a voice outside its limits, or `count` if there is none. Voices past the
-// count are not tested.
-pub fn first_voice_outside(voices: [MaskVoice; MOST_VOICES], count: usize) -> usize
+// The lowest index of a voice outside its limits. Voices past the count are not tested.
+pub fn first_voice_outside(voices: [MaskVoice; MOST_VOICES], count: usize) -> Option<usize>
     requires { count ≤ most_voices }
-    ensures { result ≡ first_voice_outside voices count }
+    ensures { Finds count (first_voice_outside voices count) result }
 {
-    let mut i: usize = 0;
-    while i < count {
-        let voice = voices[i];
-        if voice_accepted(voice) {
-            i += 1;
-        } else {
-            return i;
+    for i in 0..count {
+        if !voice_accepted(voices[i]) {
+            return Some(i);
         }
     }
-    i
+    None
 }

@@ -2,7 +2,7 @@
 -- the whole search finds. Assumes nothing.
 use mathlib.Core.Path.{◌≡◌, refl, sym, ◌∙◌, subst}
 use mathlib.Core.Bool.{Bool, true, false, not}
-use Prim.Native.Nat.{ℕ, ◌+◌, ◌-◌, ◌≤◌}
+use Prim.Native.Nat.{ℕ, ◌+◌, ◌≤◌}
 use native.Mathlib.Omega.{arith}
 use lib.Dec.{T, eqb→eq}
 use lib.ListN.{length}
@@ -21,34 +21,16 @@ none-counted : (ok : Bool) (n : ℕ) → n + bool_byte (not ok) ≡ 0 → (n ≡
 none-counted true n z = (omega arith, refl)
 none-counted false n z = absurd (omega arith)
 
-pub loop-bin-init : goal.loop-bin-init
-loop-bin-init c = (omega arith, omega arith, λ z. refl)
-
-pub offset_bounds-table-bin : goal.offset_bounds-table-bin
-offset_bounds-table-bin c = omega arith
-
-pub bounds-table-bin : goal.bounds-table-bin
-bounds-table-bin c = omega arith
-
-pub overflow_add-outside : goal.overflow_add-outside
-overflow_add-outside c = omega (arith, at_most_one (not c.entry_accepted.result), c.loop-bin.invariant.0)
-
-pub overflow_add-bin : goal.overflow_add-bin
-overflow_add-bin c = omega arith
-
-pub loop-bin-smaller : goal.loop-bin-smaller
-loop-bin-smaller c = omega arith
-
 pub loop-bin-preserved : goal.loop-bin-preserved
 loop-bin-preserved c =
     let l = c.loop-bin in
     let kept : l.outside + bool_byte (not c.entry_accepted.result) ≡ 0 → Searched nan entry_accepted c.args.table.now (l.bin + 1) = λ z.
     let both = none-counted c.entry_accepted.result l.outside z in
-    searched-on nan _ _ _ (omega arith) (sym c.entry_accepted.ensures ∙ both.1) (l.invariant.2 both.0) in
-    (omega (arith, at_most_one (not c.entry_accepted.result), l.invariant.0), omega arith, kept)
+    searched-on nan _ _ _ (omega arith) (sym c.entry_accepted.ensures ∙ both.1) (l.invariant.1 both.0) in
+    (omega (arith, at_most_one (not c.entry_accepted.result), l.invariant.0), kept)
 
 pub returns : goal.returns
 returns c none =
     let l = c.loop-bin in
-    let end : l.bin ≡ length c.args.table.now = omega (arith, l.invariant.1) in
-    sym (found_none nan _ _ _ (omega arith) (l.invariant.2 (eqb→eq l.outside 0 (subst T (sym none) tt)))) ∙ end
+    let end : l.bin ≡ length c.args.table.now = omega arith in
+    sym (found_none nan _ _ _ (omega arith) (l.invariant.1 (eqb→eq l.outside 0 (subst T (sym none) tt)))) ∙ end

@@ -2,7 +2,7 @@
 -- voices, finds what the whole search finds. Assumes nothing.
 use mathlib.Core.Path.{◌≡◌}
 use mathlib.Core.Bool.{Bool}
-use Prim.Native.Nat.{ℕ, ◌≤◌, ◌-◌}
+use Prim.Native.Nat.{ℕ}
 use lib.ListN.{take, drop}
 use Rattle.lists.specs.Folds.{first_bad_from, first_bad}
 use Rattle.scene.specs.declared.MaskVoice.{MaskVoice}
@@ -13,7 +13,4 @@ abbrev pub accepted : ℕ → MaskVoice → Bool
 accepted index voice = voice_accepted voice
 
 abbrev pub invariant-loop-i : goal.invariant-loop-i
-invariant-loop-i l = (l.i ≤ l.count) × (first_bad_from accepted l.i (drop l.i (take l.count l.voices)) ≡ first_bad accepted (take l.count l.voices))
-
-abbrev pub decreases-loop-i : goal.decreases-loop-i
-decreases-loop-i l = l.count - l.i
+invariant-loop-i l = first_bad_from accepted l.i (drop l.i (take l.count l.voices)) ≡ first_bad accepted (take l.count l.voices)

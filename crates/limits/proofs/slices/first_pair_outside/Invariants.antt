@@ -2,8 +2,8 @@
 -- whole search finds, and a place is good where both entries are. Assumes nothing.
 use mathlib.Core.Bool.{Bool, ◌&&◌}
 use mathlib.Core.List.{List}
-use Prim.Native.Nat.{ℕ, ◌≤◌, ◌-◌}
-use lib.ListN.{length, get_or}
+use Prim.Native.Nat.{ℕ}
+use lib.ListN.{get_or}
 use lib.Ieee.{Float, nan}
 use Rattle.float32.specs.Order.{within}
 use Rattle.limits.proofs.Searches.{Searched}
@@ -13,7 +13,4 @@ abbrev pub inside : List Float → Float → Float → ℕ → Float → Bool
 inside ys lo hi k x = within lo hi x && within lo hi (get_or ys k nan)
 
 abbrev pub invariant-loop-i : goal.invariant-loop-i
-invariant-loop-i l = (l.i ≤ length l.xs) × Searched nan (inside l.ys l.lo l.hi) l.xs l.i
-
-abbrev pub decreases-loop-i : goal.decreases-loop-i
-decreases-loop-i l = length l.xs - l.i
+invariant-loop-i l = Searched nan (inside l.ys l.lo l.hi) l.xs l.i

@@ -1,6 +1,6 @@
 -- `limits::slices::pair_in_range` meets its contract: the lesser and the greater decide of both.
 -- Assumes nothing.
-use mathlib.Core.Path.{◌≡◌, sym, subst}
+use mathlib.Core.Path.{◌≡◌, sym, ◌∙◌, subst}
 use mathlib.Core.Bool.{cond, ◌&&◌}
 use lib.Dec.{T}
 use lib.Ieee.{binary32, lt, le}
@@ -22,4 +22,4 @@ pub returns-then-lo-lesser : goal.returns-then-lo-lesser
 returns-then-lo-lesser c = simp (← c.greater.ensures, ← c.lesser.ensures, c.if-lo-lesser.true) at (decided c.before.before.before)
 
 pub returns-else-lo-lesser : goal.returns-else-lo-lesser
-returns-else-lo-lesser c = simp (← c.lesser.ensures, c.if-lo-lesser.false) at (decided c.before.before)
+returns-else-lo-lesser c = c.if-lo-lesser.false ∙ simp (← c.lesser.ensures, c.if-lo-lesser.false) at (decided c.before.before)

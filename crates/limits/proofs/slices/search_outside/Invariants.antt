@@ -1,8 +1,7 @@
 -- `limits::slices::search_outside` meets its contract: the search from here on finds what the whole
 -- search finds. Assumes nothing.
 use mathlib.Core.Bool.{Bool}
-use Prim.Native.Nat.{ℕ, ◌≤◌, ◌-◌}
-use lib.ListN.{length}
+use Prim.Native.Nat.{ℕ}
 use lib.Ieee.{Float, nan}
 use Rattle.float32.specs.Order.{within}
 use Rattle.limits.proofs.Searches.{Searched}
@@ -12,7 +11,4 @@ abbrev pub inside : Float → Float → ℕ → Float → Bool
 inside lo hi k x = within lo hi x
 
 abbrev pub invariant-loop-i : goal.invariant-loop-i
-invariant-loop-i l = (l.i ≤ length l.xs) × Searched nan (inside l.lo l.hi) l.xs l.i
-
-abbrev pub decreases-loop-i : goal.decreases-loop-i
-decreases-loop-i l = length l.xs - l.i
+invariant-loop-i l = Searched nan (inside l.lo l.hi) l.xs l.i
