@@ -91,11 +91,9 @@ module _ {A : Type 0} where
 -- what is left where the entries after p, up to n, are copied to the places from p on
 module _ {A : Type 0} (d : A) (xs ys : List A) (p n : ℕ) (l : p < n) where
   pub copied-closed :
-      length ys ≡ length xs
-      → CopiedTo xs ys (p + 1) p (n - (p + 1)) × SameBelow xs ys p
-      × SameFrom xs ys (p + (n - (p + 1)))
-      → ys ≡ closed d p (n - 1) xs
-  copied-closed same copied =
+      length ys ≡ length xs → CopiedTo xs ys (p + 1) p (n - (p + 1)) → SameBelow xs ys p
+      → SameFrom xs ys (p + (n - (p + 1))) → ys ≡ closed d p (n - 1) xs
+  copied-closed same moved low high =
       ext_get_or d ys (closed d p (n - 1) xs)
       (same ∙ sym (length-map_range (λ k x. get_or xs (k + 1) d) p (n - 1) xs))
       (λ k h. at k (omega (arith, same, h)) (dec_lt k p) (dec_lt k (n - 1)))
@@ -106,19 +104,19 @@ module _ {A : Type 0} (d : A) (xs ys : List A) (p n : ℕ) (l : p < n) where
       at : (k : ℕ) → k < length xs → Dec (k < p) → Dec (k < n - 1)
           → get_or ys k d ≡ get_or (closed d p (n - 1) xs) k d
       at k h (yes below) _ =
-          copied.1 k d below
+          low k d below
           ∙ sym
           (get_or-map_range g p (n - 1) xs k d h
           ∙ between-low g p (n - 1) k (get_or xs k d) below)
       at k h (no from) (yes below) =
           let e : p + 1 + (k - p) ≡ k + 1 = omega arith in
-          copied.0 k d (omega arith) (omega arith)
+          moved k d (omega arith) (omega arith)
           ∙ ap (λ j. get_or xs j d) e
           ∙ sym
           (get_or-map_range g p (n - 1) xs k d h
           ∙ between_in g p (n - 1) k (get_or xs k d) (omega arith) below)
       at k h (no from) (no above) =
-          copied.2 k d (omega arith)
+          high k d (omega arith)
           ∙ sym
           (get_or-map_range g p (n - 1) xs k d h
           ∙ between-high g p (n - 1) k (get_or xs k d) (omega arith))

@@ -20,5 +20,5 @@ returns-clause-mixer_value c =
     let e =
     copied-closed 0 mixer.strips c.copy_within.new.self 0 c.min-count.result
     (omega (arith, count, some))
-    moved.len moved.by_index in
+    moved.len moved.by_index.0 moved.by_index.1 moved.by_index.2 in
     simp (e, c.saturating_add-mixer.ensures, count) (sym (turned-first mixer whole some))
