@@ -43,4 +43,4 @@ lesser-no-nan (fin s m e) = either (lt zero (fin s m e)) zero (fin s m e) tt tt
 
 pub counted-no-nan : (db : Float) → T (not (is_nan (counted_as db)))
 unfolding counted_as of_bits is_nan
-counted-no-nan db = either (muted db) silent_db (minimum db zero) tt (min-no-nan db)
+counted-no-nan db = either (muted db) silent_db (minimum db zero) tt (lesser-no-nan db)

@@ -45,7 +45,7 @@ quotient-mono a b c h =
 
 pub point-never-falls : (b b' size : ℕ) → b ≤ b' → curve_point b size ≤ curve_point b' size
 unfolding curve_point
-point-never-falls b b' size h = min-mono _ _ last_point (quotient-mono _ _ (size / 2) (omega arith))
+point-never-falls b b' size h = lesser-mono _ _ last_point (quotient-mono _ _ (size / 2) (omega arith))
 
 -- the last bin of an accepted size
 pub point-of-last : (size : ℕ) → 2 ≤ size → size ≤ 16384 → curve_point (size / 2) size ≡ last_point
@@ -53,10 +53,10 @@ point-of-last size h k =
     let s = size / 2 in
     let p : 0 < s = omega arith in
     let q : last_point ≤ (s * last_point + size / 4) / s = (le-div_iff_mul-le p).1 (omega arith) in
-    point-is s size (omega arith) ∙ min-is ((s * last_point + size / 4) / s) q
+    point-is s size (omega arith) ∙ lesser-is ((s * last_point + size / 4) / s) q
   where
-    min-is : (n : ℕ) → last_point ≤ n → min n last_point ≡ last_point
-    min-is n l = omega arith
+    lesser-is : (n : ℕ) → last_point ≤ n → min n last_point ≡ last_point
+    lesser-is n l = omega arith
 
 -- ---- where the points are `step` times the bins
 step-pos : (step half : ℕ) → step * half ≡ last_point → 1 ≤ step

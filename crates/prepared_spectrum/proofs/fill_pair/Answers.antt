@@ -12,7 +12,7 @@ pub slice_bounds-copy_from_slice-end-2 : goal.slice_bounds-copy_from_slice-end-2
 slice_bounds-copy_from_slice-end-2 c = sym (length-take-le _ _ (omega arith))
 
 pub copy_from_slice-requires : goal.copy_from_slice-requires
-copy_from_slice-requires c = sym (length-take-le _ _ (omega arith))
+copy_from_slice-requires c = length-take-le _ _ (omega arith)
 
 pub returns : goal.returns
 returns c =
