@@ -8,9 +8,8 @@
 // lookup and is vectorized.
 #![tactic(auto)]
 
-ghost use Rattle.std.specs.Prelude.{◌≡◌, cond, ◌≤◌, ◌<◌, length, get_or};
+ghost use Rattle.std.specs.Prelude.{◌≡◌, ◌≤◌, ◌<◌, length, get_or};
 ghost use Rattle.std.specs.Float.{nan};
-ghost use Rattle.std.specs.Float.Ieee.{lt};
 ghost use Rattle.lists.specs.Maps.{map_range};
 ghost use Rattle.gaussian.specs.Table.{gaussian_table};
 ghost use Rattle.lobe_bounds.specs.Bound.{least_distance, nearest_place, bound_at, bound_of};
@@ -101,24 +100,6 @@ pub fn bounds_of(
     bounds_at_places(bounds, gaussians, strengths, count);
 }
 
-// The greater of two numbers, the first where they are equal.
-fn greater(first: f32, second: f32) -> f32
-    ensures { result ≡ cond (lt first second) second first }
-{
-    if first < second { second } else { first }
-}
-
-// The index of the greater.
-fn greater_at(first: f32, second: f32, first_place: usize, second_place: usize) -> usize
-    ensures { result ≡ cond (lt first second) second_place first_place }
-{
-    if first < second {
-        second_place
-    } else {
-        first_place
-    }
-}
-
 // The index of the maximum of the first `count` numbers. The maximum so far is kept in a variable,
 // so that no iteration waits for a load.
 pub fn greatest_at(bounds: &[f32], count: usize) -> usize
@@ -129,8 +110,10 @@ pub fn greatest_at(bounds: &[f32], count: usize) -> usize
     let mut place: usize = 0;
     for p in 1..count {
         let next = bounds[p];
-        place = greater_at(greatest, next, place, p);
-        greatest = greater(greatest, next);
+        if greatest < next {
+            greatest = next;
+            place = p;
+        }
     }
     place
 }

@@ -20,12 +20,8 @@ pub fn all_centered(voices: [MaskVoice; MOST_VOICES], count: usize) -> bool
     requires { count ≤ most_voices }
     ensures { result ≡ all_centered (take count voices) }
 {
-    let mut i: usize = 0;
-    while i < count {
-        let voice = voices[i];
-        if centered(voice) {
-            i += 1;
-        } else {
+    for i in 0..count {
+        if !centered(voices[i]) {
             return false;
         }
     }

@@ -24,14 +24,12 @@ pub fn partials_of(grid: Grid, tone: Tone) -> usize
     requires { grid.partials ≤ max_partials }
     ensures { (result ≡ length (partials_of grid tone)) × (result ≤ grid.partials) }
 {
-    let mut count: usize = 0;
-    while count < grid.partials {
+    for count in 0..grid.partials {
         if grid.nyquist < center_of(tone, count + 1) {
             return count;
         }
-        count += 1;
     }
-    count
+    grid.partials
 }
 
 fn empty_lobes() -> [Lobe; MAX_PARTIALS]

@@ -19,13 +19,6 @@ returns-then-grid-center_of c =
     let above = rw c.center_of.ensures at c.if-grid-center_of.true in
     (omega (arith, c.loop-count.invariant.1, after_stop c.args.grid c.args.tone c.loop-count.count c.loop-count-test.true above), c.loop-count.invariant.0)
 
-pub overflow_add-count-in-loop-count : goal.overflow_add-count-in-loop-count
-overflow_add-count-in-loop-count c =
-    omega (arith, c.loop-count-test.true, c.requires)
-
-pub loop-count-smaller : goal.loop-count-smaller
-loop-count-smaller c = omega (arith, c.loop-count-test.true)
-
 pub loop-count-preserved : goal.loop-count-preserved
 loop-count-preserved c =
     let below = rw c.center_of.ensures at c.if-grid-center_of.false in
@@ -33,4 +26,4 @@ loop-count-preserved c =
 
 pub returns : goal.returns
 returns c =
-    (omega (arith, c.loop-count.invariant.1, after-all c.args.grid c.args.tone c.loop-count.count c.loop-count-test.false), c.loop-count.invariant.0)
+    (omega (arith, c.loop-count.invariant.1, after-all c.args.grid c.args.tone c.loop-count.count c.loop-count-test.false), omega arith)

@@ -9,6 +9,3 @@ use Rattle.tone_lobes.proofs.partials_of.Given as goal
 
 abbrev pub invariant-loop-count : goal.invariant-loop-count
 invariant-loop-count l = (l.count ≤ l.grid.partials) × (l.count + length (after l.grid l.tone l.count) ≡ length (partials_of l.grid l.tone))
-
-abbrev pub decreases-loop-count : goal.decreases-loop-count
-decreases-loop-count l = l.grid.partials - l.count

@@ -14,6 +14,3 @@ at_center index voice = centered voice
 
 abbrev pub invariant-loop-i : goal.invariant-loop-i
 invariant-loop-i l = (l.i ≤ l.count) × (every at_center l.i (drop l.i (take l.count l.voices)) ≡ every at_center 0 (take l.count l.voices))
-
-abbrev pub decreases-loop-i : goal.decreases-loop-i
-decreases-loop-i l = l.count - l.i
