@@ -37,9 +37,6 @@ loop-block-init c =
       walk_none _ _ _ c.block_of.result c.args.second.now (rw e refl) b.1,
     )
 
-pub overflow_mul-block : goal.overflow_mul-block
-overflow_mul-block c = omega (arith, c.loop-block.invariant.0)
-
 pub overflow_mul-start : goal.overflow_mul-start
 overflow_mul-start c = omega (arith, c.loop-block.invariant.0)
 
