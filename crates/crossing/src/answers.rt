@@ -1,23 +1,27 @@
 // An open call's answer, passed to a C caller: the number is returned, the values or the place are
 // written.
-ghost use Rattle.answer.specs.Reply.{of_answer, of_outcome, of_prepared};
+ghost use Rattle.answer.specs.Reply.{of_answer, of_outcome, of_prepared, of_refusal};
 ghost use Rattle.crossing.specs.Given.{Given, GivenValue, GivenValues};
 
-use answer::{Answer, Outcome, Prepared};
+use answer::{Answer, CoherentGains, Outcome, Refusal};
+
+fn give_refusal(refusal: Refusal, place: &mut usize) -> u32
+    ensures { Given (of_refusal refusal) result place.old place.new }
+{
+    *place = refusal.place;
+    u32::from(refusal.reason.number())
+}
 
 pub fn give_answer(answer: Answer, value: &mut f32, place: &mut usize) -> u32
     ensures { GivenValue (of_answer answer) result place.old place.new
         value.old value.new }
 {
     match answer {
-        Answer::Gain(x) => {
-            *value = x;
-            return 0;
+        Answer::Gain(gain) => {
+            *value = gain;
+            0
         }
-        Answer::Refused(number, at) => {
-            *place = at;
-            return number as u32;
-        }
+        Answer::Refused(reason, at) => give_refusal(Refusal::at(reason, at), place),
     }
 }
 
@@ -25,16 +29,13 @@ pub fn give_outcome(outcome: Outcome, place: &mut usize) -> u32
     ensures { Given (of_outcome outcome) result place.old place.new }
 {
     match outcome {
-        Outcome::Done => return 0,
-        Outcome::Refused(number, at) => {
-            *place = at;
-            return number as u32;
-        }
+        Ok(()) => 0,
+        Err(refusal) => give_refusal(refusal, place),
     }
 }
 
 pub fn give_prepared(
-    prepared: Prepared,
+    prepared: Result<CoherentGains, Refusal>,
     first: &mut f32,
     second: &mut f32,
     place: &mut usize,
@@ -43,14 +44,11 @@ pub fn give_prepared(
         first.old first.new second.old second.new }
 {
     match prepared {
-        Prepared::Gains(x, y) => {
-            *first = x;
-            *second = y;
-            return 0;
+        Ok(gains) => {
+            *first = gains.window;
+            *second = gains.smooth_window;
+            0
         }
-        Prepared::Refused(number, at) => {
-            *place = at;
-            return number as u32;
-        }
+        Err(refusal) => give_refusal(refusal, place),
     }
 }

@@ -11,7 +11,7 @@ ghost use Rattle.elementary.specs.Functions.{value_of};
 use power::table::PowerTable;
 use sine::table::SineTable;
 
-#[derive(Clone, Copy)]
+#[derive(Clone, Copy, Debug, PartialEq, Eq)]
 pub enum Function {
     Exp2,
     Log2,
@@ -52,10 +52,8 @@ fn apply_one_by_one(function: Function, powers: &PowerTable, sines: &SineTable, 
     requires { (powers.now ≡ power_table) × (sines.now ≡ sine_table) }
     ensures { xs.new ≡ map_at (λ k x. value_of function x) xs.old }
 {
-    let mut i: usize = 0;
-    while i < xs.len() {
-        xs[i] = value(function, powers, sines, xs[i]);
-        i += 1;
+    for x in xs.iter_mut() {
+        *x = value(function, powers, sines, *x);
     }
 }
 

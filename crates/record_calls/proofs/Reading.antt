@@ -3,9 +3,8 @@
 use mathlib.Core.Path.{◌≡◌, sym, ap, ◌∙◌}
 use mathlib.Core.Bool.{true, false, ◌&&◌}
 use mathlib.Core.List.{List, ◌++◌}
-use Prim.Native.Nat.{ℕ, ◌+◌, ◌-◌, ◌<◌}
+use Prim.Native.Nat.{ℕ, ◌-◌}
 use native.Mathlib.Nat.{le_refl}
-use native.Mathlib.Omega.{arith}
 use lib.Dec.{T, eqb, eqb→eq}
 use lib.Ieee.{Float}
 use lib.Ieee.Fits.{and_l, and_r}
@@ -13,7 +12,12 @@ use lib.ListN.{length, drop, replicate}
 use borrow.Author.Tests.{eq-eqb, ne_eqb}
 use Rattle.lists.specs.Pieces.{pieces-first}
 use Rattle.answer.specs.Refusal.{RECORD}
-use Rattle.answer.specs.Reply.{Reply, done, refused}
+use Rattle.std.specs.Prelude.{Result}
+use Rattle.std.specs.Result.{IsErrAnd}
+use Rattle.std.proofs.lemmas.Result.{err_from_is_err_and}
+use Rattle.answer.specs.declared.Refusal.{Refusal}
+use Rattle.answer.specs.Reply.{Reply, done, refused, of_refusal}
+use Rattle.scene.specs.declared.Scene.{Scene}
 use Rattle.limits.specs.Lengths.{record_head, record_voice, record_length}
 use Rattle.scene.specs.declared.MaskVoice.{MaskVoice}
 use Rattle.scene.specs.declared.MaskConfig.{MaskConfig}
@@ -26,7 +30,7 @@ use Rattle.record_heads.specs.Heads.{head_in, zero_bits, settings_in}
 use Rattle.record_voices.specs.Voices.{voice_of, voices_of, pitches_allowed}
 use Rattle.record_voices.proofs.Voices.{voices-counted}
 use Rattle.record_calls.specs.Records.{count_in, voices_in, well_formed, read_reply, scene_in}
-use Rattle.record_calls.specs.Records.{scene_read}
+use Rattle.record_calls.specs.Records.{scene_read, of_read, read_or_blank}
 
 -- ---- the test of refusal 9, by the test that answers
 module _ (bs : List ℕ) (n : ℕ) (e : n ≡ count_in bs) where
@@ -112,3 +116,11 @@ scene-refused bs e = rw e
 pub scene-done :
     (bs : List ℕ) {values : List Float} → read_reply bs ≡ done values → scene_in bs ≡ scene_read bs
 scene-done bs e = rw e
+
+-- a `?` passes the refusal of the tests on as it is
+pub passed_on :
+    (read : Result Scene Refusal) (refusal : Refusal) → IsErrAnd read (λ passed. passed ≡ refusal)
+    → (of_read read ≡ of_refusal refusal) × (read_or_blank read ≡ blank_scene)
+passed_on read refusal e =
+    let p = err_from_is_err_and read e in
+    (ap of_read p.1 ∙ ap of_refusal p.2, ap read_or_blank p.1)

@@ -1,8 +1,9 @@
 -- A whole scene record, in the words of request 104: the bytes that a scene is written as, the
 -- scene that a record holds, and what the two calls answer. Assumes nothing.
-use Rattle.std.specs.Prelude.{Bool, true, cond, ◌&&◌, List, [], ◌++◌, ℕ, eqb, length, take, drop}
+use Rattle.std.specs.Prelude.{Bool, true, cond, ◌&&◌, List, [], ◌++◌, ℕ, eqb, length, take, drop, Result, Ok, Err}
 use Rattle.answer.specs.Refusal.{RECORD}
-use Rattle.answer.specs.Reply.{Reply, done, refused}
+use Rattle.answer.specs.Reply.{Reply, done, refused, of_refusal}
+use Rattle.answer.specs.declared.Refusal.{Refusal}
 use Rattle.answer.specs.Written.{written}
 use Rattle.limits.specs.Lengths.{record_head, record_length}
 use Rattle.scene.specs.declared.MaskVoice.{MaskVoice}
@@ -67,3 +68,13 @@ scene_in bytes =
 -- the scene that stands beside the answer: the record's where the call is done, else the blank one
 abbrev pub scene_read : List ℕ → Scene
 scene_read bytes = written (read_reply bytes) (scene_in bytes) blank_scene
+
+-- ---- what a call of `read_scene` answers: the reply that it says, and its scene, or where it is
+-- refused the blank one
+abbrev pub of_read : Result Scene Refusal → Reply
+of_read (Ok scene) = done []
+of_read (Err refusal) = of_refusal refusal
+
+abbrev pub read_or_blank : Result Scene Refusal → Scene
+read_or_blank (Ok scene) = scene
+read_or_blank (Err refusal) = blank_scene

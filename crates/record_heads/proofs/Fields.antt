@@ -10,6 +10,7 @@ use lib.Bits.{bit_and, and_mask}
 use lib.Count.{count_trailing_zeros}
 use lib.Dec.{T, eqb, eqb→eq}
 use lib.Pow.{shr-shr, shr_lt}
+use mir.Val.{bool_byte}
 use Rattle.lists.specs.Tested.{below_at}
 use Rattle.limits.specs.Limits as limits
 use Rattle.limits.proofs.Sizes.{size-power}
@@ -132,6 +133,10 @@ number-of-layer n h =
     eqb→eq (layer_number (eqb n 1)) n (below_at 2 (λ n. eqb (layer_number (eqb n 1)) n) tt n h)
 
 -- ---- what the code computes
+pub layer_is : (on : Bool) → bool_byte on ≡ layer_number on
+layer_is true = refl
+layer_is false = refl
+
 -- the bits of a mask are a remainder
 pub masked : (n places bits : ℕ) → bit_and (n / 2 ^ places) (2 ^ bits - 1) ≡ field_at n places bits
 masked n places bits = and_mask (n / 2 ^ places) bits

@@ -5,28 +5,15 @@ ghost use Rattle.std.specs.Prelude.{◌≡◌, ◌/◌, ◌^◌, ◌≤◌, ◌<
 ghost use Rattle.std.specs.Int.Bits.{bit_and};
 ghost use Rattle.lists.specs.Stores.{stored};
 ghost use Rattle.limits.specs.Lengths.{record_head};
-ghost use Rattle.record_heads.specs.Heads.{log_of, layer_number, FieldsFit};
+ghost use Rattle.record_heads.specs.Heads.{FieldsFit};
 ghost use Rattle.record_heads.specs.Heads.{head_number, settings_floats, head_bytes};
 ghost use Rattle.record_heads.specs.Heads.{head_in, count_of, zero_bits, settings_of, settings_in};
 
 use record_words::{FLOATS, floats_at, put_floats, put_three, three_at};
-use scene::{MaskConfig, MotionConfig};
+use scene::{MaskConfig, MotionConfig, MotionShape};
 
 // The small fields take this many bytes.
 const FIELDS: usize = 3;
-
-// The logarithm of a size, which is a power of two.
-fn log_of(size: usize) -> u32
-    ensures { result ≡ log_of size }
-{
-    usize::trailing_zeros(size)
-}
-
-fn layer_number(on: bool) -> u32
-    ensures { (result ≡ layer_number on) × (result < 2) }
-{
-    if on { 1 } else { 0 }
-}
 
 // The small fields as one number: each stands behind the ones before it, and three zero bits behind
 // the last.
@@ -34,10 +21,9 @@ fn head_number(config: MaskConfig, count: usize) -> u32
     requires { FieldsFit config count }
     ensures { result ≡ head_number config count }
 {
-    let motion = config.motion;
-    let shape = motion.shape;
-    let size_and_layer = log_of(config.fft_size) * 2 + layer_number(config.note_layer_enabled);
-    let and_shape = size_and_layer * 8 + scene::shape_number(shape);
+    let log = config.fft_size.trailing_zeros();
+    let and_layer = log * 2 + u32::from(config.note_layer_enabled);
+    let and_shape = and_layer * 8 + u32::from(config.motion.shape);
     let and_partials = and_shape * 32 + config.partials as u32;
     (and_partials * 256 + count as u32) * 8
 }
@@ -100,8 +86,10 @@ pub fn zero_bits(number: u32) -> bool
 fn motion_of(number: u32, floats: [f32; FLOATS]) -> MotionConfig
     ensures { result ≡ (settings_of number floats).motion }
 {
+    // Three bits are always a shape's number.
+    let shape = MotionShape::try_from(field_at(number, 16, 7)).unwrap();
     MotionConfig {
-        shape: scene::shape_of(field_at(number, 16, 7)),
+        shape,
         depth_db: floats[4],
         phase: floats[5],
         size_octaves: floats[6],
@@ -120,7 +108,7 @@ fn settings_of(number: u32, floats: [f32; FLOATS]) -> MaskConfig
         width_cents: floats[2],
         partials: field_at(number, 11, 31) as usize,
         harmonic_rolloff_db_per_octave: floats[3],
-        motion: motion,
+        motion,
     }
 }
 

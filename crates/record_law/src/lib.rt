@@ -4,65 +4,45 @@
 
 ghost use Rattle.std.specs.Prelude.{◌≡◌, length};
 ghost use Rattle.answer.specs.Reply.{of_outcome};
-ghost use Rattle.record_calls.specs.Records.{read_reply, write_reply, scene_read};
+ghost use Rattle.record_calls.specs.Records.{read_reply, write_reply, of_read, read_or_blank};
 ghost use Rattle.record_law.specs.Law.{ComesBack, WrittenAsRead, OneRecord};
 
-use answer::Outcome;
-use record_calls::{SceneRead, read_scene, write_scene};
+use answer::{Outcome, Refusal};
+use record_calls::{read_scene, write_scene};
 use scene::Scene;
 
-// What a write answers, and a read.
-#[derive(Clone, Copy)]
-pub struct Answers {
-    pub written: Outcome,
-    pub read: SceneRead,
-}
+// What a read answers.
+pub type SceneRead = Result<Scene, Refusal>;
 
 // Writes a scene, and reads what the record then holds.
-pub fn write_then_read(record: &mut [u8], scene: Scene) -> Answers
-    ensures written_value { of_outcome result.written ≡ write_reply (length «record».old) scene }
-    ensures comes_back { ComesBack scene (of_outcome result.written) (of_outcome result.read.outcome)
-        result.read.scene }
+pub fn write_then_read(record: &mut [u8], scene: Scene) -> (Outcome, SceneRead)
+    ensures written_value { of_outcome result.0 ≡ write_reply (length «record».old) scene }
+    ensures comes_back { ComesBack scene (of_outcome result.0) (of_read result.1)
+        (read_or_blank result.1) }
 {
     let written = write_scene(record, scene);
-    let read = read_scene(record);
-    Answers {
-        written: written,
-        read: read,
-    }
+    (written, read_scene(record))
 }
 
-// Reads a record, and writes its scene to another slice.
-pub fn read_then_write(record: &[u8], copy: &mut [u8]) -> Answers
-    ensures outcome_value { of_outcome result.read.outcome ≡ read_reply «record».now }
+// Reads a record, and writes its scene to another slice. Where the read is refused nothing is
+// written.
+pub fn read_then_write(record: &[u8], copy: &mut [u8]) -> (SceneRead, Outcome)
+    ensures read_value { of_read result.0 ≡ read_reply «record».now }
     ensures written_as_read { length copy.old ≡ length «record».now →
-        WrittenAsRead «record».now (of_outcome result.read.outcome)
-        (of_outcome result.written) copy.new }
+        WrittenAsRead «record».now (of_read result.0) (of_outcome result.1) copy.new }
 {
-    let read = read_scene(record);
-    let scene = read.scene;
-    let written = write_scene(copy, scene);
-    Answers {
-        written: written,
-        read: read,
+    match read_scene(record) {
+        Ok(scene) => (Ok(scene), write_scene(copy, scene)),
+        Err(refusal) => (Err(refusal), Err(refusal)),
     }
-}
-
-// What two reads answer.
-#[derive(Clone, Copy)]
-pub struct TwoRead {
-    pub a: SceneRead,
-    pub b: SceneRead,
 }
 
 // Reads two records.
-pub fn read_two(a: &[u8], b: &[u8]) -> TwoRead
-    ensures outcome_value { of_outcome result.a.outcome ≡ read_reply a.now }
-    ensures outcome_value_2 { of_outcome result.b.outcome ≡ read_reply b.now }
-    ensures one_record { OneRecord a.now b.now (of_outcome result.a.outcome)
-        (of_outcome result.b.outcome) result.a.scene result.b.scene }
+pub fn read_two(a: &[u8], b: &[u8]) -> (SceneRead, SceneRead)
+    ensures a_value { of_read result.0 ≡ read_reply a.now }
+    ensures b_value { of_read result.1 ≡ read_reply b.now }
+    ensures one_record { OneRecord a.now b.now (of_read result.0) (of_read result.1)
+        (read_or_blank result.0) (read_or_blank result.1) }
 {
-    let one = read_scene(a);
-    let two = read_scene(b);
-    TwoRead { a: one, b: two }
+    (read_scene(a), read_scene(b))
 }

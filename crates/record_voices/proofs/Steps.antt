@@ -1,17 +1,14 @@
 -- What the loops over a record's voices keep, and what their steps store, read and test. Assumes
 -- nothing.
 use mathlib.Core.Path.{◌≡◌, refl, sym, ap, ◌∙◌, subst}
-use mathlib.Core.Bool.{Bool, true, false, not, ◌&&◌}
+use mathlib.Core.Bool.{true, false}
 use mathlib.Core.List.{List, [], ◌∷◌}
-use Prim.Native.Nat.{ℕ, suc, ◌+◌, ◌*◌, ◌-◌, ◌/◌, ◌%◌, ◌≤◌, ◌<◌}
+use Prim.Native.Nat.{ℕ, suc, ◌+◌, ◌*◌, ◌-◌, ◌≤◌, ◌<◌}
 use native.Mathlib.Nat.{add-zero}
 use native.Mathlib.Omega.{arith}
-use lib.Bits.{bit_and, and_mask}
-use lib.Dec.{eqb}
 use lib.Ieee.{Float, nan}
 use lib.ListN.{length, get_or, set, take, drop}
 use lib.Seq.{drop-drop, get_or-drop, get_or-take, length-take-le}
-use borrow.Author.Tests.{eq-eqb, ne_eqb}
 use Rattle.lists.specs.Totals.{All, all-at}
 use Rattle.lists.specs.Stores.{stored, stored-append, stored_one}
 use Rattle.lists.specs.Pieces.{piece-at-place}
@@ -97,16 +94,6 @@ gathered-voice bs at n i array voice h m e f =
     rw (e, same) (gathered-more voices i there (omega arith))
 
 -- ---- the test of the forbidden bits
-pub allowed-by-hertz : (b : ℕ) → bit_and b 1 ≡ 1 → eqb (b / 2) 0 ≡ pitch_allowed b
-allowed-by-hertz b e = rw (eq-eqb (b % 2) 1 (sym (and_mask b 1) ∙ e)) (go (eqb (b / 2) 0))
-  where
-    go : (z : Bool) → z ≡ not (true && not z)
-    go true = refl
-    go false = refl
-
-pub allowed-by-note : (b : ℕ) → (bit_and b 1 ≡ 1 → ⊥) → true ≡ pitch_allowed b
-allowed-by-note b n = rw (ne_eqb (b % 2) 1 (λ e. n (and_mask b 1 ∙ e)))
-
 module _ (bs : List ℕ) (at i n : ℕ) (h : i < n) where
   here : get_or (drop (at + 29 * i) bs) 0 0 ≡ get_or bs (at + 29 * i) 0
   here =

@@ -26,10 +26,9 @@ fn pitch_byte(pitch: Pitch) -> u8
 fn voice_floats(voice: MaskVoice) -> [f32; FLOATS]
     ensures { result ≡ voice_floats voice }
 {
-    let pitch = voice.pitch;
     [
         voice.level,
-        pitches::number_of(pitch),
+        pitches::number_of(voice.pitch),
         voice.pressure,
         voice.timbre,
         voice.volume_gain,
@@ -45,8 +44,7 @@ fn put_voice(record: &mut [u8], at: usize, voice: MaskVoice)
     ensures { «record».new
         ≡ stored «record».old at (voice_bytes voice) }
 {
-    let pitch = voice.pitch;
-    record[at] = pitch_byte(pitch);
+    record[at] = pitch_byte(voice.pitch);
     put_floats(record, at + 1, voice_floats(voice));
 }
 
@@ -58,10 +56,8 @@ pub fn put_voices(record: &mut [u8], at: usize, voices: [MaskVoice; MOST_VOICES]
     ensures { «record».new
         ≡ stored «record».old at (voices_bytes (take count voices)) }
 {
-    let mut i: usize = 0;
-    while i < count {
+    for i in 0..count {
         put_voice(record, at + RECORD_VOICE * i, voices[i]);
-        i += 1;
     }
 }
 
@@ -95,10 +91,8 @@ pub fn voices_at(record: &[u8], at: usize, count: usize) -> [MaskVoice; MOST_VOI
     ensures { result ≡ gathered_to count (voices_of (drop at «record».now) count) }
 {
     let mut voices = silent_voices();
-    let mut i: usize = 0;
-    while i < count {
+    for i in 0..count {
         voices[i] = voice_at(record, at + RECORD_VOICE * i);
-        i += 1;
     }
     voices
 }
@@ -107,10 +101,7 @@ pub fn voices_at(record: &[u8], at: usize, count: usize) -> [MaskVoice; MOST_VOI
 fn pitch_allowed(byte: u8) -> bool
     ensures { result ≡ pitch_allowed byte }
 {
-    if byte & 1 == pitches::HERTZ_FORM {
-        return byte >> 1 == 0;
-    }
-    true
+    byte & 1 != pitches::HERTZ_FORM || byte >> 1 == 0
 }
 
 // Whether none of the voices that follow one another from a place on has a forbidden bit.
@@ -118,11 +109,8 @@ pub fn pitches_allowed(record: &[u8], at: usize, count: usize) -> bool
     requires { at + record_voice * count ≤ length «record».now }
     ensures { result ≡ pitches_allowed (drop at «record».now) count }
 {
-    let mut i: usize = 0;
-    while i < count {
-        if pitch_allowed(record[at + RECORD_VOICE * i]) {
-            i += 1;
-        } else {
+    for i in 0..count {
+        if !pitch_allowed(record[at + RECORD_VOICE * i]) {
             return false;
         }
     }

@@ -11,21 +11,12 @@ use float32::bits::{bits_of, of_bits};
 // Head and voice end in this many floats.
 pub const FLOATS: usize = 7;
 
-fn wide(byte: u8) -> u32
-    ensures { (result ≡ byte) × (result < 256) }
-{
-    byte as u32
-}
-
 // The number of three bytes.
 pub fn three_at(bytes: &[u8], at: usize) -> u32
     requires { at + 3 ≤ length bytes.now }
     ensures { (result ≡ number_at bytes.now at 3) × (result < 2 ^ 24) }
 {
-    let a = wide(bytes[at]);
-    let b = wide(bytes[at + 1]);
-    let c = wide(bytes[at + 2]);
-    (a * 256 + b) * 256 + c
+    u32::from_be_bytes([0, bytes[at], bytes[at + 1], bytes[at + 2]])
 }
 
 // The number of four bytes.
@@ -33,15 +24,7 @@ fn four_at(bytes: &[u8], at: usize) -> u32
     requires { at + 4 ≤ length bytes.now }
     ensures { result ≡ number_at bytes.now at 4 }
 {
-    three_at(bytes, at) * 256 + wide(bytes[at + 3])
-}
-
-// The byte that stands so many bits from the end of a number.
-fn byte_of(n: u32, places: u8) -> u8
-    requires { places < 32 }
-    ensures { result ≡ n / 2 ^ places % 256 }
-{
-    ((n >> places) & 255) as u8
+    u32::from_be_bytes([bytes[at], bytes[at + 1], bytes[at + 2], bytes[at + 3]])
 }
 
 // Writes the three lowest bytes of a number.
@@ -49,9 +32,7 @@ pub fn put_three(bytes: &mut [u8], at: usize, n: u32)
     requires { at + 3 ≤ length bytes.old }
     ensures { bytes.new ≡ stored bytes.old at (bytes_of 3 n) }
 {
-    bytes[at] = byte_of(n, 16);
-    bytes[at + 1] = byte_of(n, 8);
-    bytes[at + 2] = byte_of(n, 0);
+    bytes[at..at + 3].copy_from_slice(&n.to_be_bytes()[1..]);
 }
 
 // Writes a number's four bytes.
@@ -59,10 +40,7 @@ fn put_four(bytes: &mut [u8], at: usize, n: u32)
     requires { at + 4 ≤ length bytes.old }
     ensures { bytes.new ≡ stored bytes.old at (bytes_of 4 n) }
 {
-    bytes[at] = byte_of(n, 24);
-    bytes[at + 1] = byte_of(n, 16);
-    bytes[at + 2] = byte_of(n, 8);
-    bytes[at + 3] = byte_of(n, 0);
+    bytes[at..at + 4].copy_from_slice(&n.to_be_bytes());
 }
 
 // The float of four bytes.
@@ -86,10 +64,8 @@ pub fn floats_at(bytes: &[u8], at: usize) -> [f32; FLOATS]
     ensures { result ≡ floats_of (drop at bytes.now) 7 }
 {
     let mut floats = [0.0f32; FLOATS];
-    let mut i: usize = 0;
-    while i < FLOATS {
+    for i in 0..FLOATS {
         floats[i] = float_at(bytes, at + 4 * i);
-        i += 1;
     }
     floats
 }
@@ -99,9 +75,7 @@ pub fn put_floats(bytes: &mut [u8], at: usize, floats: [f32; FLOATS])
     requires { at + 28 ≤ length bytes.old }
     ensures { bytes.new ≡ stored bytes.old at (floats_bytes floats) }
 {
-    let mut i: usize = 0;
-    while i < FLOATS {
+    for i in 0..FLOATS {
         put_float(bytes, at + 4 * i, floats[i]);
-        i += 1;
     }
 }

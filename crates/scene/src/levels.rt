@@ -27,10 +27,8 @@ pub fn voices_of(levels: &[f32]) -> [MaskVoice; MOST_VOICES]
     ensures { result ≡ voices_of levels.now }
 {
     let mut voices = silent_voices();
-    let mut note: usize = 0;
-    while note < MIDI_NOTES {
+    for note in 0..MIDI_NOTES {
         voices[note] = level_voice(note as u8, levels[note]);
-        note += 1;
     }
     voices
 }

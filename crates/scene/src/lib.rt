@@ -3,27 +3,28 @@
 
 pub mod levels;
 pub mod pitches;
+pub mod shape_numbers;
 
 ghost use Rattle.std.specs.Prelude.{◌≡◌, ◌&&◌, ◌≤◌, ◌<◌, replicate};
 ghost use Rattle.limits.specs.Found.{Finds};
 ghost use Rattle.limits.specs.Lengths.{most_voices};
 ghost use Rattle.scene.specs.Accepted.{motion_accepted, size_accepted, settings_accepted};
 ghost use Rattle.scene.specs.Accepted.{voice_accepted, first_voice_outside};
-ghost use Rattle.scene.specs.Made.{shape_of, shape_number, silent_voice, blank_scene};
+ghost use Rattle.scene.specs.Made.{silent_voice, blank_scene};
 ghost use Rattle.scene.specs.Gathered.{held};
 
 use limits::lengths::MOST_VOICES;
 
 // A pitch by number or by hertz: a note, with an offset in semitones from its equal-tempered pitch;
 // or a frequency, which is then the fundamental itself.
-#[derive(Clone, Copy)]
+#[derive(Clone, Copy, Debug, PartialEq)]
 pub enum Pitch {
     Note(u8, f32),
     Hertz(f32),
 }
 
 // A held pitch with its expression.
-#[derive(Clone, Copy)]
+#[derive(Clone, Copy, Debug, PartialEq)]
 pub struct MaskVoice {
     pub pitch: Pitch,
     // Note envelope level; 0 contributes nothing.
@@ -41,7 +42,7 @@ pub struct MaskVoice {
 }
 
 // The moving field's shapes, in the Rust's order.
-#[derive(Clone, Copy)]
+#[derive(Clone, Copy, Debug, PartialEq, Eq)]
 pub enum MotionShape {
     Ripple,
     Harmonic,
@@ -53,7 +54,7 @@ pub enum MotionShape {
     Cloud,
 }
 
-#[derive(Clone, Copy)]
+#[derive(Clone, Copy, Debug, PartialEq)]
 pub struct MotionConfig {
     pub shape: MotionShape,
     // Attenuation where the field is fully closed.
@@ -64,7 +65,7 @@ pub struct MotionConfig {
     pub size_octaves: f32,
 }
 
-#[derive(Clone, Copy)]
+#[derive(Clone, Copy, Debug, PartialEq)]
 pub struct MaskConfig {
     pub sample_rate: f32,
     pub fft_size: usize,
@@ -80,43 +81,11 @@ pub struct MaskConfig {
 
 // A whole scene: its settings, and the voices that count, which stand at the array's start. The
 // drawn curve is not part of it.
-#[derive(Clone, Copy)]
+#[derive(Clone, Copy, Debug, PartialEq)]
 pub struct Scene {
     pub config: MaskConfig,
     pub voices: [MaskVoice; MOST_VOICES],
     pub count: usize,
-}
-
-// The shape with this number, in that order; 7 and above give the last.
-pub fn shape_of(number: u32) -> MotionShape
-    ensures { result ≡ shape_of number }
-{
-    match number {
-        0 => MotionShape::Ripple,
-        1 => MotionShape::Harmonic,
-        2 => MotionShape::Drift,
-        3 => MotionShape::Scan,
-        4 => MotionShape::Notch,
-        5 => MotionShape::Saw,
-        6 => MotionShape::Sprinkle,
-        _ => MotionShape::Cloud,
-    }
-}
-
-// The number of a shape, in that order.
-pub fn shape_number(shape: MotionShape) -> u32
-    ensures { (result ≡ shape_number shape) × (result < 8) }
-{
-    match shape {
-        MotionShape::Ripple => 0,
-        MotionShape::Harmonic => 1,
-        MotionShape::Drift => 2,
-        MotionShape::Scan => 3,
-        MotionShape::Notch => 4,
-        MotionShape::Saw => 5,
-        MotionShape::Sprinkle => 6,
-        MotionShape::Cloud => 7,
-    }
 }
 
 // The initial contents of an array of voices. Their level is 0.

@@ -3,35 +3,36 @@ ghost use Rattle.std.specs.Prelude.{◌≡◌};
 ghost use Rattle.scene.specs.Accepted.{pitch_accepted};
 ghost use Rattle.scene.specs.PitchNumbers.{form_of, note_of, number_of, pitch_of};
 
-use crate::{Pitch, both};
+use crate::Pitch;
 
 pub const NOTE_FORM: u8 = 0;
 
 pub const HERTZ_FORM: u8 = 1;
 
+#[tactic(auto, unfolding(crate::specs::Accepted::pitch_accepted))]
 pub fn accepted(pitch: Pitch) -> bool
     ensures { result ≡ pitch_accepted pitch }
 {
     match pitch {
-        Pitch::Note(note, tuning) => both(limits::note(note), limits::tuning(tuning)),
+        Pitch::Note(note, tuning) => limits::note(note) && limits::tuning(tuning),
         Pitch::Hertz(hertz) => limits::hertz(hertz),
     }
 }
 
 // The pitch of a form: a note with its semitones, or hertz, where the note is not read. Any other
 // form gives 0 Hz, which lies outside the limits, so that its voice is refused in its turn.
+#[tactic(auto, unfolding(crate::specs::PitchNumbers::pitch_of))]
 pub fn pitch_of(form: u8, note: u8, number: f32) -> Pitch
     ensures { result ≡ pitch_of form note number }
 {
-    if form == NOTE_FORM {
-        return Pitch::Note(note, number);
+    match form {
+        NOTE_FORM => Pitch::Note(note, number),
+        HERTZ_FORM => Pitch::Hertz(number),
+        _ => Pitch::Hertz(0.0),
     }
-    if form == HERTZ_FORM {
-        return Pitch::Hertz(number);
-    }
-    Pitch::Hertz(0.0)
 }
 
+#[tactic(auto, unfolding(crate::specs::PitchNumbers::form_of))]
 pub fn form_of(pitch: Pitch) -> u8
     ensures { result ≡ form_of pitch }
 {
@@ -42,6 +43,7 @@ pub fn form_of(pitch: Pitch) -> u8
 }
 
 // A pitch in hertz has no note: 0 stands in its place.
+#[tactic(auto, unfolding(crate::specs::PitchNumbers::note_of))]
 pub fn note_of(pitch: Pitch) -> u8
     ensures { result ≡ note_of pitch }
 {
@@ -52,6 +54,7 @@ pub fn note_of(pitch: Pitch) -> u8
 }
 
 // The semitones or the hertz.
+#[tactic(auto, unfolding(crate::specs::PitchNumbers::number_of))]
 pub fn number_of(pitch: Pitch) -> f32
     ensures { result ≡ number_of pitch }
 {

@@ -11,7 +11,7 @@ use scene::{MaskVoice, pitches, silent_voices};
 // A voice with C's layout. Its pitch is a form, 0 for a note or 1 for hertz, a note, and one more
 // number: the note's offset in semitones, or the hertz.
 #[repr(C)]
-#[derive(Clone, Copy)]
+#[derive(Clone, Copy, Debug, PartialEq)]
 pub struct VoiceRecord {
     pub pitch_form: u8,
     pub note: u8,
@@ -24,35 +24,40 @@ pub struct VoiceRecord {
     pub pan: f32,
 }
 
-pub fn voice_of(record: VoiceRecord) -> MaskVoice
-    ensures { result ≡ voice_of «record» }
-{
-    let pitch = pitches::pitch_of(record.pitch_form, record.note, record.semitones_or_hertz);
-    MaskVoice {
-        pitch,
-        level: record.level,
-        pressure: record.pressure,
-        timbre: record.timbre,
-        volume_gain: record.volume_gain,
-        expression_gain: record.expression_gain,
-        pan: record.pan,
+impl From<VoiceRecord> for MaskVoice {
+    ghost from_gives = { λ given voice. voice ≡ voice_of given };
+
+    #[tactic(auto, unfolding(crate::specs::VoiceRecords::voice_of))]
+    fn from(record: VoiceRecord) -> MaskVoice {
+        let pitch = pitches::pitch_of(record.pitch_form, record.note, record.semitones_or_hertz);
+        MaskVoice {
+            pitch,
+            level: record.level,
+            pressure: record.pressure,
+            timbre: record.timbre,
+            volume_gain: record.volume_gain,
+            expression_gain: record.expression_gain,
+            pan: record.pan,
+        }
     }
 }
 
-pub fn plain_voice(voice: MaskVoice) -> VoiceRecord
-    ensures { result ≡ plain_voice voice }
-{
-    let pitch = voice.pitch;
-    VoiceRecord {
-        pitch_form: pitches::form_of(pitch),
-        note: pitches::note_of(pitch),
-        semitones_or_hertz: pitches::number_of(pitch),
-        level: voice.level,
-        pressure: voice.pressure,
-        timbre: voice.timbre,
-        volume_gain: voice.volume_gain,
-        expression_gain: voice.expression_gain,
-        pan: voice.pan,
+impl From<MaskVoice> for VoiceRecord {
+    ghost from_gives = { λ voice given. given ≡ plain_voice voice };
+
+    #[tactic(auto, unfolding(crate::specs::VoiceRecords::plain_voice))]
+    fn from(voice: MaskVoice) -> VoiceRecord {
+        VoiceRecord {
+            pitch_form: pitches::form_of(voice.pitch),
+            note: pitches::note_of(voice.pitch),
+            semitones_or_hertz: pitches::number_of(voice.pitch),
+            level: voice.level,
+            pressure: voice.pressure,
+            timbre: voice.timbre,
+            volume_gain: voice.volume_gain,
+            expression_gain: voice.expression_gain,
+            pan: voice.pan,
+        }
     }
 }
 
@@ -61,10 +66,8 @@ pub fn voices_of(records: [VoiceRecord; MOST_VOICES]) -> [MaskVoice; MOST_VOICES
     ensures { result ≡ voices_of_record records }
 {
     let mut voices = silent_voices();
-    let mut i: usize = 0;
-    while i < MOST_VOICES {
-        voices[i] = voice_of(records[i]);
-        i += 1;
+    for i in 0..MOST_VOICES {
+        voices[i] = MaskVoice::from(records[i]);
     }
     voices
 }

@@ -1,12 +1,11 @@
 -- `head_number` meets its contract: each field stands behind the ones before it. Assumes nothing.
-use native.Mathlib.Omega.{arith}
+use Rattle.std.proofs.Common.{◌∙◌, arith}
+use Rattle.record_heads.proofs.Fields.{layer_is}
 use Rattle.record_heads.specs.Heads.{packed}
 use Rattle.record_heads.proofs.head_number.Goals as goal
 
 pub returns : goal.returns
 unfolding packed
 returns c =
-    let log = c.log_of.ensures in
-    let layer = c.layer_number.ensures.0 in
-    let shape = c.shape_number.ensures.0 in
-    omega (arith, log, layer, shape)
+    let layer = c.from.ensures ∙ layer_is c.args.config.note_layer_enabled in
+    omega (arith, layer, c.from-2.ensures.0)

@@ -8,7 +8,7 @@ pub returns : goal.returns
 returns c =
     let a = c.args in
     let x = c.write_scene-written.ensures in
-    let y = c.read_scene-read.ensures in
+    let y = c.read_scene.ensures in
     let f = scene-f32 a.scene _ c.well_formed.1.0 in record {
       written_value = x.result_value;
       comes_back = comes_back a.scene _ (length a.«record».now) a.«record».now _

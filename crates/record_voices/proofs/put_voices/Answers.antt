@@ -1,6 +1,6 @@
 -- `put_voices` meets its contract: the voices passed stand one after the other. Assumes nothing.
 use mathlib.Core.Path.{◌≡◌, refl, ap, ◌∙◌}
-use Prim.Native.Nat.{ℕ, ◌-◌}
+use Prim.Native.Nat.{ℕ}
 use native.Mathlib.Omega.{arith}
 use lib.ListN.{length, take}
 use borrow.Author.Rules.{rules}
@@ -14,7 +14,7 @@ use Rattle.record_voices.proofs.put_voices.Goals as goal
 
 pub loop-i-init : goal.loop-i-init
 unfolding pieces
-loop-i-init c = (omega arith, refl, stored-none _ _)
+loop-i-init c = (refl, stored-none _ _)
 
 pub overflow_mul-i : goal.overflow_mul-i
 overflow_mul-i c = omega arith
@@ -33,30 +33,23 @@ put_voice-requires c =
     let a = c.args in
     let l : length a.voices ≡ 128 = search rules in record { at_in_bounds = omega arith; note_fits = note-fits a.voices a.count c.loop-i.i (omega arith) (omega arith) c.requires.all }
 
-pub overflow_add-i : goal.overflow_add-i
-overflow_add-i c = omega arith
-
-pub loop-i-smaller : goal.loop-i-smaller
-loop-i-smaller c = omega arith
-
 pub loop-i-preserved : goal.loop-i-preserved
 loop-i-preserved c =
     let a = c.args in
     let l : length a.voices ≡ 128 = search rules in
     let e = c.put_voice.ensures in (
-      omega arith,
-      ap length e ∙ stored-length _ _ _ ∙ c.loop-i.invariant.1,
+      ap length e ∙ stored-length _ _ _ ∙ c.loop-i.invariant.0,
       e
           ∙ pieces_more voice_bytes 29 voice-length no_voice a.«record».now
-          c.loop-i.«record» a.at c.loop-i.i a.voices (omega arith) c.loop-i.invariant.2,
+          c.loop-i.«record» a.at c.loop-i.i a.voices (omega arith) c.loop-i.invariant.1,
     )
 
 pub shape_of-record : goal.shape_of-record
-shape_of-record c = c.loop-i.invariant.1
+shape_of-record c = c.loop-i.invariant.0
 
 pub returns : goal.returns
 returns c =
     let a = c.args in
     let z : c.loop-i.i ≡ a.count = omega arith in
-    c.loop-i.invariant.2
+    c.loop-i.invariant.1
     ∙ ap (λ (n : ℕ). stored a.«record».now a.at (voices_bytes (take n a.voices))) z

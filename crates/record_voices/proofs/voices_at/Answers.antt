@@ -1,6 +1,6 @@
 -- `voices_at` meets its contract: the array fills from its start. Assumes nothing.
 use mathlib.Core.Path.{◌≡◌, sym, ap, ◌∙◌}
-use Prim.Native.Nat.{ℕ, ◌-◌}
+use Prim.Native.Nat.{ℕ}
 use native.Mathlib.Omega.{arith}
 use lib.ListN.{drop}
 use Rattle.scene.specs.Gathered.{gathered_to}
@@ -10,7 +10,7 @@ use Rattle.record_voices.proofs.Steps.{gathered-voice}
 use Rattle.record_voices.proofs.voices_at.Goals as goal
 
 pub loop-i-init : goal.loop-i-init
-loop-i-init c = (omega arith, c.silent_voices-voices.ensures ∙ sym (gathered_none _))
+loop-i-init c = c.silent_voices-voices.ensures ∙ sym (gathered_none _)
 
 pub overflow_mul-i : goal.overflow_mul-i
 overflow_mul-i c = omega arith
@@ -24,23 +24,15 @@ voice_at-requires c = omega arith
 pub offset_bounds-voices-i : goal.offset_bounds-voices-i
 offset_bounds-voices-i c = omega arith
 
-pub overflow_add-i : goal.overflow_add-i
-overflow_add-i c = omega arith
-
-pub loop-i-smaller : goal.loop-i-smaller
-loop-i-smaller c = omega arith
-
 pub loop-i-preserved : goal.loop-i-preserved
 loop-i-preserved c =
-    let a = c.args in (
-      omega arith,
-      gathered-voice a.«record».now a.at a.count c.loop-i.i _ _ (omega arith)
-          (omega arith) c.loop-i.invariant.1 c.voice_at.ensures,
-    )
+    let a = c.args in
+    gathered-voice a.«record».now a.at a.count c.loop-i.i _ _ (omega arith)
+    (omega arith) c.loop-i.invariant c.voice_at.ensures
 
 pub returns : goal.returns
 returns c =
     let a = c.args in
     let z : c.loop-i.i ≡ a.count = omega arith in
-    c.loop-i.invariant.1
+    c.loop-i.invariant
     ∙ ap (λ (n : ℕ). gathered_to n (voices_of (drop a.at a.«record».now) a.count)) z

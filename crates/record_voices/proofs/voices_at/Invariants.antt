@@ -1,6 +1,5 @@
 -- `voices_at` meets its contract: the array fills from its start. Assumes nothing.
 use mathlib.Core.Path.{◌≡◌}
-use Prim.Native.Nat.{◌-◌, ◌≤◌}
 use lib.ListN.{drop}
 use Rattle.scene.specs.Gathered.{gathered_to}
 use Rattle.record_voices.specs.Voices.{voices_of}
@@ -8,7 +7,4 @@ use Rattle.record_voices.proofs.voices_at.Given as goal
 
 abbrev pub invariant-loop-i : goal.invariant-loop-i
 invariant-loop-i l =
-    (l.i ≤ l.count) × (l.voices ≡ gathered_to l.i (voices_of (drop l.at l.record) l.count))
-
-abbrev pub decreases-loop-i : goal.decreases-loop-i
-decreases-loop-i l = l.count - l.i
+    l.voices ≡ gathered_to l.i (voices_of (drop l.at l.record) l.count)

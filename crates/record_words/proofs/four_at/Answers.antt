@@ -1,8 +1,7 @@
 -- `four_at` meets its contract. Assumes nothing.
-use borrow.Author.Rules.{rules}
-use Rattle.lists.specs.Bytes.{number_at}
+use Rattle.std.proofs.Common.{◌∙◌}
+use Rattle.record_words.proofs.Numbers.{number-four}
 use Rattle.record_words.proofs.four_at.Goals as goal
 
 pub returns : goal.returns
-unfolding number_at
-returns c = search rules
+returns c = c.from_be_bytes.ensures ∙ number-four c.args.bytes.now c.args.at

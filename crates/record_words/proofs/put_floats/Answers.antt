@@ -1,6 +1,5 @@
 -- `put_floats` meets its contract: the floats passed stand one after the other. Assumes nothing.
 use mathlib.Core.Path.{◌≡◌, refl, ap, ◌∙◌}
-use Prim.Native.Nat.{◌-◌}
 use native.Mathlib.Omega.{arith}
 use lib.Ieee.{nan}
 use lib.ListN.{length}
@@ -14,7 +13,7 @@ use Rattle.record_words.proofs.put_floats.Goals as goal
 
 pub loop-i-init : goal.loop-i-init
 unfolding pieces
-loop-i-init c = (omega arith, refl, stored-none _ _)
+loop-i-init c = (refl, stored-none _ _)
 
 pub overflow_mul-i : goal.overflow_mul-i
 overflow_mul-i c = omega arith
@@ -31,29 +30,22 @@ bounds-floats-i c = omega arith
 pub put_float-requires : goal.put_float-requires
 put_float-requires c = omega arith
 
-pub overflow_add-i : goal.overflow_add-i
-overflow_add-i c = omega arith
-
-pub loop-i-smaller : goal.loop-i-smaller
-loop-i-smaller c = omega arith
-
 pub loop-i-preserved : goal.loop-i-preserved
 loop-i-preserved c = let a = c.args in
     let l : length a.floats ≡ 7 = search rules in
     let e = c.put_float.ensures in (
-      omega arith,
-      ap length e ∙ stored-length _ _ _ ∙ c.loop-i.invariant.1,
+      ap length e ∙ stored-length _ _ _ ∙ c.loop-i.invariant.0,
       e
           ∙ pieces_more float_bytes 4 float-length nan a.bytes.now c.loop-i.bytes a.at
-          c.loop-i.i a.floats (omega arith) c.loop-i.invariant.2,
+          c.loop-i.i a.floats (omega arith) c.loop-i.invariant.1,
     )
 
 pub shape_of-bytes : goal.shape_of-bytes
-shape_of-bytes c = c.loop-i.invariant.1
+shape_of-bytes c = c.loop-i.invariant.0
 
 pub returns : goal.returns
 returns c = let a = c.args in
     let l : length a.floats ≡ 7 = search rules in
-    c.loop-i.invariant.2
+    c.loop-i.invariant.1
     ∙ ap (λ xs. stored a.bytes.now a.at (floats_bytes xs))
     (take_all c.loop-i.i a.floats (omega arith))

@@ -1,19 +1,12 @@
--- `put_four` meets its contract: four stores one after the other. Assumes nothing.
-use lib.ListN.{length-set}
-use native.Mathlib.Omega.{arith}
-use Rattle.record_words.proofs.Numbers.{stored-four}
+-- `put_four` meets its contract. Assumes nothing.
+use Rattle.std.proofs.Common.{◌∙◌, ap, arith, length}
+use Rattle.lists.specs.Stores.{stored}
+use Rattle.lists.specs.Bytes.{length-bytes}
+use Rattle.record_words.proofs.Numbers.{four_bytes, stored_part}
 use Rattle.record_words.proofs.put_four.Goals as goal
-
-pub bounds-bytes-at-2 : goal.bounds-bytes-at-2
-bounds-bytes-at-2 c = simp length-set (omega arith)
-
-pub bounds-bytes-at-3 : goal.bounds-bytes-at-3
-bounds-bytes-at-3 c = simp length-set (omega arith)
-
-pub bounds-bytes-at-4 : goal.bounds-bytes-at-4
-bounds-bytes-at-4 c = simp length-set (omega arith)
 
 pub returns : goal.returns
 returns c =
-    stored-four _ _ _ _ _ _ _ c.byte_of.ensures
-    c.byte_of-2.ensures c.byte_of-3.ensures c.byte_of-4.ensures
+    let new = c.copy_from_slice.ensures.after ∙ c.to_be_bytes.ensures ∙ four_bytes c.args.n in
+    stored_part c.args.bytes.now _ c.args.at 4 (omega arith) (ap length new ∙ length-bytes 4 c.args.n)
+    ∙ ap (stored c.args.bytes.now c.args.at) new

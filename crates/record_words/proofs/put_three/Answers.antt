@@ -1,16 +1,12 @@
--- `put_three` meets its contract: three stores one after the other. Assumes nothing.
-use lib.ListN.{length-set}
-use native.Mathlib.Omega.{arith}
-use Rattle.record_words.proofs.Numbers.{stored-three}
+-- `put_three` meets its contract. Assumes nothing.
+use Rattle.std.proofs.Common.{◌∙◌, ap, arith, length, take, drop}
+use Rattle.lists.specs.Stores.{stored}
+use Rattle.lists.specs.Bytes.{length-bytes}
+use Rattle.record_words.proofs.Numbers.{three-bytes, stored_part}
 use Rattle.record_words.proofs.put_three.Goals as goal
-
-pub bounds-bytes-at-2 : goal.bounds-bytes-at-2
-bounds-bytes-at-2 c = simp length-set (omega arith)
-
-pub bounds-bytes-at-3 : goal.bounds-bytes-at-3
-bounds-bytes-at-3 c = simp length-set (omega arith)
 
 pub returns : goal.returns
 returns c =
-    stored-three _ _ _ _ _ _ c.byte_of.ensures c.byte_of-2.ensures
-    c.byte_of-3.ensures
+    let new = c.copy_from_slice.ensures.after ∙ ap (λ word. take 3 (drop 1 word)) c.to_be_bytes.ensures ∙ three-bytes c.args.n in
+    stored_part c.args.bytes.now _ c.args.at 3 (omega arith) (ap length new ∙ length-bytes 3 c.args.n)
+    ∙ ap (stored c.args.bytes.now c.args.at) new

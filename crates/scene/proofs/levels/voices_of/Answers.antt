@@ -12,7 +12,7 @@ use Rattle.scene.specs.Levels.{level_voice}
 use Rattle.scene.proofs.levels.voices_of.Goals as goal
 
 pub loop-note-init : goal.loop-note-init
-loop-note-init c = (turned_none _ _ _, omega arith)
+loop-note-init c = turned_none _ _ _
 
 pub overflow_cast-note : goal.overflow_cast-note
 overflow_cast-note c = omega arith
@@ -26,19 +26,13 @@ bounds-levels-note c = omega arith
 pub bounds-voices-note : goal.bounds-voices-note
 bounds-voices-note c = omega arith
 
-pub overflow_add-note : goal.overflow_add-note
-overflow_add-note c = omega arith
-
-pub loop-note-smaller : goal.loop-note-smaller
-loop-note-smaller c = omega arith
-
 pub loop-note-preserved : goal.loop-note-preserved
 loop-note-preserved c =
     let l : length c.silent_voices-voices.result ≡ 128 = ap length c.silent_voices-voices.ensures ∙ length-replicate 128 silent_voice in
-    (turned_more no_voice c.loop-note.invariant.0 (omega arith) c.level_voice.ensures, omega arith)
+    turned_more no_voice c.loop-note.invariant (omega arith) c.level_voice.ensures
 
 pub returns : goal.returns
 returns c =
     let levels = c.args.levels.now in
     let l : length c.silent_voices-voices.result ≡ 128 = ap length c.silent_voices-voices.ensures ∙ length-replicate 128 silent_voice in
-    turned-fill c.loop-note.invariant.0 (omega arith) ∙ ap (λ (n : ℕ). tabulate n (λ note. level_voice note (get_or levels note nan))) l
+    turned-fill c.loop-note.invariant (omega arith) ∙ ap (λ (n : ℕ). tabulate n (λ note. level_voice note (get_or levels note nan))) l
