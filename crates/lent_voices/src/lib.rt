@@ -1,10 +1,9 @@
 // The stereo call on a lent slice of voice records, as the Rust takes them.
 #![tactic(auto)]
 
-ghost use Rattle.std.specs.Prelude.{◌≡◌, ◌<◌, length, get_or};
+ghost use Rattle.std.specs.Prelude.{◌≡◌, length};
 ghost use Rattle.answer.specs.Reply.{of_outcome};
 ghost use Rattle.answer.specs.Written.{written};
-ghost use Rattle.scene.specs.Accepted.{no_voice};
 ghost use Rattle.lobes.specs.Pan as side;
 ghost use Rattle.scene.specs.Gathered.{gathered};
 ghost use Rattle.mask_calls.specs.LentStereo.{lent_reply, lent_mask};
@@ -13,25 +12,13 @@ use answer::Outcome;
 use limits::lengths::MOST_VOICES;
 use scene::{MaskConfig, MaskVoice};
 
-// The record at an index.
-fn voice_at(voices: &[MaskVoice], index: usize) -> MaskVoice
-    requires { index < length voices.now }
-    ensures { result ≡ get_or voices.now index no_voice }
-{
-    voices[index]
-}
-
 // Copies the voices of a slice into the core's array, the first 128 where there are more.
 pub fn gather(voices: &[MaskVoice]) -> [MaskVoice; MOST_VOICES]
     ensures { result ≡ gathered voices.now }
 {
     let count = scene::held(voices.len());
     let mut array = scene::silent_voices();
-    let mut i: usize = 0;
-    while i < count {
-        array[i] = voice_at(voices, i);
-        i += 1;
-    }
+    array[..count].copy_from_slice(&voices[..count]);
     array
 }
 

@@ -11,7 +11,8 @@ use lib.Ieee.{Float, nan}
 use Rattle.lists.specs.Folds.{first_bad}
 use Rattle.lists.proofs.Folds.{bad-before}
 use Rattle.answer.specs.Reply.{of_outcome}
-use Rattle.answer.specs.declared.Outcome.{Outcome}
+use Rattle.std.specs.Prelude.{Result}
+use Rattle.answer.specs.declared.Refusal.{Refusal}
 use Rattle.answer.specs.Written.{written}
 use Rattle.limits.specs.Limits as limits
 use Rattle.envelopes.specs.Envelope.{Accepted, advanced}
@@ -26,7 +27,7 @@ same-reply levels held elapsed fade l h =
     simp (eq-eqb (length levels) 128 l, eq-eqb (length held) 16 h)
 
 -- what the call on the slice gives is what the call by value is to give
-pub by_value : (levels bank : List Float) (held : List ℕ) (elapsed fade : Float) (outcome : Outcome) → length levels ≡ 128 → length held ≡ 16
+pub by_value : (levels bank : List Float) (held : List ℕ) (elapsed fade : Float) (outcome : Result (Unit {0}) Refusal) → length levels ≡ 128 → length held ≡ 16
     → of_outcome outcome ≡ bank_reply levels held elapsed fade → bank ≡ written (of_outcome outcome) (advanced held elapsed fade levels) levels
     → of_envelopes (record { outcome = outcome; levels = bank }) ≡ advance_of levels held elapsed fade
 by_value levels bank held elapsed fade outcome l h e w =

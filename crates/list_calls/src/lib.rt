@@ -12,7 +12,7 @@ ghost use Rattle.envelopes.specs.Envelope.{advanced};
 ghost use Rattle.list_calls.specs.Advanced.{of_envelopes, advance_of, bank_reply};
 ghost use Rattle.list_calls.specs.Prepared.{prepare_reply};
 
-use answer::{Envelopes, Outcome, refusal};
+use answer::{Envelopes, Outcome, Reason, Refusal};
 use limits::lengths;
 use limits::lengths::{HELD_BYTES, MIDI_NOTES};
 
@@ -30,16 +30,16 @@ impl MaskWorkspace {
             table.old }
     {
         if !limits::size(fft_size) {
-            return Outcome::Refused(refusal::SIZE_OR_RATE, 0);
+            return Err(Reason::SizeOrRate.into());
         }
         if !limits::rate(sample_rate) {
-            return Outcome::Refused(refusal::SIZE_OR_RATE, 0);
+            return Err(Reason::SizeOrRate.into());
         }
         if table.len() != lengths::bins(fft_size) {
-            return Outcome::Refused(refusal::LENGTH, 0);
+            return Err(Reason::Length.into());
         }
         frequencies::fill(table, sample_rate, fft_size);
-        Outcome::Done
+        Ok(())
     }
 }
 
@@ -53,25 +53,24 @@ pub fn advance_bank(levels: &mut [f32], held: &[u8], elapsed_seconds: f32, fade_
         levels.old }
 {
     if !limits::elapsed(elapsed_seconds) {
-        return Outcome::Refused(refusal::SETTING, 0);
+        return Err(Reason::Setting.into());
     }
     if !limits::fade(fade_ms) {
-        return Outcome::Refused(refusal::SETTING, 0);
+        return Err(Reason::Setting.into());
     }
     if levels.len() != MIDI_NOTES {
-        return Outcome::Refused(refusal::LENGTH, 0);
+        return Err(Reason::Length.into());
     }
     if held.len() != HELD_BYTES {
-        return Outcome::Refused(refusal::LENGTH, 0);
+        return Err(Reason::Length.into());
     }
     // The division and the power are begun first: the levels are tested while they are under way.
     let alpha = envelopes::fade_alpha(elapsed_seconds, fade_ms);
-    let note = limits::first_outside(levels, limits::LEAST_LEVEL, limits::MOST_LEVEL);
-    if note < MIDI_NOTES {
-        return Outcome::Refused(refusal::LIST_VALUE, note);
+    if let Some(note) = limits::first_outside(levels, limits::LEAST_LEVEL, limits::MOST_LEVEL) {
+        return Err(Refusal::at(Reason::ListValue, note));
     }
     envelopes::advance(levels, held, alpha);
-    Outcome::Done
+    Ok(())
 }
 
 // The same for a bank that is passed by value and comes back beside the answer.
@@ -86,7 +85,7 @@ pub fn advance_note_envelopes(
     let mut bank = levels;
     let outcome = advance_bank(&mut bank, &held, elapsed_seconds, fade_ms);
     Envelopes {
-        outcome: outcome,
+        outcome,
         levels: bank,
     }
 }

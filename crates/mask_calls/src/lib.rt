@@ -15,8 +15,8 @@ use answer::Outcome;
 use limits::lengths;
 use limits::lengths::{MANUAL_MASK_POINTS, MOST_VOICES};
 use mask_builder::build_two;
-use refusals::{first, of_settings, of_table, of_voices};
-use scene::{MaskConfig, MaskVoice, both};
+use refusals::{of_settings, of_table, of_voices};
+use scene::{MaskConfig, MaskVoice};
 
 // Builds both masks of a stereo pair by the lent table, prepared or not. Note contributions use a
 // constant-power pan law with unity at the centre; the drawn curve, the moving field and the floor
@@ -41,22 +41,13 @@ pub fn build_stereo_masks_with_voices_precomputed(
         (take count voices)) right.old }
 {
     let bins = lengths::bins(config.fft_size);
-    let lengths = both(
-        both(left.len() == bins, right.len() == bins),
-        both(
-            manual_mask_db.len() == MANUAL_MASK_POINTS,
-            table.len() == bins,
-        ),
-    );
-    let scene = first(of_voices(voices, count, lengths), of_table(table));
-    let outcome = first(of_settings(config), scene);
-    match outcome {
-        Outcome::Refused(number, place) => Outcome::Refused(number, place),
-        Outcome::Done => {
-            build_two(left, right, manual_mask_db, voices, count, config, table);
-            Outcome::Done
-        }
-    }
+    let outputs = left.len() == bins && right.len() == bins;
+    let lent = manual_mask_db.len() == MANUAL_MASK_POINTS && table.len() == bins;
+    of_settings(config)?;
+    of_voices(voices, count, outputs && lent)?;
+    of_table(table)?;
+    build_two(left, right, manual_mask_db, voices, count, config, table);
+    Ok(())
 }
 
 // Where the frequency table begins in a block of that many entries: after four windows, or at its

@@ -65,9 +65,9 @@ pub fn build_mask_with_voices(
         output.old }
 {
     let bins = lengths::bins(config.fft_size);
-    let lengths = output.len() == bins && manual_mask_db.len() == MANUAL_MASK_POINTS;
+    let sized = output.len() == bins && manual_mask_db.len() == MANUAL_MASK_POINTS;
     of_settings(config)?;
-    of_voices(voices, count, lengths)?;
+    of_voices(voices, count, sized)?;
     build_one(
         output,
         manual_mask_db,

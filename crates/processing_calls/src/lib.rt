@@ -13,7 +13,7 @@ ghost use Rattle.processing_calls.specs.Processing.{dual_reply, soften_reply, sm
 ghost use Rattle.processing_calls.specs.Processing.{prepared_reply};
 ghost use Rattle.processing_calls.specs.DualWindow.{IsDual};
 
-use answer::{Outcome, Prepared, refusal};
+use answer::{CoherentGains, Outcome, Reason, Refusal};
 use limits::{LEAST_GAIN, LEAST_WINDOW_VALUE, MOST_GAIN, MOST_WINDOW_VALUE, lengths};
 
 // Build the canonical dual window for the given overlap.
@@ -31,20 +31,19 @@ pub fn build_dual_synthesis_window(
 {
     let length = analysis.len();
     if !lengths::window_length(length) {
-        return Outcome::Refused(refusal::LENGTH, 0);
+        return Err(Reason::Length.into());
     }
     if length != synthesis.len() {
-        return Outcome::Refused(refusal::LENGTH, 0);
+        return Err(Reason::Length.into());
     }
-    let index = limits::first_outside(analysis, LEAST_WINDOW_VALUE, MOST_WINDOW_VALUE);
-    if index < length {
-        return Outcome::Refused(refusal::LIST_VALUE, index);
+    if let Some(index) = limits::first_outside(analysis, LEAST_WINDOW_VALUE, MOST_WINDOW_VALUE) {
+        return Err(Refusal::at(Reason::ListValue, index));
     }
     if !limits::overlap(overlap, length) {
-        return Outcome::Refused(refusal::OVERLAP, 0);
+        return Err(Reason::Overlap.into());
     }
     windows::dual_window(analysis, synthesis, overlap);
-    Outcome::Done
+    Ok(())
 }
 
 // Smooth adjacent gain bins in decibels, retaining the edge bins.
@@ -56,17 +55,16 @@ pub fn soften_spectral_edges(source: &[f32], output: &mut [f32]) -> Outcome
 {
     let length = source.len();
     if !lengths::gains_length(length) {
-        return Outcome::Refused(refusal::LENGTH, 0);
+        return Err(Reason::Length.into());
     }
     if length != output.len() {
-        return Outcome::Refused(refusal::LENGTH, 0);
+        return Err(Reason::Length.into());
     }
-    let bin = limits::first_outside(source, LEAST_GAIN, MOST_GAIN);
-    if bin < length {
-        return Outcome::Refused(refusal::LIST_VALUE, bin);
+    if let Some(bin) = limits::first_outside(source, LEAST_GAIN, MOST_GAIN) {
+        return Err(Refusal::at(Reason::ListValue, bin));
     }
     smoothing::soften(source, output);
-    Outcome::Done
+    Ok(())
 }
 
 // Approach a target gain mask with a 30 ms time constant.
@@ -78,21 +76,20 @@ pub fn smooth_mask_in_db(current: &mut [f32], target: &[f32], elapsed_seconds: f
         current.old }
 {
     if !limits::elapsed(elapsed_seconds) {
-        return Outcome::Refused(refusal::SETTING, 0);
+        return Err(Reason::Setting.into());
     }
     let length = current.len();
     if !lengths::gains_length(length) {
-        return Outcome::Refused(refusal::LENGTH, 0);
+        return Err(Reason::Length.into());
     }
     if length != target.len() {
-        return Outcome::Refused(refusal::LENGTH, 0);
+        return Err(Reason::Length.into());
     }
-    let place = limits::first_pair_outside(current, target, LEAST_GAIN, MOST_GAIN);
-    if place < length {
-        return Outcome::Refused(refusal::LIST_VALUE, place);
+    if let Some(bin) = limits::first_pair_outside(current, target, LEAST_GAIN, MOST_GAIN) {
+        return Err(Refusal::at(Reason::ListValue, bin));
     }
     smoothing::smooth(current, target, elapsed_seconds);
-    Outcome::Done
+    Ok(())
 }
 
 // Prepared analysis and synthesis windows and frequency lookup for one size, in a block that the
@@ -109,7 +106,7 @@ impl PreparedSpectrum {
         smooth_analysis_window: &[f32],
         overlap: usize,
         block: &mut [f32],
-    ) -> Prepared
+    ) -> Result<CoherentGains, Refusal>
         ensures result_value { of_prepared result ≡ prepared_reply sample_rate window.now
             smooth_analysis_window.now overlap (length block.old) }
         ensures block_after { block.new ≡ written (of_prepared result) (block_of sample_rate
@@ -118,33 +115,32 @@ impl PreparedSpectrum {
     {
         let size = window.len();
         if !limits::size(size) {
-            return Prepared::Refused(refusal::SIZE_OR_RATE, 0);
+            return Err(Reason::SizeOrRate.into());
         }
         if !limits::rate(sample_rate) {
-            return Prepared::Refused(refusal::SIZE_OR_RATE, 0);
+            return Err(Reason::SizeOrRate.into());
         }
         if size != smooth_analysis_window.len() {
-            return Prepared::Refused(refusal::LENGTH, 0);
+            return Err(Reason::Length.into());
         }
         if block.len() != lengths::block_length(size) {
-            return Prepared::Refused(refusal::LENGTH, 0);
+            return Err(Reason::Length.into());
         }
-        let index = limits::first_pair_outside(
+        if let Some(index) = limits::first_pair_outside(
             window,
             smooth_analysis_window,
             LEAST_WINDOW_VALUE,
             MOST_WINDOW_VALUE,
-        );
-        if index < size {
-            return Prepared::Refused(refusal::LIST_VALUE, index);
+        ) {
+            return Err(Refusal::at(Reason::ListValue, index));
         }
         if !limits::overlap(overlap, size) {
-            return Prepared::Refused(refusal::OVERLAP, 0);
+            return Err(Reason::Overlap.into());
         }
         prepared_spectrum::fill_block(sample_rate, window, smooth_analysis_window, overlap, block);
-        Prepared::Gains(
-            windows::coherent_gain(window),
-            windows::coherent_gain(smooth_analysis_window),
-        )
+        Ok(CoherentGains {
+            window: windows::coherent_gain(window),
+            smooth_window: windows::coherent_gain(smooth_analysis_window),
+        })
     }
 }

@@ -1,6 +1,6 @@
 -- `build_mask_with_voices` answers as its tests say, leaves the mask as it was where it refuses,
 -- and builds it where it is done. Assumes nothing.
-use mathlib.Core.Path.{◌≡◌, refl, sym, ap, ◌∙◌}
+use mathlib.Core.Path.{◌≡◌, sym, ◌∙◌}
 use mathlib.Core.Bool.{true≢false, ◌&&◌}
 use lib.Dec.{eqb}
 use lib.ListN.{length}
@@ -21,14 +21,14 @@ pub returns-in_err-of_voices-clause-result_value :
     goal.returns-in_err-of_voices-clause-result_value
 returns-in_err-of_voices-clause-result_value c =
     let a = c.args in
-    let l : c.if-output-bins.lengths ≡ (eqb (length a.output.now) c.bins-bins.result && eqb (length a.manual_mask_db.now) 8193) = search rules in
+    let l : c.if-output-bins.sized ≡ (eqb (length a.output.now) c.bins-bins.result && eqb (length a.manual_mask_db.now) 8193) = search rules in
     voices-mask-answer a.manual_mask_db.now a.config c.bins-bins.ensures c.in_ok-of_settings.ensures a.voices a.count (length a.output.now)
     (passed-on _ _ c.from_residual-in_err-of_voices.ensures.1 ∙ c.in_err-of_voices.ensures) l
 
 pub build_one-requires : goal.build_one-requires
 build_one-requires c =
     let a = c.args in
-    let l : c.if-output-bins.lengths ≡ (eqb (length a.output.now) c.bins-bins.result && eqb (length a.manual_mask_db.now) 8193) = search rules in
+    let l : c.if-output-bins.sized ≡ (eqb (length a.output.now) c.bins-bins.result && eqb (length a.manual_mask_db.now) 8193) = search rules in
     let e =
     voices-mask-answer a.manual_mask_db.now a.config c.bins-bins.ensures c.in_ok-of_settings.ensures a.voices a.count (length a.output.now) c.in_ok-of_voices.ensures l in
     let f = voices-mask-accepted a.manual_mask_db.now a.config a.voices a.count (length a.output.now) (is-done _ (sym e)) in
@@ -37,5 +37,5 @@ build_one-requires c =
 pub returns-clause-result_value : goal.returns-clause-result_value
 returns-clause-result_value c =
     let a = c.args in
-    let l : c.if-output-bins.lengths ≡ (eqb (length a.output.now) c.bins-bins.result && eqb (length a.manual_mask_db.now) 8193) = search rules in
+    let l : c.if-output-bins.sized ≡ (eqb (length a.output.now) c.bins-bins.result && eqb (length a.manual_mask_db.now) 8193) = search rules in
     voices-mask-answer a.manual_mask_db.now a.config c.bins-bins.ensures c.in_ok-of_settings.ensures a.voices a.count (length a.output.now) c.in_ok-of_voices.ensures l

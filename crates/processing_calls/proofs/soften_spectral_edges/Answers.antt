@@ -1,23 +1,25 @@
 -- `soften_spectral_edges` answers as the chain of its tests says, leaves the output as it was where
 -- it refuses, and softens where it is done. Assumes nothing.
-use mathlib.Core.Path.{refl}
+use mathlib.Core.Path.{refl, ap, ◌∙◌}
+use native.Mathlib.Nat.{le_refl}
+use Rattle.answer.specs.Reply.{of_refusal}
 use Rattle.processing_calls.specs.Processing.{soften_reply}
 use Rattle.answer.proofs.Tests.{fails, passes, differ, agree, found, none_found}
 use Rattle.processing_calls.proofs.soften_spectral_edges.Goals as goal
 
 pub returns-then-not-gains_length : goal.returns-then-not-gains_length
 unfolding soften_reply
-returns-then-not-gains_length c = record { result_value = fails _ _ c.gains_length.ensures c.if-not-gains_length.true-raw; output_after = refl }
+returns-then-not-gains_length c = record { result_value = ap of_refusal c.into.ensures ∙ fails _ _ c.gains_length.ensures c.if-not-gains_length.true-raw; output_after = refl }
 
 pub returns-then-length-output : goal.returns-then-length-output
 unfolding soften_reply
-returns-then-length-output c = record { result_value = passes _ _ c.gains_length.ensures c.if-not-gains_length.false-raw (differ _ _ c.if-length-output.true); output_after = refl }
+returns-then-length-output c = record { result_value = ap of_refusal c.into-then-length-output.ensures ∙ passes _ _ c.gains_length.ensures c.if-not-gains_length.false-raw (differ _ _ c.if-length-output.true); output_after = refl }
 
-pub returns-then-bin-length : goal.returns-then-bin-length
+pub returns-in-Some : goal.returns-in-Some
 unfolding soften_reply
-returns-then-bin-length c =
-    record { result_value = passes _ _ c.gains_length.ensures c.if-not-gains_length.false-raw (agree _ _ c.if-length-output.false (found 7 _ c.first_outside-bin.ensures c.if-bin-length.true)); output_after = refl }
+returns-in-Some c =
+    record { result_value = ap of_refusal c.at.ensures ∙ passes _ _ c.gains_length.ensures c.if-not-gains_length.false-raw (agree _ _ c.if-length-output.false (found 7 _ c.in-Some.ensures.0 c.in-Some.ensures.1)); output_after = refl }
 
 pub returns : goal.returns
 unfolding soften_reply
-returns c = record { result_value = passes _ _ c.gains_length.ensures c.if-not-gains_length.false-raw (agree _ _ c.if-length-output.false (none_found _ _ c.first_outside-bin.ensures c.if-bin-length.false refl)); output_after = c.soften.ensures }
+returns c = record { result_value = passes _ _ c.gains_length.ensures c.if-not-gains_length.false-raw (agree _ _ c.if-length-output.false (none_found _ _ c.in_default.ensures (le_refl _) refl)); output_after = c.soften.ensures }
