@@ -35,8 +35,13 @@ pub fn mono(
 {
     match MaskConfig::try_from(settings) {
         Ok(config) => {
-            let outcome =
-                mono_calls::build_mask_with_voices(output, manual_mask_db, voices, count, config);
+            let outcome = mono_calls::build_mask_with_voices(
+                output,
+                manual_mask_db,
+                voices,
+                count,
+                config,
+            );
             give_outcome(outcome, place)
         }
         Err(refusal) => give_outcome(Err(refusal), place),
