@@ -18,20 +18,19 @@ pub fn read_masks(
     left: &mut [f32],
     right: &mut [f32],
     manual_mask_db: &[f32],
-    bank: Bank,
+    bank: &Bank,
     config: MaskConfig,
     table: &[f32],
 ) -> Outcome
     ensures result_value { of_outcome result ≡ read_reply (length left.old)
-        (length right.old) manual_mask_db.now bank config
+        (length right.old) manual_mask_db.now bank.now config
         table.now }
     ensures left_after { left.new ≡ written (of_outcome result) (read_mask side.left
-        manual_mask_db.now bank config table.now) left.old }
+        manual_mask_db.now bank.now config table.now) left.old }
     ensures right_after { right.new ≡ written (of_outcome result) (read_mask side.right
-        manual_mask_db.now bank config table.now) right.old }
+        manual_mask_db.now bank.now config table.now) right.old }
 {
-    let records = bank.voices;
-    let voices = voices_of(records);
+    let voices = voices_of(bank.voices);
     build_stereo_masks_with_voices_precomputed(
         left,
         right,

@@ -14,10 +14,11 @@ ghost use Rattle.crossing.specs.Given.{Given};
 ghost use Rattle.crossing.specs.MaskSettings.{config_of, with_settings};
 ghost use Rattle.crossing_banks.specs.Banked.{plain_banked};
 
+use answer::Outcome;
 use bank_masks::read_masks;
 use crossing::answers::give_outcome;
 use crossing::settings::{Settings, config_of, shape_refused};
-use voice_bank::{Bank, Banked, add_voice, change_voice, remove_voice};
+use voice_bank::{Bank, add_voice, change_voice, remove_voice};
 use voice_records::{VoiceRecord, voice_of};
 
 // What a call on a bank answers, with C's layout: a number, 0 when done, a place, and the bank.
@@ -29,39 +30,40 @@ pub struct PlainBanked {
     pub bank: Bank,
 }
 
-fn plain_banked(banked: Banked) -> PlainBanked
-    ensures { result ≡ plain_banked (of_outcome banked.outcome) banked.bank }
+fn plain_banked(outcome: Outcome, bank: Bank) -> PlainBanked
+    ensures { result ≡ plain_banked (of_outcome outcome) bank }
 {
-    let outcome = banked.outcome;
-    let bank = banked.bank;
     PlainBanked {
-        number: outcome.number() as u32,
-        place: outcome.place(),
-        bank: bank,
+        number: answer::number(outcome) as u32,
+        place: answer::place(outcome),
+        bank,
     }
 }
 
 // `add_voice`.
-pub fn add(bank: Bank, id: u16, voice: VoiceRecord) -> PlainBanked
+pub fn add(mut bank: Bank, id: u16, voice: VoiceRecord) -> PlainBanked
     ensures { result ≡ plain_banked (add_reply bank id (voice_of voice))
         (bank_added bank id (voice_of voice)) }
 {
-    plain_banked(add_voice(bank, id, voice_of(voice)))
+    let outcome = add_voice(&mut bank, id, voice_of(voice));
+    plain_banked(outcome, bank)
 }
 
 // `remove_voice`.
-pub fn remove(bank: Bank, id: u16) -> PlainBanked
+pub fn remove(mut bank: Bank, id: u16) -> PlainBanked
     ensures { result ≡ plain_banked (remove_reply bank id) (bank_removed bank id) }
 {
-    plain_banked(remove_voice(bank, id))
+    let outcome = remove_voice(&mut bank, id);
+    plain_banked(outcome, bank)
 }
 
 // `change_voice`.
-pub fn change(bank: Bank, id: u16, voice: VoiceRecord) -> PlainBanked
+pub fn change(mut bank: Bank, id: u16, voice: VoiceRecord) -> PlainBanked
     ensures { result ≡ plain_banked (change_reply bank id (voice_of voice))
         (bank_changed bank id (voice_of voice)) }
 {
-    plain_banked(change_voice(bank, id, voice_of(voice)))
+    let outcome = change_voice(&mut bank, id, voice_of(voice));
+    plain_banked(outcome, bank)
 }
 
 // `read_masks`. A shape outside 0..7 is refusal 2, after refusal 1.
@@ -90,6 +92,6 @@ pub fn read(
     if 7 < settings.motion_shape {
         return give_outcome(shape_refused(config), place);
     }
-    let outcome = read_masks(left, right, manual_mask_db, bank, config, table);
+    let outcome = read_masks(left, right, manual_mask_db, &bank, config, table);
     give_outcome(outcome, place)
 }

@@ -1,11 +1,9 @@
 -- What a call on a mixer answers to a caller in C, and how the sixteen scenes come from one.
 -- Assumes nothing.
-use Rattle.std.specs.Prelude.{Bool, true, false, List, ℕ, get_or, Float}
+use Rattle.std.specs.Prelude.{Bool, true, false, List, ℕ, get_or, Float, Option, Some, None}
 use Rattle.answer.specs.Reply.{Reply, number, place}
 use Rattle.lobes.specs.Pan.{Side}
 use Rattle.mixer.specs.declared.Mixer.{Mixer}
-use Rattle.mixer.specs.declared.Named.{Named}
-use Rattle.mixer.specs.declared.Named.TheVariants.{Strip, Nobody}
 use Rattle.mixer_masks.specs.Serving.{no_scene, scene_reply, scene_mask}
 use Rattle.crossing.specs.MaskSettings.{with_settings}
 use Rattle.crossing_scenes.specs.declared.PlainScene.{PlainScene}
@@ -18,21 +16,21 @@ use Rattle.crossing_mixers.specs.declared.StripScenes.{StripScenes}
 -- ---- to C
 
 -- whether a turn names a strip, and which one; 0 where it names none
-abbrev pub is_strip : Named → Bool
-is_strip (Strip strip) = true
-is_strip Nobody = false
+abbrev pub is_strip : Option ℕ → Bool
+is_strip (Some strip) = true
+is_strip None = false
 
-abbrev pub strip_of : Named → ℕ
-strip_of (Strip strip) = strip
-strip_of Nobody = 0
+abbrev pub strip_of : Option ℕ → ℕ
+strip_of (Some strip) = strip
+strip_of None = 0
 
 abbrev pub plain_filed : Reply → Mixer → PlainFiled
 plain_filed reply mixer = record { number = number reply; place = place reply; mixer = mixer }
 
-abbrev pub plain_turned : Named → Mixer → PlainTurned
+abbrev pub plain_turned : Option ℕ → Mixer → PlainTurned
 plain_turned named mixer = record { named = is_strip named; strip = strip_of named; mixer = mixer }
 
-abbrev pub plain_served : Named → Reply → Mixer → PlainServed
+abbrev pub plain_served : Option ℕ → Reply → Mixer → PlainServed
 plain_served named reply mixer =
     record {
       number = number reply;

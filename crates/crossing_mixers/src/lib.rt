@@ -8,14 +8,14 @@ ghost use Rattle.answer.specs.Written.{written};
 ghost use Rattle.lobes.specs.Pan as side;
 ghost use Rattle.mixer.specs.Mixers.{request_reply, mixer_asked, turn_names, mixer_turned};
 ghost use Rattle.mixer_masks.specs.Serving.{named_reply, named_mask};
-ghost use Rattle.crossing_mixers.specs.Mixed.{is_strip, strip_of};
+ghost use Rattle.crossing_mixers.specs.Mixed.{strip_of};
 ghost use Rattle.crossing_mixers.specs.Mixed.{plain_filed, plain_turned, plain_served};
 ghost use Rattle.crossing_mixers.specs.Mixed.{plain_reply, plain_mask, plain_at};
 
-use answer::{Outcome, refusal};
+use answer::{Outcome, Reason};
 use crossing::settings::{config_of, shape_refused};
 use crossing_scenes::{PlainScene, scene_of};
-use mixer::{Mixer, Named, STRIPS, request, turn};
+use mixer::{Mixer, STRIPS, request, turn};
 use mixer_masks::{build_scene, scene_place};
 
 // What a request answers, with C's layout: a number, 0 when done, a place, and the mixer.
@@ -54,49 +54,34 @@ pub struct StripScenes {
     pub scenes: [PlainScene; STRIPS],
 }
 
-fn is_strip(named: Named) -> bool
-    ensures { result ≡ is_strip named }
-{
-    match named {
-        Named::Strip(_) => true,
-        Named::Nobody => false,
-    }
-}
-
-fn strip_of(named: Named) -> usize
+// The strip that a turn names, 0 where it names none.
+fn strip_of(named: Option<usize>) -> usize
     ensures { result ≡ strip_of named }
 {
-    match named {
-        Named::Strip(strip) => strip,
-        Named::Nobody => 0,
-    }
+    named.unwrap_or(0)
 }
 
 // `request`.
-pub fn file(mixer: Mixer, strip: usize) -> PlainFiled
+pub fn file(mut mixer: Mixer, strip: usize) -> PlainFiled
     ensures { result ≡ plain_filed (request_reply strip) (mixer_asked mixer strip) }
 {
-    let filed = request(mixer, strip);
-    let outcome = filed.outcome;
-    let after = filed.mixer;
+    let outcome = request(&mut mixer, strip);
     PlainFiled {
-        number: outcome.number() as u32,
-        place: outcome.place(),
-        mixer: after,
+        number: answer::number(outcome) as u32,
+        place: answer::place(outcome),
+        mixer,
     }
 }
 
 // `turn`.
-pub fn take_turn(mixer: Mixer) -> PlainTurned
+pub fn take_turn(mut mixer: Mixer) -> PlainTurned
     ensures { result ≡ plain_turned (turn_names mixer) (mixer_turned mixer) }
 {
-    let turned = turn(mixer);
-    let named = turned.named;
-    let after = turned.mixer;
+    let named = turn(&mut mixer);
     PlainTurned {
-        named: is_strip(named),
+        named: named.is_some(),
         strip: strip_of(named),
-        mixer: after,
+        mixer,
     }
 }
 
@@ -105,22 +90,22 @@ fn build_plain(
     left: &mut [f32],
     right: &mut [f32],
     manual_mask_db: &[f32],
-    plain: PlainScene,
+    plain: &PlainScene,
     table: &[f32],
 ) -> Outcome
     ensures result_value { of_outcome result ≡ plain_reply (length left.old)
-        (length right.old) manual_mask_db.now plain
+        (length right.old) manual_mask_db.now plain.now
         table.now }
     ensures left_after { left.new ≡ written (of_outcome result) (plain_mask side.left
-        manual_mask_db.now plain table.now) left.old }
+        manual_mask_db.now plain.now table.now) left.old }
     ensures right_after { right.new ≡ written (of_outcome result) (plain_mask side.right
-        manual_mask_db.now plain table.now) right.old }
+        manual_mask_db.now plain.now table.now) right.old }
 {
     let settings = plain.settings;
     if 7 < settings.motion_shape {
         return shape_refused(config_of(settings));
     }
-    build_scene(left, right, manual_mask_db, scene_of(plain), table)
+    build_scene(left, right, manual_mask_db, &scene_of(*plain), table)
 }
 
 // Builds the masks of the scene of the strip that a turn has named, if it has named one.
@@ -128,28 +113,24 @@ fn build_named(
     left: &mut [f32],
     right: &mut [f32],
     manual_mask_db: &[f32],
-    plain: PlainScene,
+    plain: &PlainScene,
     table: &[f32],
-    named: Named,
+    named: Option<usize>,
 ) -> Outcome
     ensures result_value { of_outcome result ≡ named_reply (λ strip. plain_reply (length left.old)
-        (length right.old) manual_mask_db.now plain table.now)
+        (length right.old) manual_mask_db.now plain.now table.now)
         named }
     ensures left_after { left.new ≡ named_mask (λ strip. plain_mask side.left
-        manual_mask_db.now plain table.now) named (of_outcome result)
+        manual_mask_db.now plain.now table.now) named (of_outcome result)
         left.old }
     ensures right_after { right.new ≡ named_mask (λ strip. plain_mask side.right
-        manual_mask_db.now plain table.now) named (of_outcome result)
+        manual_mask_db.now plain.now table.now) named (of_outcome result)
         right.old }
 {
     match named {
-        Named::Nobody => Outcome::Done,
-        Named::Strip(strip) => {
-            if STRIPS <= strip {
-                return Outcome::Refused(refusal::STRIP, 0);
-            }
-            build_plain(left, right, manual_mask_db, plain, table)
-        }
+        None => Ok(()),
+        Some(strip) if STRIPS <= strip => Err(Reason::Strip.into()),
+        Some(_) => build_plain(left, right, manual_mask_db, plain, table),
     }
 }
 
@@ -160,7 +141,7 @@ pub fn serve(
     manual_mask_db: &[f32],
     given: StripScenes,
     table: &[f32],
-    mixer: Mixer,
+    mut mixer: Mixer,
 ) -> PlainServed
     ensures value { result ≡ plain_served (turn_names mixer) (named_reply (λ strip. plain_reply
         (length left.old) (length right.old) manual_mask_db.now
@@ -176,16 +157,14 @@ pub fn serve(
         (length right.old) manual_mask_db.now (plain_at given strip)
         table.now) (turn_names mixer)) right.old }
 {
-    let turned = turn(mixer);
-    let named = turned.named;
-    let after = turned.mixer;
-    let plain = given.scenes[scene_place(named)];
+    let named = turn(&mut mixer);
+    let plain = &given.scenes[scene_place(named)];
     let outcome = build_named(left, right, manual_mask_db, plain, table, named);
     PlainServed {
-        number: outcome.number() as u32,
-        place: outcome.place(),
-        named: is_strip(named),
+        number: answer::number(outcome) as u32,
+        place: answer::place(outcome),
+        named: named.is_some(),
         strip: strip_of(named),
-        mixer: after,
+        mixer,
     }
 }

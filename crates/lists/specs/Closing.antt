@@ -10,7 +10,8 @@ use Rattle.std.proofs.Math.Decide.{dec_lt}
 use native.Mathlib.Omega.{arith}
 use Rattle.std.proofs.Math.ListN.{length, get_or, drop, length-append, length-drop, get_or-append}
 use Rattle.std.proofs.Math.Seq.{length-take-le, get_or-take, get_or-drop, get_or-append-add}
-use Rattle.lists.specs.Maps.{map_range, between_in, between-low, length-map_range}
+use Rattle.std.specs.List.{CopiedTo, SameBelow, SameFrom}
+use Rattle.lists.specs.Maps.{map_range, between_in, between-low, between-high, length-map_range}
 use Rattle.lists.specs.Maps.{get_or-map_range}
 use Rattle.lists.specs.Totals.{All}
 use Rattle.lists.specs.Mapped.{map-append, map-take, map-drop}
@@ -86,6 +87,39 @@ module _ {A : Type 0} where
         ext_get_or d (take (n - 1) (closed d p (n - 1) xs)) (without p first) (fits ∙ sym other)
         (λ k h. get_or-take (n - 1) (closed d p (n - 1) xs) k d (omega (arith, fits))
         ∙ entry k (omega (arith, fits)) (dec_lt k p))
+
+-- what is left where the entries after p, up to n, are copied to the places from p on
+module _ {A : Type 0} (d : A) (xs ys : List A) (p n : ℕ) (l : p < n) where
+  pub copied-closed :
+      length ys ≡ length xs → CopiedTo xs ys (p + 1) p (n - (p + 1)) → SameBelow xs ys p
+      → SameFrom xs ys (p + (n - (p + 1))) → ys ≡ closed d p (n - 1) xs
+  copied-closed same moved low high =
+      ext_get_or d ys (closed d p (n - 1) xs)
+      (same ∙ sym (length-map_range (λ k x. get_or xs (k + 1) d) p (n - 1) xs))
+      (λ k h. at k (omega (arith, same, h)) (dec_lt k p) (dec_lt k (n - 1)))
+    where
+      g : ℕ → A → A
+      g k x = get_or xs (k + 1) d
+
+      at : (k : ℕ) → k < length xs → Dec (k < p) → Dec (k < n - 1)
+          → get_or ys k d ≡ get_or (closed d p (n - 1) xs) k d
+      at k h (yes below) _ =
+          low k d below
+          ∙ sym
+          (get_or-map_range g p (n - 1) xs k d h
+          ∙ between-low g p (n - 1) k (get_or xs k d) below)
+      at k h (no from) (yes below) =
+          let e : p + 1 + (k - p) ≡ k + 1 = omega arith in
+          moved k d (omega arith) (omega arith)
+          ∙ ap (λ j. get_or xs j d) e
+          ∙ sym
+          (get_or-map_range g p (n - 1) xs k d h
+          ∙ between_in g p (n - 1) k (get_or xs k d) (omega arith) below)
+      at k h (no from) (no above) =
+          high k d (omega arith)
+          ∙ sym
+          (get_or-map_range g p (n - 1) xs k d h
+          ∙ between-high g p (n - 1) k (get_or xs k d) (omega arith))
 
 pub map-without :
     {A B : Type 0} (g : A → B) (p : ℕ) (xs : List A) → map g (without p xs) ≡ without p (map g xs)

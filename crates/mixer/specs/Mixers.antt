@@ -1,14 +1,12 @@
 -- A mixer of sixteen strips, in the words of request 106: what each call answers, and the mixer
 -- that it hands back. A mixer that no call made may say any count, so only its first sixteen places
 -- are looked at. Assumes nothing.
-use Rattle.std.specs.Prelude.{Bool, false, cond, ◌||◌, List, [], ◌∷◌, ℕ, ◌+◌, ◌-◌, min, eqb, leb, take, set, replicate}
+use Rattle.std.specs.Prelude.{Bool, false, cond, ◌||◌, List, [], ◌∷◌, ℕ, ◌+◌, ◌-◌, min, eqb, leb, take, set, replicate, Option, Some, None}
 use Rattle.lists.specs.Closing.{closed}
 use Rattle.answer.specs.Refusal.{STRIP}
 use Rattle.answer.specs.Reply.{Reply, done, refused}
 use Rattle.answer.specs.Written.{written}
 use Rattle.mixer.specs.declared.Mixer.{Mixer}
-use Rattle.mixer.specs.declared.Named.{Named}
-use Rattle.mixer.specs.declared.Named.TheVariants.{Strip, Nobody}
 
 -- "strips 0 to 15"
 abbrev pub strip_count : ℕ
@@ -64,11 +62,11 @@ mixer_asked mixer strip = written (request_reply strip) (with_request mixer stri
 -- ---- a turn
 
 -- "a turn names the strip that has waited longest", and with nobody waiting it "names none"
-abbrev pub first_waiting : List ℕ → Named
-first_waiting [] = Nobody
-first_waiting (strip ∷ others) = Strip strip
+abbrev pub first_waiting : List ℕ → Option ℕ
+first_waiting [] = None
+first_waiting (strip ∷ others) = Some strip
 
-abbrev pub turn_names : Mixer → Named
+abbrev pub turn_names : Mixer → Option ℕ
 turn_names mixer = first_waiting (line mixer)
 
 -- "at its highest value it stays"
@@ -85,9 +83,9 @@ without_first mixer =
     }
 
 -- "A turn with nobody waiting .. changes nothing"
-abbrev pub turned_by : Named → Mixer → Mixer
-turned_by (Strip strip) mixer = without_first mixer
-turned_by Nobody mixer = mixer
+abbrev pub turned_by : Option ℕ → Mixer → Mixer
+turned_by (Some strip) mixer = without_first mixer
+turned_by None mixer = mixer
 
 abbrev pub mixer_turned : Mixer → Mixer
 mixer_turned mixer = turned_by (turn_names mixer) mixer

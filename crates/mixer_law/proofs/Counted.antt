@@ -5,9 +5,8 @@ use mathlib.Core.List.{List, [], ◌∷◌}
 use Prim.Native.Nat.{ℕ, ◌+◌, ◌<◌}
 use native.Mathlib.Nat.{add-zero}
 use native.Mathlib.Omega.{arith}
+use Rattle.std.specs.Prelude.{Option, Some, None}
 use Rattle.mixer.specs.declared.Mixer.{Mixer}
-use Rattle.mixer.specs.declared.Named.{Named}
-use Rattle.mixer.specs.declared.Named.TheVariants.{Strip, Nobody}
 use Rattle.mixer.specs.Mixers.{most_turns, fresh, mixer_asked, turn_names, mixer_turned}
 use Rattle.mixer_law.specs.Calls.{Call, request, turn, turns}
 use Rattle.mixer_law.specs.Waits.{found, one}
@@ -35,12 +34,12 @@ counts-from (turn ∷ calls) mixer h =
     later = found (events_from (mixer_turned mixer) calls)
 
     go :
-        (named : Named) → (mixer_turned mixer).served ≡ tallied mixer named
+        (named : Option ℕ) → (mixer_turned mixer).served ≡ tallied mixer named
         → ((mixer_turned mixer).served + turns calls < 18446744073709551616
         → after ≡ (mixer_turned mixer).served + later)
         → after ≡ mixer.served + (later + one (told named))
-    go (Strip strip) e r = omega (arith, e, r (omega (arith, e)))
-    go Nobody e r = omega (arith, e, r (omega (arith, e)))
+    go (Some strip) e r = omega (arith, e, r (omega (arith, e)))
+    go None e r = omega (arith, e, r (omega (arith, e)))
 
 pub counts : Counts
 counts calls h = counts-from calls fresh (omega arith) ∙ omega arith
@@ -54,9 +53,9 @@ stays-turned : (mixer : Mixer) → mixer.served ≡ most_turns
     → (mixer_turned mixer).served ≡ most_turns
 stays-turned mixer h = served-turned mixer ∙ go (turn_names mixer)
   where
-    go : (named : Named) → tallied mixer named ≡ most_turns
-    go (Strip strip) = omega (arith, h)
-    go Nobody = h
+    go : (named : Option ℕ) → tallied mixer named ≡ most_turns
+    go (Some strip) = omega (arith, h)
+    go None = h
 
 pub stays-at-its-highest : StaysAtItsHighest
 unfolding run

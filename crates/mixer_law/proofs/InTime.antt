@@ -10,9 +10,8 @@ use native.Mathlib.Omega.{arith}
 use lib.Dec.{eqb, leb}
 use lib.ListN.{length, take, drop, length-append}
 use borrow.Author.Tests.{eqb-true}
+use Rattle.std.specs.Prelude.{Option, Some}
 use Rattle.mixer.specs.declared.Mixer.{Mixer}
-use Rattle.mixer.specs.declared.Named.{Named}
-use Rattle.mixer.specs.declared.Named.TheVariants.{Strip}
 use Rattle.mixer.specs.Mixers.{strip_count, line, has, first_waiting, mixer_asked, turn_names, mixer_turned}
 use Rattle.mixer_law.specs.Calls.{Call, request, turn, turns}
 use Rattle.mixer_law.specs.Waits.{Event, named, turns_of}
@@ -60,13 +59,13 @@ still l other s xs ys e = go (leb strip_count other) (has other l) (leb strip_co
         (ys ++ other ∷ [], ap (λ l. l ++ other ∷ []) e ∙ append_assoc xs (s ∷ ys) (other ∷ []))
 
 -- ---- a turn that names it, and one that names another before it is named
-module _ (s n : ℕ) (who : Named) (events : List Event) where
-  this-turn : who ≡ Strip s → Among (named s) (take (suc n) (turns_of (told who ∷ events)))
+module _ (s n : ℕ) (who : Option ℕ) (events : List Event) where
+  this-turn : who ≡ Some s → Among (named s) (take (suc n) (turns_of (told who ∷ events)))
   unfolding turns_of
   this-turn e = rw e (inl refl)
 
   later-turn :
-      (x : ℕ) → who ≡ Strip x → Among (named s) (take n (turns_of events))
+      (x : ℕ) → who ≡ Some x → Among (named s) (take n (turns_of events))
       → Among (named s) (take (suc n) (turns_of (told who ∷ events)))
   unfolding turns_of
   later-turn x e i = rw e (inr i)

@@ -6,10 +6,9 @@ use mathlib.Core.List.{List, [], ◌∷◌, map}
 use Prim.Native.Nat.{ℕ, zero, suc, ◌≤◌}
 use native.Mathlib.Omega.{arith}
 use lib.ListN.{length, take, drop, replicate}
+use Rattle.std.specs.Prelude.{Option, Some}
 use Rattle.lists.specs.Folds.{range}
 use Rattle.mixer.specs.declared.Mixer.{Mixer}
-use Rattle.mixer.specs.declared.Named.{Named}
-use Rattle.mixer.specs.declared.Named.TheVariants.{Strip}
 use Rattle.mixer.specs.Mixers.{line, has, first_waiting, turn_names, mixer_turned}
 use Rattle.mixer_law.specs.Calls.{Call, request, turn}
 use Rattle.mixer_law.specs.Waits.{Event, named, wait_from, turns_of}
@@ -33,7 +32,7 @@ turns_alone (suc n) mixer w (x ∷ xs) e h =
     later = events_from (mixer_turned mixer) (replicate n turn)
 
     first :
-        (who : Named) → who ≡ Strip x → turns_of later ≡ map named (take n xs)
+        (who : Option ℕ) → who ≡ Some x → turns_of later ≡ map named (take n xs)
         → turns_of (told who ∷ later) ≡ named x ∷ map named (take n xs)
     first who e r = rw e (ap (λ (l : List Event). named x ∷ l) r)
 

@@ -8,14 +8,13 @@ use lib.Dec.{eqb, leb}
 use lib.ListN.{length, take, drop, set, length-set}
 use lib.Seq.{length-take-le, take-suc-set}
 use borrow.Author.Tests.{leb-false, eqb-true, eqb-false}
+use Rattle.std.specs.Prelude.{Option, Some, None}
 use Rattle.lists.specs.Maps.{length-map_range}
 use Rattle.lists.specs.Closing.{closed, without, take-closed}
 use Rattle.answer.specs.Refusal.{STRIP}
 use Rattle.answer.specs.Reply.{done, refused}
 use Rattle.answer.specs.Written.{written}
 use Rattle.mixer.specs.declared.Mixer.{Mixer}
-use Rattle.mixer.specs.declared.Named.{Named}
-use Rattle.mixer.specs.declared.Named.TheVariants.{Strip, Nobody}
 use Rattle.mixer.specs.Mixers.{strip_count, held_in, line, has, with_strip, mixer_asked}
 use Rattle.mixer.specs.Mixers.{turn_names, counted, without_first, turned_by, mixer_turned}
 use Rattle.mixer.proofs.Answers.{line-none, turned-nobody, turned-first}
@@ -101,9 +100,9 @@ module _ (mixer : Mixer) (whole : Whole mixer) where
   pub whole-turned : Whole (mixer_turned mixer)
   whole-turned = go (turn_names mixer)
     where
-      go : (named : Named) → Whole (turned_by named mixer)
-      go (Strip strip) = length-map_range _ 0 (n - 1) mixer.strips ∙ whole
-      go Nobody = whole
+      go : (named : Option ℕ) → Whole (turned_by named mixer)
+      go (Some strip) = length-map_range _ 0 (n - 1) mixer.strips ∙ whole
+      go None = whole
 
 -- ---- the counter
 module _ (mixer : Mixer) where
@@ -117,13 +116,13 @@ module _ (mixer : Mixer) where
       go false false true = refl
       go false false false = refl
 
-  abbrev pub tallied : Named → ℕ
-  tallied (Strip strip) = counted mixer.served
-  tallied Nobody = mixer.served
+  abbrev pub tallied : Option ℕ → ℕ
+  tallied (Some strip) = counted mixer.served
+  tallied None = mixer.served
 
   pub served-turned : (mixer_turned mixer).served ≡ tallied (turn_names mixer)
   served-turned = go (turn_names mixer)
     where
-      go : (named : Named) → (turned_by named mixer).served ≡ tallied named
-      go (Strip strip) = refl
-      go Nobody = refl
+      go : (named : Option ℕ) → (turned_by named mixer).served ≡ tallied named
+      go (Some strip) = refl
+      go None = refl

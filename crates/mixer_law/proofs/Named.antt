@@ -4,10 +4,10 @@ use mathlib.Core.List.{List, [], ◌∷◌}
 use Prim.Native.Nat.{ℕ, ◌<◌}
 use native.Mathlib.Omega.{arith}
 use borrow.Author.Tests.{eq-eqb, ne_eqb, lt-leb}
-use Rattle.mixer.specs.declared.Named.TheVariants.{Strip, Nobody}
-use Rattle.mixer.specs.Mixers.{strip_count, line, has, first_waiting, turn_names, turned_by}
+use Rattle.std.specs.Prelude.{Some, None}
+use Rattle.mixer.specs.Mixers.{strip_count, first_waiting, turn_names, turned_by}
 use Rattle.mixer_law.specs.Calls.{Call}
-use Rattle.mixer_law.specs.Waits.{Wait, none, since, wait_of}
+use Rattle.mixer_law.specs.Waits.{none, since, wait_of}
 use Rattle.mixer_law.specs.Mixers.{after, events}
 use Rattle.mixer_law.specs.Promises.{NobodyWaits, Longest, NamesTheLongest}
 use Rattle.mixer_law.specs.Promises.{ServesTheNamed, AskingAgainChangesNothing}
@@ -25,7 +25,7 @@ module _ (calls : List Call) where
   -- the first entry, where a strip is named
   longest-entry :
       (strip : ℕ) (es : List Entry) → f.entries ≡ es → Rising es
-      → first_waiting (strips es) ≡ Strip strip → Longest calls strip
+      → first_waiting (strips es) ≡ Some strip → Longest calls strip
   unfolding Rising look
   longest-entry strip [] p r q = let z : ◌≡◌ {A = ℕ} 0 1 = cc in absurd (omega arith)
   longest-entry strip (e ∷ es) p r q =
@@ -44,7 +44,7 @@ module _ (calls : List Call) where
 
   -- no entry, where nobody is
   none-entry :
-      (es : List Entry) → f.entries ≡ es → first_waiting (strips es) ≡ Nobody → f.entries ≡ []
+      (es : List Entry) → f.entries ≡ es → first_waiting (strips es) ≡ None → f.entries ≡ []
   none-entry [] p q = p
   none-entry (e ∷ es) p q = let z : ◌≡◌ {A = ℕ} 0 1 = cc in absurd (omega arith)
 
@@ -87,6 +87,6 @@ nobody-only-then calls e strip l =
 pub nobody-named : NobodyNamed
 nobody-named calls w =
     let empty = no-entry calls w (f calls).entries refl in
-    let e : turn_names (after calls) ≡ Nobody =
+    let e : turn_names (after calls) ≡ None =
     names-entry calls ∙ ap (λ (es : List Entry). first_waiting (strips es)) empty in
     (e, ap (λ named. turned_by named (after calls)) e)

@@ -1,9 +1,7 @@
 -- Lists of calls on a mixer: the mixer that they hand back in the end, and what is seen of them.
 -- Assumes nothing.
-use Rattle.std.specs.Prelude.{List, [], ◌∷◌}
+use Rattle.std.specs.Prelude.{List, [], ◌∷◌, Option, Some, None, ℕ}
 use Rattle.mixer.specs.declared.Mixer.{Mixer}
-use Rattle.mixer.specs.declared.Named.{Named}
-use Rattle.mixer.specs.declared.Named.TheVariants.{Strip, Nobody}
 use Rattle.mixer.specs.Mixers.{fresh, mixer_asked, turn_names, mixer_turned}
 use Rattle.mixer_law.specs.Calls.{Call, request, turn}
 use Rattle.mixer_law.specs.Waits.{Event, asked, named, nobody}
@@ -18,9 +16,9 @@ run mixer [] = mixer
 run mixer (call ∷ calls) = run (stepped mixer call) calls
 
 -- what is seen
-abbrev pub told : Named → Event
-told (Strip strip) = named strip
-told Nobody = nobody
+abbrev pub told : Option ℕ → Event
+told (Some strip) = named strip
+told None = nobody
 
 abbrev pub event_of : Mixer → Call → Event
 event_of mixer (request strip) = asked strip

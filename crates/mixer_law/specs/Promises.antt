@@ -1,16 +1,14 @@
 -- What request 106 promises of every list of calls from a fresh mixer. Assumes nothing.
-use Rattle.std.specs.Prelude.{◌≡◌, ◌⊎◌, List, [], ◌∷◌, ℕ, ◌^◌, ◌≤◌, ◌<◌, take, Float}
+use Rattle.std.specs.Prelude.{◌≡◌, ◌⊎◌, List, [], ◌∷◌, ℕ, ◌^◌, ◌≤◌, ◌<◌, take, Float, Some, None}
 use Rattle.answer.specs.Reply.{Reply}
 use Rattle.answer.specs.Written.{written}
 use Rattle.scene.specs.declared.Scene.{Scene}
 use Rattle.lobes.specs.Pan.{Side}
 use Rattle.mixer.specs.declared.Mixer.{Mixer}
-use Rattle.mixer.specs.declared.Named.{Named}
-use Rattle.mixer.specs.declared.Named.TheVariants.{Strip, Nobody}
 use Rattle.mixer.specs.Mixers.{strip_count, most_turns, mixer_asked, turn_names, mixer_turned}
 use Rattle.mixer_masks.specs.Serving.{scene_reply, scene_mask, scene_at, named_reply, named_mask}
 use Rattle.mixer_law.specs.Calls.{Call, turns}
-use Rattle.mixer_law.specs.Waits.{Event, named, Wait, none, since, wait_of, turns_of, found}
+use Rattle.mixer_law.specs.Waits.{Event, named, none, since, wait_of, turns_of, found}
 use Rattle.mixer_law.specs.Mixers.{run, events_from, after, events}
 
 -- the strip's present wait, after these calls, began with the call of this number
@@ -34,7 +32,7 @@ pub record Longest (calls : List Call) (strip : ℕ) : Type 0 where
 
 abbrev pub NamesTheLongest : Type 0
 NamesTheLongest =
-    (calls : List Call) (strip : ℕ) → turn_names (after calls) ≡ Strip strip → Longest calls strip
+    (calls : List Call) (strip : ℕ) → turn_names (after calls) ≡ Some strip → Longest calls strip
 
 -- ---- "that strip's scene then goes to the stereo call"
 
@@ -55,7 +53,7 @@ pub record Serves
 
 abbrev pub ServesTheNamed : Type 0
 ServesTheNamed =
-    (calls : List Call) (strip : ℕ) → turn_names (after calls) ≡ Strip strip
+    (calls : List Call) (strip : ℕ) → turn_names (after calls) ≡ Some strip
     → (m n : ℕ) (curve : List Float) (scenes : List Scene) (table : List Float)
     → Serves calls strip m n curve scenes table
 
@@ -88,11 +86,11 @@ NamedInTime =
 abbrev pub NobodyNamed : Type 0
 NobodyNamed =
     (calls : List Call) → NobodyWaits calls
-    → (turn_names (after calls) ≡ Nobody) × (mixer_turned (after calls) ≡ after calls)
+    → (turn_names (after calls) ≡ None) × (mixer_turned (after calls) ≡ after calls)
 
 -- and no other turn names none
 abbrev pub NobodyOnlyThen : Type 0
-NobodyOnlyThen = (calls : List Call) → turn_names (after calls) ≡ Nobody → NobodyWaits calls
+NobodyOnlyThen = (calls : List Call) → turn_names (after calls) ≡ None → NobodyWaits calls
 
 -- ---- "One 64-bit counter, for every list of requests and turns from a fresh mixer with fewer than
 -- 2^64 turns, equals the number of turns that found someone waiting"

@@ -6,20 +6,19 @@ use mathlib.Core.List.{List}
 use Prim.Native.Nat.{ℕ}
 use lib.Dec.{leb}
 use lib.Ieee.{Float}
+use Rattle.std.specs.Prelude.{Option, Some, None}
 use Rattle.answer.specs.Refusal.{STRIP}
 use Rattle.answer.specs.Reply.{Reply, refused}
 use Rattle.answer.specs.Written.{written}
-use Rattle.mixer.specs.declared.Named.{Named}
-use Rattle.mixer.specs.declared.Named.TheVariants.{Strip, Nobody}
 use Rattle.mixer.specs.Mixers.{strip_count}
 use Rattle.mixer_masks.specs.Serving.{scene_place, named_reply, named_mask}
 
 module _ (reply : ℕ → Reply) where
   same-reply :
-      (named : Named)
+      (named : Option ℕ)
       → named_reply (λ strip. reply (scene_place named)) named ≡ named_reply reply named
-  same-reply Nobody = refl
-  same-reply (Strip strip) = go (leb strip_count strip)
+  same-reply None = refl
+  same-reply (Some strip) = go (leb strip_count strip)
     where
       go :
           (above : Bool)
@@ -29,11 +28,11 @@ module _ (reply : ℕ → Reply) where
       go false = refl
 
   same-mask :
-      (mask : ℕ → List Float) (old : List Float) (named : Named)
+      (mask : ℕ → List Float) (old : List Float) (named : Option ℕ)
       → named_mask (λ strip. mask (scene_place named)) named (named_reply reply named) old
       ≡ named_mask mask named (named_reply reply named) old
-  same-mask mask old Nobody = refl
-  same-mask mask old (Strip strip) = go (leb strip_count strip)
+  same-mask mask old None = refl
+  same-mask mask old (Some strip) = go (leb strip_count strip)
     where
       go :
           (above : Bool)
@@ -43,7 +42,7 @@ module _ (reply : ℕ → Reply) where
       go false = refl
 
   -- of a call on the scene at that place
-  module _ (named : Named) (place : ℕ) (there : place ≡ scene_place named) where
+  module _ (named : Option ℕ) (place : ℕ) (there : place ≡ scene_place named) where
     pub reply-named :
         {answer : Reply} → answer ≡ named_reply (λ strip. reply place) named
         → answer ≡ named_reply reply named

@@ -1,6 +1,6 @@
 -- A turn with the scene of the strip that it names, in the words of request 106: "that strip's
 -- scene then goes to the stereo call, which may refuse it". Assumes nothing.
-use Rattle.std.specs.Prelude.{false, cond, List, [], ℕ, leb, get_or, take, Float}
+use Rattle.std.specs.Prelude.{false, cond, List, [], ℕ, leb, get_or, take, Float, Option, Some, None}
 use Rattle.std.specs.Float.{nan}
 use Rattle.answer.specs.Refusal.{STRIP}
 use Rattle.answer.specs.Reply.{Reply, done, refused}
@@ -12,8 +12,6 @@ use Rattle.lobes.specs.Pan.{Side}
 use Rattle.lobes.specs.Distance.{lent}
 use Rattle.mask_builder.specs.Mask.{mask_of}
 use Rattle.refusals.specs.Masks.{stereo_reply}
-use Rattle.mixer.specs.declared.Named.{Named}
-use Rattle.mixer.specs.declared.Named.TheVariants.{Strip, Nobody}
 use Rattle.mixer.specs.Mixers.{strip_count}
 
 -- ---- scenes, one for each strip
@@ -53,18 +51,18 @@ scene_mask side curve scene table =
 -- ---- on the scene of the strip that a turn names
 
 -- where that scene stands; the first place where the turn names none of the sixteen strips
-abbrev pub scene_place : Named → ℕ
-scene_place (Strip strip) = cond (leb strip_count strip) 0 strip
-scene_place Nobody = 0
+abbrev pub scene_place : Option ℕ → ℕ
+scene_place (Some strip) = cond (leb strip_count strip) 0 strip
+scene_place None = 0
 
 -- the answer, given that to each strip's scene. "A strip above 15 is refusal 11, before all
 -- others", which no turn of a mixer that calls have made can name.
-abbrev pub named_reply : (ℕ → Reply) → Named → Reply
-named_reply reply (Strip strip) = cond (leb strip_count strip) (refused STRIP 0) (reply strip)
-named_reply reply Nobody = done []
+abbrev pub named_reply : (ℕ → Reply) → Option ℕ → Reply
+named_reply reply (Some strip) = cond (leb strip_count strip) (refused STRIP 0) (reply strip)
+named_reply reply None = done []
 
 -- what a slice then holds, given the mask of each strip's scene. "A turn with nobody waiting ..
 -- changes nothing".
-abbrev pub named_mask : (ℕ → List Float) → Named → Reply → List Float → List Float
-named_mask mask (Strip strip) reply old = written reply (mask strip) old
-named_mask mask Nobody reply old = old
+abbrev pub named_mask : (ℕ → List Float) → Option ℕ → Reply → List Float → List Float
+named_mask mask (Some strip) reply old = written reply (mask strip) old
+named_mask mask None reply old = old

@@ -1,7 +1,7 @@
 -- A bank of voices, in the words of request 105: what each call answers, and the bank that it hands
 -- back. A bank that no call made may say any count, so only its first 128 places are looked at.
 -- Assumes nothing.
-use Rattle.std.specs.Prelude.{Bool, cond, not, List, [], ℕ, ◌+◌, ◌-◌, eqb, ltb, leb, take, set, replicate}
+use Rattle.std.specs.Prelude.{Bool, cond, not, List, [], ℕ, ◌+◌, ◌-◌, eqb, ltb, leb, length, take, set, replicate, Option, Some, None}
 use Rattle.lists.specs.Folds.{first_bad}
 use Rattle.lists.specs.Closing.{closed}
 use Rattle.answer.specs.Refusal.{VOICE_COUNT, VOICE, ID}
@@ -31,6 +31,10 @@ held_in bank = held bank.count
 -- the place of an id in a list of them, or the list's length where it is missing
 abbrev pub place_in : ℕ → List ℕ → ℕ
 place_in id ids = first_bad (λ place other. not (eqb other id)) ids
+
+-- that place where the id is there
+abbrev pub found_in : ℕ → List ℕ → Option ℕ
+found_in id ids = cond (ltb (place_in id ids) (length ids)) (Some (place_in id ids)) None
 
 -- the place of an id in a bank, and whether it is there
 abbrev pub place_of : Bank → ℕ → ℕ

@@ -1,38 +1,26 @@
 // A bank of up to 128 voices, each with an id, in the order in which they came, and the open calls
-// that add one, take one out and change one. A bank is passed by value and handed back beside the
-// answer: as it came where the call is refused.
+// that add one, take one out and change one. A refused call leaves the bank as it was.
 #![tactic(auto)]
 
-ghost use Rattle.std.specs.Prelude.{◌≡◌, ◌≤◌, ◌<◌, set, take};
-ghost use Rattle.lists.specs.Closing.{closed};
-ghost use Rattle.answer.specs.Reply.{of_outcome, refused};
-ghost use Rattle.limits.specs.Lengths.{most_voices};
-ghost use Rattle.voice_records.specs.VoiceRecords.{no_record, plain_voice};
-ghost use Rattle.voice_bank.specs.Banks.{empty, place_in, add_reply, bank_added};
+ghost use Rattle.std.specs.Prelude.{◌≡◌};
+ghost use Rattle.answer.specs.Reply.{of_outcome};
+ghost use Rattle.voice_bank.specs.Banks.{empty, found_in, add_reply, bank_added};
 ghost use Rattle.voice_bank.specs.Banks.{remove_reply, bank_removed};
 ghost use Rattle.voice_bank.specs.Banks.{change_reply, bank_changed};
-ghost use Rattle.voice_bank.specs.Premises.{Gap};
 
-use answer::{Outcome, refusal};
+use answer::{Outcome, Reason};
 use limits::lengths::MOST_VOICES;
 use scene::{MaskVoice, held, voice_accepted};
-use voice_records::{VoiceRecord, plain_voice};
+use voice_records::VoiceRecord;
 
-// The voices are plain numbers, so that a caller in C can hold a bank. What stands from `count` on
-// does not count.
+// The voices are plain numbers in arrays with a count beside them, so that a caller in C can hold a
+// bank. What stands from `count` on does not count.
 #[repr(C)]
 #[derive(Clone, Copy)]
 pub struct Bank {
     pub ids: [u16; MOST_VOICES],
     pub voices: [VoiceRecord; MOST_VOICES],
     pub count: usize,
-}
-
-// What a call on a bank answers, with the bank beside it.
-#[derive(Clone, Copy)]
-pub struct Banked {
-    pub outcome: Outcome,
-    pub bank: Bank,
 }
 
 pub fn new_bank() -> Bank
@@ -56,158 +44,67 @@ pub fn new_bank() -> Bank
     }
 }
 
-// The place of an id among the first `count`, or `count` where it is missing.
-fn place_in(ids: [u16; MOST_VOICES], count: usize, id: u16) -> usize
-    requires { count ≤ most_voices }
-    ensures { result ≡ place_in id (take count ids) }
+// The place of an id in a list of them.
+fn place_in(ids: &[u16], id: u16) -> Option<usize>
+    ensures { result ≡ found_in id ids.now }
 {
-    let mut i: usize = 0;
-    while i < count {
-        if ids[i] == id {
-            return i;
+    for place in 0..ids.len() {
+        if ids[place] == id {
+            return Some(place);
         }
-        i += 1;
     }
-    i
-}
-
-// Puts a voice at a place.
-fn voice_put(
-    voices: [VoiceRecord; MOST_VOICES],
-    place: usize,
-    voice: MaskVoice,
-) -> [VoiceRecord; MOST_VOICES]
-    requires { place < most_voices }
-    ensures { result ≡ set voices place (plain_voice voice) }
-{
-    let mut next = voices;
-    next[place] = plain_voice(voice);
-    next
-}
-
-// Each id after a place, up to the last, moves into the place before it.
-fn ids_closed(ids: [u16; MOST_VOICES], place: usize, last: usize) -> [u16; MOST_VOICES]
-    requires { Gap place last }
-    ensures { result ≡ closed 0 place last ids }
-{
-    let mut moved = ids;
-    let mut i: usize = place;
-    while i < last {
-        moved[i] = ids[i + 1];
-        i += 1;
-    }
-    moved
-}
-
-// Each voice after a place, up to the last, moves into the place before it.
-fn voices_closed(
-    voices: [VoiceRecord; MOST_VOICES],
-    place: usize,
-    last: usize,
-) -> [VoiceRecord; MOST_VOICES]
-    requires { Gap place last }
-    ensures { result ≡ closed no_record place last voices }
-{
-    let mut moved = voices;
-    let mut i: usize = place;
-    while i < last {
-        moved[i] = voices[i + 1];
-        i += 1;
-    }
-    moved
-}
-
-// The answer of a refused call.
-fn refuse(bank: Bank, number: u8) -> Banked
-    ensures { (of_outcome result.outcome ≡ refused number 0) × (result.bank ≡ bank) }
-{
-    Banked {
-        outcome: Outcome::Refused(number, 0),
-        bank: bank,
-    }
+    None
 }
 
 // Adds a voice after the others.
-pub fn add_voice(bank: Bank, id: u16, voice: MaskVoice) -> Banked
-    ensures outcome_value { of_outcome result.outcome ≡ add_reply bank id voice }
-    ensures bank_value { result.bank ≡ bank_added bank id voice }
+pub fn add_voice(bank: &mut Bank, id: u16, voice: MaskVoice) -> Outcome
+    ensures outcome_value { of_outcome result ≡ add_reply bank.old id voice }
+    ensures bank_value { bank.new ≡ bank_added bank.old id voice }
 {
     let count = bank.count;
     if MOST_VOICES <= count {
-        return refuse(bank, refusal::VOICE_COUNT);
+        return Err(Reason::VoiceCount.into());
     }
     if !voice_accepted(voice) {
-        return refuse(bank, refusal::VOICE);
+        return Err(Reason::Voice.into());
     }
-    let ids = bank.ids;
-    let place = place_in(ids, count, id);
-    if place < count {
-        return refuse(bank, refusal::ID);
+    if place_in(&bank.ids[..count], id).is_some() {
+        return Err(Reason::Id.into());
     }
-    let mut more_ids = ids;
-    more_ids[count] = id;
-    let voices = bank.voices;
-    let more_voices = voice_put(voices, count, voice);
-    let after = Bank {
-        ids: more_ids,
-        voices: more_voices,
-        count: count + 1,
-    };
-    Banked {
-        outcome: Outcome::Done,
-        bank: after,
-    }
+    bank.ids[count] = id;
+    bank.voices[count] = VoiceRecord::from(voice);
+    bank.count = count + 1;
+    Ok(())
 }
 
 // Takes out the voice with that id. The others keep their order.
-pub fn remove_voice(bank: Bank, id: u16) -> Banked
-    ensures outcome_value { of_outcome result.outcome ≡ remove_reply bank id }
-    ensures bank_value { result.bank ≡ bank_removed bank id }
+pub fn remove_voice(bank: &mut Bank, id: u16) -> Outcome
+    ensures outcome_value { of_outcome result ≡ remove_reply bank.old id }
+    ensures bank_value { bank.new ≡ bank_removed bank.old id }
 {
     let count = held(bank.count);
-    let ids = bank.ids;
-    let place = place_in(ids, count, id);
-    if count <= place {
-        return refuse(bank, refusal::ID);
-    }
-    let last = count - 1;
-    let voices = bank.voices;
-    let fewer_ids = ids_closed(ids, place, last);
-    let fewer_voices = voices_closed(voices, place, last);
-    let after = Bank {
-        ids: fewer_ids,
-        voices: fewer_voices,
-        count: last,
+    let Some(place) = place_in(&bank.ids[..count], id) else {
+        return Err(Reason::Id.into());
     };
-    Banked {
-        outcome: Outcome::Done,
-        bank: after,
-    }
+    bank.ids.copy_within(place + 1..count, place);
+    bank.voices.copy_within(place + 1..count, place);
+    bank.count = count - 1;
+    Ok(())
 }
 
 // Puts a voice in the place of the one with that id.
-pub fn change_voice(bank: Bank, id: u16, voice: MaskVoice) -> Banked
-    ensures outcome_value { of_outcome result.outcome ≡ change_reply bank id voice }
-    ensures bank_value { result.bank ≡ bank_changed bank id voice }
+pub fn change_voice(bank: &mut Bank, id: u16, voice: MaskVoice) -> Outcome
+    ensures outcome_value { of_outcome result ≡ change_reply bank.old id voice }
+    ensures bank_value { bank.new ≡ bank_changed bank.old id voice }
 {
     if !voice_accepted(voice) {
-        return refuse(bank, refusal::VOICE);
+        return Err(Reason::Voice.into());
     }
     let count = held(bank.count);
-    let ids = bank.ids;
-    let place = place_in(ids, count, id);
-    if count <= place {
-        return refuse(bank, refusal::ID);
-    }
-    let voices = bank.voices;
-    let changed = voice_put(voices, place, voice);
-    let after = Bank {
-        ids: ids,
-        voices: changed,
-        count: count,
+    let Some(place) = place_in(&bank.ids[..count], id) else {
+        return Err(Reason::Id.into());
     };
-    Banked {
-        outcome: Outcome::Done,
-        bank: after,
-    }
+    bank.voices[place] = VoiceRecord::from(voice);
+    bank.count = count;
+    Ok(())
 }

@@ -16,17 +16,17 @@ returns c =
     let table = a.table.now in
     let reply : ℕ → Reply =
     λ strip. scene_reply (length a.left.now) (length a.right.now) curve
-    (scene_at a.scenes strip) table in
+    (scene_at a.scenes.now strip) table in
     let mask : Side → ℕ → List Float =
-    λ side strip. scene_mask side curve (scene_at a.scenes strip) table in
-    let who = c.turn-turned.ensures.named_value in
+    λ side strip. scene_mask side curve (scene_at a.scenes.now strip) table in
+    let who = c.turn-named.ensures.named_value in
     let there = c.scene_place.ensures.0 in
     let built = c.build_named-outcome.ensures in
-    let named = c.turn-turned.result.named in
+    let named = c.turn-named.result in
     let place = c.scene_place.result in
     let answer = reply-named reply named place there built.result_value in record {
       named_value = who;
-      mixer_value = c.turn-turned.ensures.mixer_value;
+      mixer_value = c.turn-named.ensures.mixer_value;
       outcome_value = rw (← who) answer;
       left_after = rw (← who)
           (mask-named reply named place there (mask left) a.left.now answer

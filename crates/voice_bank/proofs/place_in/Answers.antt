@@ -1,42 +1,44 @@
 -- `place_in` meets its contract: the search from here on finds what the whole search finds. Assumes
 -- nothing.
-use mathlib.Core.Path.{◌≡◌, refl, sym, ap, ◌∙◌}
+use mathlib.Core.Path.{◌≡◌, sym, ap, ◌∙◌}
 use mathlib.Core.Bool.{not}
-use Prim.Native.Nat.{◌-◌}
-use native.Mathlib.Omega.{arith}
-use lib.ListN.{length}
-use borrow.Author.Rules.{rules}
+use mathlib.Core.List.{List, ◌∷◌}
+use Prim.Native.Nat.{ℕ, ◌+◌, ◌<◌}
+use native.Mathlib.Numerals.{add-one}
+use lib.ListN.{length, get_or, drop}
+use lib.Seq.{drop-cons}
 use borrow.Author.Tests.{eq-eqb, ne_eqb}
-use Rattle.lists.specs.Folds.{rest-next, rest-none, bad-step, bad-stop, bad-end}
+use Rattle.std.proofs.Common.{drop_of_length-le}
+use Rattle.lists.specs.Folds.{bad-step, bad-stop, bad-end}
+use Rattle.voice_bank.proofs.Answers.{found-there, found-nowhere}
 use Rattle.voice_bank.proofs.place_in.Goals as goal
 
-pub loop-i-init : goal.loop-i-init
-loop-i-init c = (omega arith, refl)
+next : (ids : List ℕ) (i : ℕ) → i < length ids → drop i ids ≡ get_or ids i 0 ∷ drop (i + 1) ids
+next ids i h = rw (add-one i) (drop-cons ids i 0 h)
 
-pub returns-then-ids-i : goal.returns-then-ids-i
-returns-then-ids-i c =
-    let a = c.args in
-    let l : length a.ids ≡ 128 = search rules in
-    let next = rest-next a.ids a.count c.loop-i.i 0 (omega arith) (omega arith) in
-    sym (bad-stop _ c.loop-i.i next (ap not (eq-eqb _ _ c.if-ids-i.true))) ∙ c.loop-i.invariant.1
+pub returns-then-ids-place : goal.returns-then-ids-place
+returns-then-ids-place c =
+    let ids = c.args.ids.now in
+    let place = c.loop-place.place in
+    let inside = c.loop-place-test.true in
+    found-there c.args.id ids
+    (sym c.loop-place.invariant
+    ∙ bad-stop _ place (next ids place inside) (ap not (eq-eqb _ _ c.if-ids-place.true)))
+    inside
 
-pub overflow_add-i : goal.overflow_add-i
-overflow_add-i c = omega arith
-
-pub loop-i-smaller : goal.loop-i-smaller
-loop-i-smaller c = omega arith
-
-pub loop-i-preserved : goal.loop-i-preserved
-loop-i-preserved c =
-    let a = c.args in
-    let l : length a.ids ≡ 128 = search rules in
-    let next = rest-next a.ids a.count c.loop-i.i 0 (omega arith) (omega arith) in (
-      omega arith,
-      sym (bad-step _ c.loop-i.i next (ap not (ne_eqb _ _ c.if-ids-i.false))) ∙ c.loop-i.invariant.1,
-    )
+pub loop-place-preserved : goal.loop-place-preserved
+loop-place-preserved c =
+    let ids = c.args.ids.now in
+    let place = c.loop-place.place in
+    let after = next ids place c.loop-place-test.true in
+    sym (bad-step _ place after (ap not (ne_eqb _ _ c.if-ids-place.false)))
+    ∙ c.loop-place.invariant
 
 pub returns : goal.returns
 returns c =
-    let a = c.args in
-    sym (bad-end _ c.loop-i.i (rest-none a.ids a.count c.loop-i.i (omega arith)))
-    ∙ c.loop-i.invariant.1
+    let ids = c.args.ids.now in
+    let place = c.loop-place.place in
+    let beyond = c.loop-place-test.false in
+    found-nowhere c.args.id ids
+    (sym c.loop-place.invariant ∙ bad-end _ place (drop_of_length-le ids {i = place} beyond))
+    beyond
