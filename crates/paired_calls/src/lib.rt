@@ -13,7 +13,7 @@ ghost use Rattle.bank_masks.specs.Reading.{read_reply};
 ghost use Rattle.bank_law.specs.Calls.{reading_of, answer_with};
 ghost use Rattle.bank_law.specs.Promises.{BanksNotAudible};
 
-use answer::{Outcome, Prepared};
+use answer::{CoherentGains, Outcome, Refusal};
 use bank_masks::read_masks;
 use limits::lengths::MOST_VOICES;
 use mask_calls::{
@@ -66,7 +66,7 @@ pub fn two_stereo_calls(
     let b = build_stereo_masks_with_voices_precomputed(
         b_left, b_right, b_curve, b_voices, b_count, b_config, b_table,
     );
-    Outcomes { a: a, b: b }
+    Outcomes { a, b }
 }
 
 // Reads the masks of two banks with one curve, the same settings and one table.
@@ -95,15 +95,15 @@ pub fn read_two_banks(
         (answer_with (of_outcome result.a) a_left.new a_right.new)
         (answer_with (of_outcome result.b) b_left.new b_right.new) }
 {
-    let a = read_masks(a_left, a_right, curve, a_bank, config, table);
-    let b = read_masks(b_left, b_right, curve, b_bank, config, table);
-    Outcomes { a: a, b: b }
+    let a = read_masks(a_left, a_right, curve, &a_bank, config, table);
+    let b = read_masks(b_left, b_right, curve, &b_bank, config, table);
+    Outcomes { a, b }
 }
 
 // What a call that fills a block and a stereo call by it answer.
 #[derive(Clone, Copy)]
 pub struct Answers {
-    pub prepared: Prepared,
+    pub prepared: Result<CoherentGains, Refusal>,
     pub masks: Outcome,
 }
 
@@ -132,8 +132,5 @@ pub fn prepare_and_build(
     let masks = build_stereo_masks_with_prepared_spectrum(
         left, right, curve, voices, count, config, block,
     );
-    Answers {
-        prepared: prepared,
-        masks: masks,
-    }
+    Answers { prepared, masks }
 }
