@@ -35,7 +35,7 @@ struct Table {
 const TABLES: [Table; 6] = [
     Table {
         name: "power",
-        array: ["src/table.rt", "const POWERS: PowerTable = ["],
+        array: ["src/table.rt", "const POWERS: [u32; (1 << HIGH_BITS) + 1] = ["],
         list: ["specs/Table.antt", "power_table ="],
         entries: || Entries::Whole(POWERS.to_vec()),
     },
@@ -53,13 +53,13 @@ const TABLES: [Table; 6] = [
     },
     Table {
         name: "gaussian",
-        array: ["src/lib.rt", "const GAUSSIANS: GaussianTable = ["],
+        array: ["src/lib.rt", "const GAUSSIANS: [f32; 1025] = ["],
         list: ["specs/Table.antt", "gaussian_bits ="],
         entries: || Entries::Floats(MaskWorkspace::default().gaussian.to_vec()),
     },
     Table {
         name: "lobes",
-        array: ["src/octaves.rt", "const OCTAVES: PartialOctaves = ["],
+        array: ["src/octaves.rt", "const OCTAVES: [f32; 25] = ["],
         list: ["proofs/Logged.antt", "octave_bits ="],
         entries: partial_octaves,
     },

@@ -148,15 +148,13 @@ pub fn finish_one(
     let shared = shared_of(powers, sines, config);
     let mut row = [0.0f32; ROW];
     let mut field = [0.0f32; ROW];
-    let mut start: usize = 0;
-    while start < out.len() {
+    for start in (0..out.len()).step_by(ROW) {
         let count = (out.len() - start).min(ROW);
         let next = start + count;
         ceilings(
             &mut row, &mut field, powers, sines, curve, config, shared, start, count,
         );
         finish_row(out, &row, config, shared, start, next);
-        start = next;
     }
 }
 
@@ -181,8 +179,7 @@ pub fn finish_two(
     let shared = shared_of(powers, sines, config);
     let mut row = [0.0f32; ROW];
     let mut field = [0.0f32; ROW];
-    let mut start: usize = 0;
-    while start < left.len() {
+    for start in (0..left.len()).step_by(ROW) {
         let count = (left.len() - start).min(ROW);
         let next = start + count;
         ceilings(
@@ -190,6 +187,5 @@ pub fn finish_two(
         );
         finish_row(left, &row, config, shared, start, next);
         finish_row(right, &row, config, shared, start, next);
-        start = next;
     }
 }

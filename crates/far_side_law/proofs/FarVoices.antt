@@ -13,7 +13,8 @@ use Rattle.float32.specs.Remainder.{zero}
 use Rattle.float32.proofs.OrderAgrees.{clamp-agrees}
 use Rattle.scene.specs.declared.MaskVoice.{MaskVoice}
 use Rattle.scene.specs.Voices.{RealVoice}
-use Rattle.lobes.specs.Pan.{Side, mono, left, right, hard_left, hard_right, balance, pan_of}
+use Rattle.lobes.specs.declared.pan.Side.TheVariants.{Mono, Left, Right}
+use Rattle.lobes.specs.Pan.{Side, left, right, hard_left, hard_right, balance, pan_of}
 use Rattle.lobes.specs.Pan.{expression_of, channel_gain}
 use Rattle.lobes.proofs.NoteLevels.{zero_is}
 use Rattle.lobes.proofs.Channels.{pan-is, channel-gain-rises}
@@ -84,12 +85,12 @@ at-ends =
 far-balance :
     (side : Side) (voice : MaskVoice) → RealVoice voice → T (far_from side voice)
     → balance side (pan_of voice) ≡ zero
-far-balance mono voice u h = absurd h
-far-balance left voice u h =
+far-balance Mono voice u h = absurd h
+far-balance Left voice u h =
     ap (balance left) (pan-is voice u.pan-real ∙ clamp-agrees hard_left hard_right voice.pan)
     ∙ through (balance left) at-ends.left-zeros (at_right voice.pan u.pan-real h)
     ∙ at-ends.left_end
-far-balance right voice u h =
+far-balance Right voice u h =
     ap (balance right) (pan-is voice u.pan-real ∙ clamp-agrees hard_left hard_right voice.pan)
     ∙ through (balance right) at-ends.right-zeros (at_left voice.pan u.pan-real h)
     ∙ at-ends.right_end

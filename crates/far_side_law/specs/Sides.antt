@@ -4,13 +4,14 @@
 use Rattle.std.specs.Prelude.{Bool, false, cond, List, [], ◌∷◌}
 use Rattle.std.specs.Float.Ieee.{le}
 use Rattle.scene.specs.declared.MaskVoice.{MaskVoice}
-use Rattle.lobes.specs.Pan.{Side, mono, left, right, hard_left, hard_right}
+use Rattle.lobes.specs.declared.pan.Side.TheVariants.{Mono, Left, Right}
+use Rattle.lobes.specs.Pan.{Side, hard_left, hard_right}
 
 -- no voice is far from the mono mask
 abbrev pub far_from : Side → MaskVoice → Bool
-far_from mono voice = false
-far_from left voice = le hard_right voice.pan
-far_from right voice = le voice.pan hard_left
+far_from Mono voice = false
+far_from Left voice = le hard_right voice.pan
+far_from Right voice = le voice.pan hard_left
 
 -- a list "once voices .. are left out" that are far from a side: the others, in their order
 unfoldable pub near : Side → List MaskVoice → List MaskVoice

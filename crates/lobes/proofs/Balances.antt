@@ -11,7 +11,8 @@ use Rattle.float_laws.specs.Rise.{Upto}
 use Rattle.float32.specs.Remainder.{zero, one}
 use Rattle.sine.proofs.Balances.{AddToTwo}
 use Rattle.sine.proofs.Pan as formula
-use Rattle.lobes.specs.Pan.{Side, mono, left, right, hard_left, hard_right, left_balance, right_balance, balance}
+use Rattle.lobes.specs.declared.pan.Side.TheVariants.{Mono, Left, Right}
+use Rattle.lobes.specs.Pan.{Side, left, right, hard_left, hard_right, left_balance, right_balance, balance}
 
 -- where a test holds, what the formula gives there anyway
 either : (b : Bool) (x y : Float) → (T b → y ≡ x) → cond b x y ≡ y
@@ -46,6 +47,6 @@ module _ (pan : Float) (p : T (real binary32 pan)) (low : T (le hard_left pan)) 
 
   pub balance-upto : (side : Side) → Upto binary32 1 (balance side pan)
   unfolding of_bits neg balance
-  balance-upto mono = subst (Upto binary32 1) (sym (either (eq pan zero) one one (λ t. refl))) one-upto
-  balance-upto left = by-centre (λ (a b : Float). Upto binary32 1 a) one-upto (formula.left-not-negative pan p low high)
-  balance-upto right = by-centre (λ (a b : Float). Upto binary32 1 b) one-upto (formula.right-not-negative pan p low high)
+  balance-upto Mono = subst (Upto binary32 1) (sym (either (eq pan zero) one one (λ t. refl))) one-upto
+  balance-upto Left = by-centre (λ (a b : Float). Upto binary32 1 a) one-upto (formula.left-not-negative pan p low high)
+  balance-upto Right = by-centre (λ (a b : Float). Upto binary32 1 b) one-upto (formula.right-not-negative pan p low high)

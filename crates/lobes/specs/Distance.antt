@@ -23,7 +23,7 @@ logs_of (Some table) = lent table.now
 logs_of None = none
 
 -- it is so of the table, if one was lent
-abbrev pub IfLent : Logs → (List Float → Type 0) → Type 0
+unfoldable pub IfLent : Logs → (List Float → Type 0) → Type 0
 IfLent (lent table) P = P table
 IfLent none P = ⊤
 

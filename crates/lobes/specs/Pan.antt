@@ -10,8 +10,21 @@ use Rattle.float32.specs.Order.{clamp, finite}
 use Rattle.float32.specs.Remainder.{zero, one}
 use Rattle.sine.specs.Sine.{sin_of, cos_of}
 use Rattle.scene.specs.declared.MaskVoice.{MaskVoice}
-pub use Rattle.lobes.specs.declared.pan.Side.{Side}
-pub use Rattle.lobes.specs.declared.pan.Side.TheVariants.{Mono as mono, Left as left, Right as right}
+use Rattle.lobes.specs.declared.pan.Side as enum
+use Rattle.lobes.specs.declared.pan.Side.TheVariants.{Mono, Left, Right}
+
+-- which mask is built: mono, or one side of a stereo pair
+abbrev pub Side : Type 0
+Side = enum.Side
+
+abbrev pub mono : Side
+mono = Mono
+
+abbrev pub left : Side
+left = Left
+
+abbrev pub right : Side
+right = Right
 
 abbrev pub hard_left : Float
 hard_left = of_bits binary32 0xbf80_0000
@@ -33,9 +46,9 @@ abbrev pub right_balance : Float → Float
 right_balance pan = cond (eq pan hard_left) zero (mul binary32 (sin_of (pan_angle pan)) sqrt_2)
 
 abbrev pub sided : Side → Float → Float
-sided mono pan = one
-sided left pan = left_balance pan
-sided right pan = right_balance pan
+sided Mono pan = one
+sided Left pan = left_balance pan
+sided Right pan = right_balance pan
 
 -- the balance of a pan in -1..1
 unfoldable pub balance : Side → Float → Float

@@ -5,9 +5,9 @@ use Prim.Native.Nat.{ℕ, ◌<◌}
 use native.Mathlib.Omega.{arith}
 use borrow.Author.Tests.{eq-eqb, ne_eqb, lt-leb}
 use Rattle.std.specs.Prelude.{Some, None}
-use Rattle.mixer.specs.Mixers.{strip_count, line, has, first_waiting, turn_names, turned_by}
+use Rattle.mixer.specs.Mixers.{strip_count, first_waiting, turn_names, turned_by}
 use Rattle.mixer_law.specs.Calls.{Call}
-use Rattle.mixer_law.specs.Waits.{Wait, none, since, wait_of}
+use Rattle.mixer_law.specs.Waits.{none, since, wait_of}
 use Rattle.mixer_law.specs.Mixers.{after, events}
 use Rattle.mixer_law.specs.Promises.{NobodyWaits, Longest, NamesTheLongest}
 use Rattle.mixer_law.specs.Promises.{ServesTheNamed, AskingAgainChangesNothing}

@@ -8,7 +8,7 @@ use Rattle.mixer.specs.declared.Mixer.{Mixer}
 use Rattle.mixer.specs.Mixers.{strip_count, most_turns, mixer_asked, turn_names, mixer_turned}
 use Rattle.mixer_masks.specs.Serving.{scene_reply, scene_mask, scene_at, named_reply, named_mask}
 use Rattle.mixer_law.specs.Calls.{Call, turns}
-use Rattle.mixer_law.specs.Waits.{Event, named, Wait, none, since, wait_of, turns_of, found}
+use Rattle.mixer_law.specs.Waits.{Event, named, none, since, wait_of, turns_of, found}
 use Rattle.mixer_law.specs.Mixers.{run, events_from, after, events}
 
 -- the strip's present wait, after these calls, began with the call of this number

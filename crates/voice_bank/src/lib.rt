@@ -11,7 +11,7 @@ ghost use Rattle.voice_bank.specs.Banks.{change_reply, bank_changed};
 use answer::{Outcome, Reason};
 use limits::lengths::MOST_VOICES;
 use scene::{MaskVoice, held, voice_accepted};
-use voice_records::{VoiceRecord, plain_voice};
+use voice_records::VoiceRecord;
 
 // The voices are plain numbers in arrays with a count beside them, so that a caller in C can hold a
 // bank. What stands from `count` on does not count.
@@ -72,7 +72,7 @@ pub fn add_voice(bank: &mut Bank, id: u16, voice: MaskVoice) -> Outcome
         return Err(Reason::Id.into());
     }
     bank.ids[count] = id;
-    bank.voices[count] = plain_voice(voice);
+    bank.voices[count] = VoiceRecord::from(voice);
     bank.count = count + 1;
     Ok(())
 }
@@ -104,7 +104,7 @@ pub fn change_voice(bank: &mut Bank, id: u16, voice: MaskVoice) -> Outcome
     let Some(place) = place_in(&bank.ids[..count], id) else {
         return Err(Reason::Id.into());
     };
-    bank.voices[place] = plain_voice(voice);
+    bank.voices[place] = VoiceRecord::from(voice);
     bank.count = count;
     Ok(())
 }

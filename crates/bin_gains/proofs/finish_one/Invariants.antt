@@ -1,7 +1,7 @@
 -- `finish_one` meets its contract: each bin below `start` has its gain, and the others their
 -- openness. Assumes nothing.
 use mathlib.Core.Path.{◌≡◌}
-use Prim.Native.Nat.{◌-◌, ◌≤◌}
+use Prim.Native.Nat.{◌≤◌}
 use lib.ListN.{length}
 use Rattle.lists.specs.Turned.{Turned}
 use Rattle.bin_gains.specs.Gains.{gain_at}
@@ -9,6 +9,3 @@ use Rattle.bin_gains.proofs.finish_one.Given as goal
 
 abbrev pub invariant-loop-start : goal.invariant-loop-start
 invariant-loop-start l = (length l.row ≡ 256) × (length l.field ≡ 256) × (l.start ≤ length l.initial.out) × Turned (gain_at l.curve l.config) 0 l.initial.out l.out l.start
-
-abbrev pub decreases-loop-start : goal.decreases-loop-start
-decreases-loop-start l = length l.initial.out - l.start

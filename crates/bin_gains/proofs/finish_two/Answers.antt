@@ -1,11 +1,12 @@
 -- `finish_two` meets its contract: on either side each bin below `start` has its gain, and the
 -- others their openness. Assumes nothing.
-use Prim.Native.Nat.{◌-◌, ◌≤◌}
+use mathlib.Core.Path.{◌≡◌, refl}
+use Prim.Native.Nat.{◌+◌, ◌-◌, ◌≤◌}
 use native.Mathlib.Omega.{arith}
 use lib.ListN.{length}
-use lib.Ieee.{nan}
 use borrow.Author.Rules.{rules}
-use Rattle.lists.specs.Turned.{turned_none, turned_on, turned-all}
+use Rattle.lists.specs.Turned.{turned_none, turned-all}
+use Rattle.lists.specs.Runs.{turned-by}
 use Rattle.bin_gains.proofs.RowCeilings.{finished}
 use Rattle.bin_gains.proofs.finish_two.Goals as goal
 
@@ -36,12 +37,13 @@ finish_row-requires-in-loop-start c = (
 pub loop-start-preserved : goal.loop-start-preserved
 loop-start-preserved c =
     let a = c.args in
-    let room : c.min-count.result ≤ length c.loop-start.row = omega (arith, c.min-count.ensures, c.loop-start.invariant.0) in (
+    let room : c.min-count.result ≤ length c.loop-start.row = omega (arith, c.min-count.ensures, c.loop-start.invariant.0) in
+    let next : c.loop-start.start + c.min-count.result ≡ c.loop-start.start + 256 = omega (arith, c.min-count.ensures, c.loop-start.invariant.3.len) in (
       search rules,
       search rules,
-      omega (arith, c.min-count.ensures, c.loop-start.invariant.3.len),
-      turned_on nan _ c.loop-start.invariant.3 (omega arith) (finished a.curve.now a.config c.loop-start.start c.min-count.result c.loop-start.row c.loop-start.left room c.ceilings.ensures c.finish_row.ensures),
-      turned_on nan _ c.loop-start.invariant.4 (omega arith) (finished a.curve.now a.config c.loop-start.start c.min-count.result c.loop-start.row c.loop-start.right room c.ceilings.ensures c.finish_row-in-loop-start.ensures),
+      omega arith,
+      turned-by c.min-count.result _ c.loop-start.invariant.3 (finished a.curve.now a.config c.loop-start.start c.min-count.result c.loop-start.row c.loop-start.left room c.ceilings.ensures c.finish_row.ensures) next,
+      turned-by c.min-count.result _ c.loop-start.invariant.4 (finished a.curve.now a.config c.loop-start.start c.min-count.result c.loop-start.row c.loop-start.right room c.ceilings.ensures c.finish_row-in-loop-start.ensures) next,
     )
 
 pub shape_of-left : goal.shape_of-left
@@ -52,3 +54,13 @@ shape_of-right c = c.loop-start.invariant.4.len
 
 pub returns : goal.returns
 returns c = record { left_after = turned-all c.loop-start.invariant.3 (omega (arith, c.loop-start.invariant.3.len)); right_after = turned-all c.loop-start.invariant.4 (omega (arith, c.loop-start.invariant.3.len, c.requires.3)) }
+
+pub returns-2 : goal.returns-2
+returns-2 c =
+    let a = c.args in
+    let i = c.loop-start.invariant in
+    let room : c.min-count.result ≤ length c.loop-start.row = omega (arith, c.min-count.ensures, i.0) in
+    record {
+      left_after = turned-all (turned-by c.min-count.result _ i.3 (finished a.curve.now a.config c.loop-start.start c.min-count.result c.loop-start.row c.loop-start.left room c.ceilings.ensures c.finish_row.ensures) refl) (omega (arith, c.min-count.ensures, i.3.len));
+      right_after = turned-all (turned-by c.min-count.result _ i.4 (finished a.curve.now a.config c.loop-start.start c.min-count.result c.loop-start.row c.loop-start.right room c.ceilings.ensures c.finish_row-in-loop-start.ensures) refl) (omega (arith, c.min-count.ensures, i.3.len, c.requires.3));
+    }

@@ -5,9 +5,11 @@ use native.Mathlib.Omega.{arith}
 use lib.ListN.{get_or}
 use lib.Ieee.{nan, binary32}
 use Rattle.float_laws.specs.Units.{real-number}
+use Rattle.lobes.specs.Distance.{IfLent}
 use Rattle.openness.proofs.ends_where.Goals as goal
 
 pub block_ends-requires : goal.block_ends-requires
+unfolding IfLent
 block_ends-requires c =
     let e = c.if-compact.true in
     let long = rw c.in-Some.is at c.requires.long in

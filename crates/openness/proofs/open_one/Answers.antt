@@ -3,7 +3,7 @@ use Rattle.lists.specs.Maps.{replicate-tabulate}
 use mathlib.Core.Path.{◌∙◌, ◌≡◌, refl}
 use native.Mathlib.Omega.{arith}
 use lib.ListN.{length}
-use Rattle.lobes.proofs.Lent.{if-lent}
+use Rattle.lobes.proofs.Lent.{lent-at, if-lent}
 use Rattle.openness.proofs.Opened.{opened}
 use Rattle.openness.proofs.ReadyVoices.{zeros-open, one-zero-open}
 use Rattle.openness.proofs.open_one.Goals as goal
@@ -30,18 +30,16 @@ raise_voices-requires c =
       walk =
           if-lent _ c.requires.scene
           (λ table e k compact.
-          let inside = rw e at c.requires.on-grid.inside in
-          let ends = rw e at c.ends_where.ensures in
           record {
             sides =
                 record {
                   ready =
                       record {
                         last = k.last;
-                        inside = inside;
+                        inside = lent-at e c.requires.on-grid.inside;
                         lows-long = omega (arith, lows, k.long);
                         highs-long = omega (arith, highs, k.long);
-                        ends = ends compact;
+                        ends = lent-at e c.ends_where.ensures compact;
                         table-real = k.table-real;
                       };
                   sides = record { first-open = zeros-open _ (c.fill.ensures.after (λ y e. e) ∙ replicate-tabulate _ _); second-open = one-zero-open };

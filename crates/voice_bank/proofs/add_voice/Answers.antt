@@ -53,4 +53,4 @@ returns c =
     add_done bank a.id a.voice room (sym c.voice_accepted.ensures ∙ c.if-not-voice_accepted.false)
     refl
     (omega (arith, same, h)) in
-    record { outcome_value = sym e; bank_value = simp (c.plain_voice.ensures, e) }
+    record { outcome_value = sym e; bank_value = simp (c.from.ensures, e) }

@@ -48,4 +48,4 @@ returns c =
     change-done bank a.id n p a.voice
     (sym c.voice_accepted.ensures ∙ c.if-not-voice_accepted.false)
     (omega (arith, same, p, h)) in
-    record { outcome_value = sym e; bank_value = simp (c.plain_voice.ensures, ← n, ← p, e) }
+    record { outcome_value = sym e; bank_value = simp (c.from.ensures, ← n, ← p, e) }

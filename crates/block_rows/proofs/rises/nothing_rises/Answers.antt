@@ -1,6 +1,6 @@
 -- `nothing_rises` compares the bound under each gain with the least of the block. Assumes nothing.
 use mathlib.Core.Bool.{true≢false}
-use mathlib.Core.Path.{sym}
+use mathlib.Core.Path.{sym, ◌∙◌}
 use Prim.Native.Nat.{◌+◌}
 use native.Mathlib.Omega.{arith}
 use lib.Dec.{lit≤}
@@ -27,4 +27,4 @@ returns-then-bound-gains c =
     )
 
 pub returns-else-bound-gains : goal.returns-else-bound-gains
-returns-else-bound-gains c = λ e. absurd (true≢false (sym e))
+returns-else-bound-gains c = λ e. absurd (true≢false (sym e ∙ c.if-bound-gains.false))

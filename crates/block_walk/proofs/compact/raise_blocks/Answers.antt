@@ -24,8 +24,8 @@ begins first last block n e h l = (omega arith, omega arith)
 pub loop-block-init : goal.loop-block-init
 loop-block-init c =
     let span = c.args.span in
-    let e : c.block_of.result ≡ block_of (min span.first_bin span.last_bin) = rw c.min.ensures at c.block_of.ensures in
-    let b = begins span.first_bin span.last_bin c.block_of.result (length c.args.table.now) e (omega (arith, c.requires.2.spanned.ready.last, c.requires.2.spanned.last)) (omega (arith, c.requires.2.spanned.ready.inside, c.requires.2.spanned.last)) in (
+    let e : c.block_of-block.result ≡ block_of (min span.first_bin span.last_bin) = rw c.min.ensures at c.block_of-block.ensures in
+    let b = begins span.first_bin span.last_bin c.block_of-block.result (length c.args.table.now) e (omega (arith, c.requires.2.spanned.ready.last, c.requires.2.spanned.last)) (omega (arith, c.requires.2.spanned.ready.inside, c.requires.2.spanned.last)) in (
       b.0,
       c.requires.0.scratch.chunk-64,
       c.requires.0.scratch.indexes-64,
@@ -33,12 +33,9 @@ loop-block-init c =
       c.well_formed.1.1.1.1.1.1.1.1.1.1.1.1.0.1.0.1,
       c.requires.1.sides.first-open,
       c.requires.1.sides.second-open,
-      walk_none _ _ _ c.block_of.result c.args.first.now (rw e refl) b.1,
-      walk_none _ _ _ c.block_of.result c.args.second.now (rw e refl) b.1,
+      walk_none _ _ _ c.block_of-block.result c.args.first.now (rw e refl) b.1,
+      walk_none _ _ _ c.block_of-block.result c.args.second.now (rw e refl) b.1,
     )
-
-pub overflow_mul-block : goal.overflow_mul-block
-overflow_mul-block c = omega (arith, c.loop-block.invariant.0)
 
 pub overflow_mul-start : goal.overflow_mul-start
 overflow_mul-start c = omega (arith, c.loop-block.invariant.0)

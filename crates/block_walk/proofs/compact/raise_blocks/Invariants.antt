@@ -19,5 +19,5 @@ invariant-loop-block l =
     × (length l.lobes ≡ 24)
     × Opennesses l.first
     × Opennesses l.second
-    × Walked (lobes_joined l.grid (lent l.table) l.gains.first (take l.count l.lobes)) (1 + 64 * block_of (min l.span.first_bin l.span.last_bin)) (length l.table) l.block l.initial.first l.first
-    × Walked (lobes_joined l.grid (lent l.table) l.gains.second (take l.count l.lobes)) (1 + 64 * block_of (min l.span.first_bin l.span.last_bin)) (length l.table) l.block l.initial.second l.second
+    × Walked (lobes_joined l.grid (lent l.table) l.gains.first (take l.count l.lobes)) (1 + 64 * block_of (min l.fn.span.first_bin l.fn.span.last_bin)) (length l.table) l.block l.initial.first l.first
+    × Walked (lobes_joined l.grid (lent l.table) l.gains.second (take l.count l.lobes)) (1 + 64 * block_of (min l.fn.span.first_bin l.fn.span.last_bin)) (length l.table) l.block l.initial.second l.second

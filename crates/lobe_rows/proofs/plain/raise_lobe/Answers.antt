@@ -23,7 +23,7 @@ openings-requires c = (
   record {
     log-of-center = c.requires.1.log-of-center;
     last = omega (arith, c.min-count.ensures, c.requires.1.last);
-    inside = if-lent {Q = λ table. c.loop-start.start + c.min-count.result ≤ length table} _ c.requires.1.inside (λ table e inside. omega (arith, c.min-count.ensures, inside));
+    inside = if-lent _ c.requires.1.inside (λ table e inside. omega (arith, c.min-count.ensures, inside));
   },
 )
 

@@ -1,7 +1,6 @@
 -- `all_centered` meets its contract: the test of the voices from here on is the test of all.
 -- Assumes nothing.
 use mathlib.Core.Path.{◌≡◌, refl, sym, ◌∙◌}
-use Prim.Native.Nat.{◌-◌}
 use native.Mathlib.Omega.{arith}
 use lib.ListN.{length}
 use borrow.Author.Rules.{rules}
@@ -19,14 +18,14 @@ pub loop-i-preserved : goal.loop-i-preserved
 loop-i-preserved c =
     let l : length c.args.voices ≡ 128 = search rules in (
       omega arith,
-      sym (every-step at_center _ (rest-next c.args.voices c.args.count c.loop-i.i no_voice (omega arith) (omega arith)) (sym c.centered.ensures ∙ c.if-centered.true))
+      sym (every-step at_center _ (rest-next c.args.voices c.args.count c.loop-i.i no_voice (omega arith) (omega arith)) (sym c.centered.ensures ∙ c.if-not-centered.false))
           ∙ c.loop-i.invariant.1,
     )
 
-pub returns-else-centered : goal.returns-else-centered
-returns-else-centered c =
+pub returns-then-not-centered : goal.returns-then-not-centered
+returns-then-not-centered c =
     let l : length c.args.voices ≡ 128 = search rules in
-    sym (every-stop at_center _ (rest-next c.args.voices c.args.count c.loop-i.i no_voice (omega arith) (omega arith)) (sym c.centered.ensures ∙ c.if-centered.false))
+    sym (every-stop at_center _ (rest-next c.args.voices c.args.count c.loop-i.i no_voice (omega arith) (omega arith)) (sym c.centered.ensures ∙ c.if-not-centered.true))
     ∙ c.loop-i.invariant.1
 
 pub returns : goal.returns
