@@ -165,22 +165,22 @@ pub fn openings(
     indexes: &mut [u32],
     powers: &PowerTable,
     gaussians: &GaussianTable,
-    tabled: bool,
-    table: &[f32],
+    table: Option<&[f32]>,
     grid: Grid,
     lobe: Lobe,
     start: usize,
     count: usize,
 )
     requires { (Room chunk.old indexes.old count)
-        × (BinsKnown tabled table.now lobe start count) }
+        × (BinsKnown (logs_of table) lobe start count) }
     ensures { chunk.new ≡ map_range
-        (λ k held. opening grid (logs_of tabled table.now) lobe (start + k)) 0 count
+        (λ k held. opening grid (logs_of table.entry) lobe (start + k)) 0 count
         chunk.old }
 {
-    if tabled {
-        openings_by_table(chunk, indexes, gaussians, table, grid, lobe, start, count);
-        return;
+    match table {
+        Some(table) => {
+            openings_by_table(chunk, indexes, gaussians, table, grid, lobe, start, count);
+        }
+        None => openings_by_frequency(chunk, powers, grid, lobe, start, count),
     }
-    openings_by_frequency(chunk, powers, grid, lobe, start, count);
 }

@@ -22,18 +22,17 @@ fn raise_lobe(
     indexes: &mut [u32],
     powers: &PowerTable,
     gaussians: &GaussianTable,
-    tabled: bool,
-    table: &[f32],
+    table: Option<&[f32]>,
     grid: Grid,
     lobe: Lobe,
     gains: Gains,
 )
     requires { (Scratch chunk.old indexes.old)
-        × (LobeKnown tabled table.now lobe) }
+        × (LobeKnown (logs_of table) lobe) }
     ensures { (first.new ≡ map_at (λ bin held. lobe_joined grid
-        (logs_of tabled table.now) gains.first bin held lobe) first.old)
+        (logs_of table.entry) gains.first bin held lobe) first.old)
         × (second.new ≡ map_at (λ bin held. lobe_joined grid
-        (logs_of tabled table.now) gains.second bin held lobe)
+        (logs_of table.entry) gains.second bin held lobe)
         second.old) }
 {
     let end = lobe.last_bin + 1;
@@ -42,7 +41,7 @@ fn raise_lobe(
         let count = (end - start).min(room);
         let next = start + count;
         openings(
-            chunk, indexes, powers, gaussians, tabled, table, grid, lobe, start, count,
+            chunk, indexes, powers, gaussians, table, grid, lobe, start, count,
         );
         join(first, chunk, gains.first, start, next);
         join(second, chunk, gains.second, start, next);
@@ -57,26 +56,25 @@ pub fn raise_lobes(
     indexes: &mut [u32],
     powers: &PowerTable,
     gaussians: &GaussianTable,
-    tabled: bool,
-    table: &[f32],
+    table: Option<&[f32]>,
     grid: Grid,
     lobes: [Lobe; MAX_PARTIALS],
     count: usize,
     gains: Gains,
 )
     requires { (Scratch chunk.old indexes.old)
-        × (LobesKnown grid tabled table.now lobes count) }
+        × (LobesKnown grid (logs_of table) lobes count) }
     ensures { (first.new ≡ map_at
-        (lobes_joined grid (logs_of tabled table.now) gains.first (take count lobes))
+        (lobes_joined grid (logs_of table.entry) gains.first (take count lobes))
         first.old)
         × (second.new ≡ map_at
-        (lobes_joined grid (logs_of tabled table.now) gains.second (take count lobes))
+        (lobes_joined grid (logs_of table.entry) gains.second (take count lobes))
         second.old) }
 {
     for p in 0..count {
         let lobe = lobes[p];
         raise_lobe(
-            first, second, chunk, indexes, powers, gaussians, tabled, table, grid, lobe, gains,
+            first, second, chunk, indexes, powers, gaussians, table, grid, lobe, gains,
         );
     }
 }

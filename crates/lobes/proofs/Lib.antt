@@ -8,3 +8,4 @@ pub mod Centers
 pub mod Raised
 pub mod ZeroSigns
 pub mod Closest
+pub mod Lent

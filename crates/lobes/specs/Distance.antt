@@ -1,7 +1,8 @@
 -- A bin's distance from a lobe's centre in widths, and the bell over that distance: from the lent
 -- table, "prepared or not", or from the bin's own frequency where no table was lent. Assumes
 -- nothing.
-use Rattle.std.specs.Prelude.{Bool, true, false, List, ℕ, get_or, Float}
+use Rattle.std.specs.Prelude.{Option, Some, None, List, ℕ, get_or, ⊤, Float}
+use Rattle.std.specs.Borrow.{Bor}
 use Rattle.std.specs.Float.{nan, binary32}
 use Rattle.std.specs.Float.Ieee.{of_bits, sub, mul, div}
 use Rattle.power.specs.Log.{L2}
@@ -17,9 +18,14 @@ pub data Logs : Type 0 where
   none : Logs
 
 -- the table, where the call was lent one
-abbrev pub logs_of : Bool → List Float → Logs
-logs_of true table = lent table
-logs_of false table = none
+abbrev pub logs_of : Option (Bor (List Float)) → Logs
+logs_of (Some table) = lent table.now
+logs_of None = none
+
+-- it is so of the table, if one was lent
+unfoldable pub IfLent : Logs → (List Float → Type 0) → Type 0
+IfLent (lent table) P = P table
+IfLent none P = ⊤
 
 abbrev pub minus_half : Float
 minus_half = of_bits binary32 0xbf00_0000

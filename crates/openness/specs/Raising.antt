@@ -10,6 +10,7 @@ use Rattle.scene.specs.Voices.{RealVoice}
 use Rattle.lobes.specs.declared.Grid.{Grid}
 use Rattle.lobes.specs.declared.Tone.{Tone}
 use Rattle.lobes.specs.declared.Lobe.{Lobe}
+use Rattle.lobes.specs.Distance.{Logs, IfLent}
 use Rattle.lobe_rows.specs.declared.Gains.{Gains}
 use Rattle.lobe_rows.specs.Premises.{Scratch, OnGrid}
 use Rattle.block_rows.specs.Most.{SoundLobes}
@@ -27,68 +28,68 @@ pub record LobesWalk (way : Way) (table lows highs first second : List Float) (l
 
 pub record ToneWalk (way : Way) (table lows highs first second : List Float) (tone : Tone)
     (by : Gains) : Type 0 where
-  pub by-table : way.tabled ≡ true
   pub sides : SidesReady way.grid table lows highs first second
   pub tone-ready : ToneReady way.grid tone by table
 
 pub record VoiceWalk (way : Way) (table lows highs first second : List Float) (voice : MaskVoice) :
     Type 0 where
-  pub by-table : way.tabled ≡ true
   pub sides : SidesReady way.grid table lows highs first second
   pub grid-real : RealGrid way.grid
   pub voice-real : RealVoice voice
 
 pub record VoicesWalk (way : Way) (table lows highs first second : List Float)
     (voices : List MaskVoice) : Type 0 where
-  pub by-table : way.tabled ≡ true
   pub sides : SidesReady way.grid table lows highs first second
   pub grid-real : RealGrid way.grid
   pub voices-real : All RealVoice voices
 
 -- ---- a function's premises, over its parameters in their order
 pub record RaiseTogether (first second chunk : List Float) (indexes : List ℕ)
-    (way : Way) (table lows highs : List Float) (lobes : List Lobe) (count : ℕ) (gains : Gains) :
-    Type 0 where
+    (way : Way) (logs : Logs) (lows highs : List Float) (lobes : List Lobe) (count : ℕ)
+    (gains : Gains) : Type 0 where
   pub scratch : Scratch chunk indexes
   pub few : count ≤ max_partials
-  pub walk : way.compact ≡ true → LobesWalk way table lows highs first second lobes count gains
+  pub walk : IfLent logs (λ table. way.compact ≡ true
+      → LobesWalk way table lows highs first second lobes count gains)
 
 pub record RaiseTone (first second chunk : List Float) (indexes : List ℕ)
-    (way : Way) (table lows highs : List Float) (tone : Tone) (gains : Gains) : Type 0 where
+    (way : Way) (logs : Logs) (lows highs : List Float) (tone : Tone) (gains : Gains) : Type 0 where
   pub scratch : Scratch chunk indexes
   pub few : way.grid.partials ≤ max_partials
-  pub on-grid : OnGrid way.grid way.tabled table
-  pub walk : way.compact ≡ true → ToneWalk way table lows highs first second tone gains
+  pub on-grid : OnGrid way.grid logs
+  pub walk : IfLent logs (λ table. way.compact ≡ true
+      → ToneWalk way table lows highs first second tone gains)
 
 pub record RaiseVoice (first second chunk : List Float) (indexes : List ℕ)
-    (way : Way) (table lows highs : List Float) (voice : MaskVoice) :
+    (way : Way) (logs : Logs) (lows highs : List Float) (voice : MaskVoice) :
     Type 0 where
   pub scratch : Scratch chunk indexes
   pub few : way.grid.partials ≤ max_partials
-  pub on-grid : OnGrid way.grid way.tabled table
-  pub walk : way.compact ≡ true → VoiceWalk way table lows highs first second voice
+  pub on-grid : OnGrid way.grid logs
+  pub walk : IfLent logs (λ table. way.compact ≡ true
+      → VoiceWalk way table lows highs first second voice)
 
 pub record RaiseVoices (first second chunk : List Float) (indexes : List ℕ)
-    (way : Way) (table lows highs : List Float)
-    (voices : List MaskVoice) (count : ℕ) : Type 0 where
+    (way : Way) (logs : Logs) (lows highs : List Float) (voices : List MaskVoice) (count : ℕ) :
+    Type 0 where
   pub scratch : Scratch chunk indexes
   pub few : way.grid.partials ≤ max_partials
-  pub on-grid : OnGrid way.grid way.tabled table
+  pub on-grid : OnGrid way.grid logs
   pub heard : count ≤ most_voices
-  pub walk : way.compact ≡ true → VoicesWalk way table lows highs first second (take count voices)
+  pub walk : IfLent logs (λ table. way.compact ≡ true
+      → VoicesWalk way table lows highs first second (take count voices))
 
 -- the ends of the table's blocks, where they are asked for
-pub record EndsWhere (compact : Bool) (lows highs row table : List Float) : Type 0 where
+pub record EndsWhere (compact : Bool) (lows highs row : List Float) (logs : Logs) : Type 0 where
   pub lows-128 : length lows ≡ 128
   pub highs-128 : length highs ≡ 128
   pub row-64 : length row ≡ 64
-  pub long : compact ≡ true → length table ≤ most_bin + 1
-  pub table-real : compact ≡ true → RealTable table
+  pub long : IfLent logs (λ table. compact ≡ true → length table ≤ most_bin + 1)
+  pub table-real : IfLent logs (λ table. compact ≡ true → RealTable table)
 
 -- the two that fill masks
-pub record Open (tabled : Bool) (table : List Float)
-    (voices : List MaskVoice) (count : ℕ) (grid : Grid) : Type 0 where
+pub record Open (logs : Logs) (voices : List MaskVoice) (count : ℕ) (grid : Grid) : Type 0 where
   pub few : grid.partials ≤ max_partials
-  pub on-grid : OnGrid grid tabled table
+  pub on-grid : OnGrid grid logs
   pub heard : count ≤ most_voices
-  pub scene : tabled ≡ true → SoundScene grid (take count voices) table
+  pub scene : IfLent logs (λ table. SoundScene grid (take count voices) table)

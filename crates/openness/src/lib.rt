@@ -4,7 +4,7 @@
 ghost use Rattle.std.specs.Prelude.{◌≡◌, true, length, take};
 ghost use Rattle.lists.specs.Maps.{tabulate};
 ghost use Rattle.lobes.specs.Pan as side;
-ghost use Rattle.lobes.specs.Distance.{lent, logs_of};
+ghost use Rattle.lobes.specs.Distance.{lent, logs_of, IfLent};
 ghost use Rattle.blocks.specs.Ends.{Ends};
 ghost use Rattle.openness.specs.Openness.{openness};
 ghost use Rattle.openness.specs.Raising.{EndsWhere, Open};
@@ -26,9 +26,7 @@ pub mod voices;
 // How the voices of a scene are raised: the same for all of them.
 #[derive(Clone, Copy)]
 pub struct Way {
-    // bins by a lent table of logarithms
-    pub tabled: bool,
-    // the walk by blocks is allowed
+    // the walk by blocks pays, where there is a table
     pub compact: bool,
     // more than CROWD voices
     pub crowded: bool,
@@ -47,21 +45,21 @@ const BLOCKS: usize = 128;
 const CROWD: usize = 16;
 
 // The least and the greatest logarithm of each block of the table, for the walk by blocks.
-fn ends_where(compact: bool, lows: &mut [f32], highs: &mut [f32], row: &mut [f32], table: &[f32])
-    requires { EndsWhere compact lows.old highs.old row.old table.now }
-    ensures { compact ≡ true →
-        Ends table.now lows.new highs.new }
+fn ends_where(
+    compact: bool,
+    lows: &mut [f32],
+    highs: &mut [f32],
+    row: &mut [f32],
+    table: Option<&[f32]>,
+)
+    requires { EndsWhere compact lows.old highs.old row.old (logs_of table) }
+    ensures { IfLent (logs_of table.entry)
+        (λ entries. compact ≡ true → Ends entries lows.new highs.new) }
 {
-    if compact {
-        block_ends(lows, highs, row, table);
+    match table {
+        Some(table) if compact => block_ends(lows, highs, row, table),
+        _ => (),
     }
-}
-
-// Whether the walk by blocks is allowed: only with a table, and only where it can be faster.
-fn walks(tabled: bool, grid: Grid) -> bool
-    ensures { result ≡ true → tabled ≡ true }
-{
-    tabled && block_walk_pays(grid)
 }
 
 // The openness of a mono mask.
@@ -70,15 +68,14 @@ pub fn open_one(
     powers: &PowerTable,
     sines: &SineTable,
     gaussians: &GaussianTable,
-    tabled: bool,
-    table: &[f32],
+    table: Option<&[f32]>,
     voices: [MaskVoice; MOST_VOICES],
     count: usize,
     grid: Grid,
 )
-    requires { Open tabled table.now voices count grid }
+    requires { Open (logs_of table) voices count grid }
     ensures { out.new ≡ tabulate (length out.old)
-        (openness grid (logs_of tabled table.now) side.mono (take count voices)) }
+        (openness grid (logs_of table.entry) side.mono (take count voices)) }
 {
     // Stands for the second side: it has bin 0 only, which no lobe reaches.
     let mut nothing = [0.0f32; 1];
@@ -87,11 +84,10 @@ pub fn open_one(
     let mut lows = [0.0f32; BLOCKS];
     let mut highs = [0.0f32; BLOCKS];
     let octaves = partial_octaves();
-    let compact = walks(tabled, grid);
+    let compact = block_walk_pays(grid);
     out.fill(0.0);
     ends_where(compact, &mut lows, &mut highs, &mut chunk, table);
     let way = Way {
-        tabled,
         compact,
         crowded: CROWD < count,
         stereo: false,
@@ -127,7 +123,7 @@ pub fn open_two(
     count: usize,
     grid: Grid,
 )
-    requires { Open true table.now voices count grid }
+    requires { Open (lent table.now) voices count grid }
     ensures { (left.new ≡ tabulate (length left.old)
         (openness grid (lent table.now) side.left (take count voices)))
         × (right.new ≡ tabulate (length right.old)
@@ -141,9 +137,8 @@ pub fn open_two(
     let compact = block_walk_pays(grid);
     left.fill(0.0);
     right.fill(0.0);
-    ends_where(compact, &mut lows, &mut highs, &mut chunk, table);
+    ends_where(compact, &mut lows, &mut highs, &mut chunk, Some(table));
     let way = Way {
-        tabled: true,
         compact,
         crowded: CROWD < count,
         stereo: true,
@@ -159,7 +154,7 @@ pub fn open_two(
         sines,
         gaussians,
         way,
-        table,
+        Some(table),
         &lows,
         &highs,
         voices,

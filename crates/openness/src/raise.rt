@@ -1,8 +1,8 @@
 // A tone raised on both sides, in one of two ways that write the same numbers: its lobes together,
 // block by block, or one after the other.
-ghost use Rattle.std.specs.Prelude.{◌≡◌, true, cond, take};
+ghost use Rattle.std.specs.Prelude.{◌≡◌, cond, take};
 ghost use Rattle.lists.specs.Maps.{map_at};
-ghost use Rattle.lobes.specs.Distance.{lent, logs_of};
+ghost use Rattle.lobes.specs.Distance.{logs_of};
 ghost use Rattle.lobe_joins.specs.Joined.{lobes_joined};
 ghost use Rattle.openness.specs.Openness.{tone_joined};
 ghost use Rattle.openness.specs.Raising.{RaiseTogether, RaiseTone};
@@ -26,7 +26,7 @@ fn raised_together(
     indexes: &mut [u32],
     gaussians: &GaussianTable,
     way: Way,
-    table: &[f32],
+    table: Option<&[f32]>,
     lows: &[f32],
     highs: &[f32],
     lobes: [Lobe; MAX_PARTIALS],
@@ -34,18 +34,16 @@ fn raised_together(
     gains: Gains,
 ) -> bool
     requires { RaiseTogether first.old second.old chunk.old indexes.old
-        way table.now lows.now highs.now lobes count gains }
-    ensures { (result ≡ true → way.compact ≡ true)
-        × (first.new ≡ cond result (map_at
-        (lobes_joined way.grid (lent table.now) gains.first (take count lobes))
+        way (logs_of table) lows.now highs.now lobes count gains }
+    ensures { (first.new ≡ cond result (map_at
+        (lobes_joined way.grid (logs_of table.entry) gains.first (take count lobes))
         first.old) first.old)
         × (second.new ≡ cond result (map_at
-        (lobes_joined way.grid (lent table.now) gains.second (take count lobes))
+        (lobes_joined way.grid (logs_of table.entry) gains.second (take count lobes))
         second.old) second.old) }
 {
-    if way.compact {
-        let grid = way.grid;
-        return rasterize_compact_harmonic_envelope(
+    match table {
+        Some(table) if way.compact => rasterize_compact_harmonic_envelope(
             first,
             second,
             chunk,
@@ -54,14 +52,14 @@ fn raised_together(
             table,
             lows,
             highs,
-            grid,
+            way.grid,
             lobes,
             count,
             gains,
             way.crowded,
-        );
+        ),
+        _ => false,
     }
-    false
 }
 
 // Raises the partials of a tone, up to the first above Nyquist.
@@ -74,31 +72,30 @@ pub fn raise_tone(
     octaves: &PartialOctaves,
     gaussians: &GaussianTable,
     way: Way,
-    table: &[f32],
+    table: Option<&[f32]>,
     lows: &[f32],
     highs: &[f32],
     tone: Tone,
     gains: Gains,
 )
     requires { RaiseTone first.old second.old chunk.old indexes.old
-        way table.now lows.now highs.now tone gains }
+        way (logs_of table) lows.now highs.now tone gains }
     ensures { (first.new ≡ map_at
-        (tone_joined way.grid (logs_of way.tabled table.now) gains.first tone)
+        (tone_joined way.grid (logs_of table.entry) gains.first tone)
         first.old)
         × (second.new ≡ map_at
-        (tone_joined way.grid (logs_of way.tabled table.now) gains.second tone)
+        (tone_joined way.grid (logs_of table.entry) gains.second tone)
         second.old) }
 {
     let grid = way.grid;
     let count = partials_of(grid, tone);
-    let lobes = lobes_of(powers, octaves, way.tabled, table, grid, tone, count);
+    let lobes = lobes_of(powers, octaves, table, grid, tone, count);
     if raised_together(
         first, second, chunk, indexes, gaussians, way, table, lows, highs, lobes, count, gains,
     ) {
         return;
     }
     raise_lobes(
-        first, second, chunk, indexes, powers, gaussians, way.tabled, table, grid, lobes, count,
-        gains,
+        first, second, chunk, indexes, powers, gaussians, table, grid, lobes, count, gains,
     );
 }

@@ -53,18 +53,18 @@ fn raise_voice(
     sines: &SineTable,
     gaussians: &GaussianTable,
     way: Way,
-    table: &[f32],
+    table: Option<&[f32]>,
     lows: &[f32],
     highs: &[f32],
     voice: MaskVoice,
 )
     requires { RaiseVoice first.old second.old chunk.old indexes.old
-        way table.now lows.now highs.now voice }
+        way (logs_of table) lows.now highs.now voice }
     ensures { (first.new ≡ map_at (λ bin held. voice_joined way.grid
-        (logs_of way.tabled table.now) (channel_gain (first_side way.stereo)) bin held
+        (logs_of table.entry) (channel_gain (first_side way.stereo)) bin held
         voice) first.old)
         × (second.new ≡ map_at (λ bin held. voice_joined way.grid
-        (logs_of way.tabled table.now) (channel_gain (second_side way.stereo)) bin
+        (logs_of table.entry) (channel_gain (second_side way.stereo)) bin
         held voice) second.old) }
 {
     if voice.level <= SKIPPED_LEVEL {
@@ -90,20 +90,20 @@ pub fn raise_voices(
     sines: &SineTable,
     gaussians: &GaussianTable,
     way: Way,
-    table: &[f32],
+    table: Option<&[f32]>,
     lows: &[f32],
     highs: &[f32],
     voices: [MaskVoice; MOST_VOICES],
     count: usize,
 )
     requires { RaiseVoices first.old second.old chunk.old indexes.old
-        way table.now lows.now highs.now voices
+        way (logs_of table) lows.now highs.now voices
         count }
     ensures { (first.new ≡ map_at (λ bin held. fold (voice_joined way.grid
-        (logs_of way.tabled table.now) (channel_gain (first_side way.stereo)) bin)
+        (logs_of table.entry) (channel_gain (first_side way.stereo)) bin)
         held (take count voices)) first.old)
         × (second.new ≡ map_at (λ bin held. fold (voice_joined way.grid
-        (logs_of way.tabled table.now) (channel_gain (second_side way.stereo)) bin)
+        (logs_of table.entry) (channel_gain (second_side way.stereo)) bin)
         held (take count voices)) second.old) }
 {
     for index in 0..count {

@@ -5,11 +5,11 @@
 pub mod peaks;
 pub mod reach;
 
-ghost use Rattle.std.specs.Prelude.{◌≡◌, true, ◌^◌, ◌≤◌, ◌<◌, length, take};
+ghost use Rattle.std.specs.Prelude.{◌≡◌, ◌^◌, ◌≤◌, ◌<◌, length, take};
 ghost use Rattle.power.specs.Table.{power_table};
 ghost use Rattle.limits.specs.Lengths.{max_partials};
 ghost use Rattle.lobes.specs.Tone.{partial_octaves};
-ghost use Rattle.lobes.specs.Distance.{logs_of};
+ghost use Rattle.lobes.specs.Distance.{logs_of, IfLent};
 ghost use Rattle.tone_lobes.specs.ToneLobes.{partials_of, lobes_of};
 
 use crate::reach::lobe_of;
@@ -50,22 +50,21 @@ fn empty_lobes() -> [Lobe; MAX_PARTIALS]
 pub fn lobes_of(
     powers: &PowerTable,
     octaves: &PartialOctaves,
-    tabled: bool,
-    table: &[f32],
+    table: Option<&[f32]>,
     grid: Grid,
     tone: Tone,
     count: usize,
 ) -> [Lobe; MAX_PARTIALS]
     requires { (grid.partials ≤ max_partials)
         × (grid.last_bin ≤ 2 ^ 24)
-        × (tabled ≡ true → grid.last_bin < length table.now)
+        × (IfLent (logs_of table) (λ entries. grid.last_bin < length entries))
         × (count ≡ length (partials_of grid tone)) }
-    ensures { (take count result ≡ lobes_of grid (logs_of tabled table.now) tone)
+    ensures { (take count result ≡ lobes_of grid (logs_of table.entry) tone)
         × (length result ≡ max_partials) }
 {
     let mut lobes = empty_lobes();
     for p in 0..count {
-        lobes[p] = lobe_of(powers, octaves, tabled, table, grid, tone, p + 1);
+        lobes[p] = lobe_of(powers, octaves, table, grid, tone, p + 1);
     }
     lobes
 }

@@ -1,10 +1,10 @@
 // A partial's lobe: the bins that it reaches, its strength and its peak bin.
-ghost use Rattle.std.specs.Prelude.{◌≡◌, true, ◌^◌, ◌≤◌, ◌<◌, length};
+ghost use Rattle.std.specs.Prelude.{◌≡◌, ◌^◌, ◌≤◌, ◌<◌, length};
 ghost use Rattle.power.specs.Table.{power_table};
 ghost use Rattle.power.specs.Log.{L2};
 ghost use Rattle.limits.specs.Lengths.{max_partials};
 ghost use Rattle.lobes.specs.Tone.{partial_octaves};
-ghost use Rattle.lobes.specs.Distance.{logs_of, distance};
+ghost use Rattle.lobes.specs.Distance.{logs_of, IfLent, distance};
 ghost use Rattle.lobes.specs.Lobe.{first_bin_of, last_bin_of, lobe_of};
 
 use crate::peaks::closest_bin_in_cents;
@@ -32,8 +32,7 @@ pub fn last_bin(grid: Grid, center: f32) -> usize
 // A bin's distance from a centre: from the table where one was lent.
 fn distance(
     powers: &PowerTable,
-    tabled: bool,
-    table: &[f32],
+    table: Option<&[f32]>,
     grid: Grid,
     center: f32,
     center_log2: f32,
@@ -41,28 +40,27 @@ fn distance(
 ) -> f32
     requires { (center_log2 ≡ L2 center)
         × (bin ≤ 2 ^ 24)
-        × (tabled ≡ true → bin < length table.now) }
-    ensures { result ≡ distance grid (logs_of tabled table.now) center bin }
+        × (IfLent (logs_of table) (λ entries. bin < length entries)) }
+    ensures { result ≡ distance grid (logs_of table.entry) center bin }
 {
-    if tabled {
-        return distance_by_table(table, grid.width, center_log2, bin);
+    match table {
+        Some(table) => distance_by_table(table, grid.width, center_log2, bin),
+        None => distance_by_hertz(powers, grid, center, bin),
     }
-    distance_by_hertz(powers, grid, center, bin)
 }
 
 pub fn lobe_of(
     powers: &PowerTable,
     octaves: &PartialOctaves,
-    tabled: bool,
-    table: &[f32],
+    table: Option<&[f32]>,
     grid: Grid,
     tone: Tone,
     partial: usize,
 ) -> Lobe
     requires { (grid.last_bin ≤ 2 ^ 24)
         × (partial ≤ max_partials)
-        × (tabled ≡ true → grid.last_bin < length table.now) }
-    ensures { result ≡ lobe_of grid (logs_of tabled table.now) tone partial }
+        × (IfLent (logs_of table) (λ entries. grid.last_bin < length entries)) }
+    ensures { result ≡ lobe_of grid (logs_of table.entry) tone partial }
 {
     let center = center_of(tone, partial);
     let center_log2 = power::log2::log2(powers, center);
@@ -71,7 +69,7 @@ pub fn lobe_of(
     // the sampled Gaussian against the closest usable bin so fractional placement cannot make an
     // otherwise identical note arbitrarily weak.
     let peak_bin = closest_bin_in_cents(powers, center, grid.bin_hz, grid.last_bin);
-    let peak = distance(powers, tabled, table, grid, center, center_log2, peak_bin);
+    let peak = distance(powers, table, grid, center, center_log2, peak_bin);
     Lobe {
         center,
         center_log2,

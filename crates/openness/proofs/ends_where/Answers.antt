@@ -5,15 +5,13 @@ use native.Mathlib.Omega.{arith}
 use lib.ListN.{get_or}
 use lib.Ieee.{nan, binary32}
 use Rattle.float_laws.specs.Units.{real-number}
+use Rattle.lobes.specs.Distance.{IfLent}
 use Rattle.openness.proofs.ends_where.Goals as goal
 
 pub block_ends-requires : goal.block_ends-requires
+unfolding IfLent
 block_ends-requires c =
     let e = c.if-compact.true in
-    (c.requires.row-64, c.requires.lows-128 ∙ sym c.requires.highs-128, omega (arith, c.requires.lows-128, c.requires.long e), λ i p q l. real-number binary32 (get_or c.args.table.now i nan) (c.requires.table-real e i p l))
-
-pub returns-then-compact : goal.returns-then-compact
-returns-then-compact c = λ e. c.block_ends.ensures
-
-pub returns-else-compact : goal.returns-else-compact
-returns-else-compact c = λ e. absurd (true≢false (sym e ∙ c.if-compact.false))
+    let long = rw c.in-Some.is at c.requires.long in
+    let real = rw c.in-Some.is at c.requires.table-real in
+    (c.requires.row-64, c.requires.lows-128 ∙ sym c.requires.highs-128, omega (arith, c.requires.lows-128, long e), λ i p q l. real-number binary32 (get_or c.in-Some.table.now i nan) (real e i p l))

@@ -3,6 +3,7 @@ use Rattle.lists.specs.Maps.{replicate-tabulate}
 use mathlib.Core.Path.{◌∙◌, ◌≡◌, refl}
 use native.Mathlib.Omega.{arith}
 use lib.ListN.{length}
+use Rattle.lobes.proofs.Lent.{lent-at, if-lent}
 use Rattle.openness.proofs.Opened.{opened}
 use Rattle.openness.proofs.ReadyVoices.{zeros-open, one-zero-open}
 use Rattle.openness.proofs.open_one.Goals as goal
@@ -13,8 +14,8 @@ ends_where-requires c =
       lows-128 = refl;
       highs-128 = refl;
       row-64 = refl;
-      long = λ e. (c.requires.scene (c.walks-compact.ensures e)).long;
-      table-real = λ e. (c.requires.scene (c.walks-compact.ensures e)).table-real;
+      long = if-lent _ c.requires.scene (λ table e k compact. k.long);
+      table-real = if-lent _ c.requires.scene (λ table e k compact. k.table-real);
     }
 
 pub raise_voices-requires : goal.raise_voices-requires
@@ -26,27 +27,26 @@ raise_voices-requires c =
       few = c.requires.few;
       on-grid = c.requires.on-grid;
       heard = c.requires.heard;
-      walk = λ e.
-          let t = c.walks-compact.ensures e in
-          let k = c.requires.scene t in
+      walk =
+          if-lent _ c.requires.scene
+          (λ table e k compact.
           record {
-            by-table = t;
             sides =
                 record {
                   ready =
                       record {
                         last = k.last;
-                        inside = c.requires.on-grid.inside t;
+                        inside = lent-at e c.requires.on-grid.inside;
                         lows-long = omega (arith, lows, k.long);
                         highs-long = omega (arith, highs, k.long);
-                        ends = c.ends_where.ensures e;
+                        ends = lent-at e c.ends_where.ensures compact;
                         table-real = k.table-real;
                       };
                   sides = record { first-open = zeros-open _ (c.fill.ensures.after (λ y e. e) ∙ replicate-tabulate _ _); second-open = one-zero-open };
                 };
             grid-real = k.grid-real;
             voices-real = k.voices-real;
-          };
+          });
     }
 
 pub returns : goal.returns

@@ -3,18 +3,21 @@ use Rattle.lists.specs.Maps.{replicate-tabulate}
 use mathlib.Core.Path.{◌∙◌, ◌≡◌, refl}
 use native.Mathlib.Omega.{arith}
 use lib.ListN.{length}
+use Rattle.lobes.specs.Distance.{IfLent}
 use Rattle.openness.proofs.Opened.{opened}
 use Rattle.openness.proofs.ReadyVoices.{zeros-open}
 use Rattle.openness.proofs.open_two.Goals as goal
 
 pub ends_where-requires : goal.ends_where-requires
+unfolding IfLent
 ends_where-requires c =
-    let k = c.requires.scene refl in
+    let k = c.requires.scene in
     record { lows-128 = refl; highs-128 = refl; row-64 = refl; long = λ e. k.long; table-real = λ e. k.table-real }
 
 pub raise_voices-requires : goal.raise_voices-requires
+unfolding IfLent
 raise_voices-requires c =
-    let k = c.requires.scene refl in
+    let k = c.requires.scene in
     let lows : length c.ends_where.new.lows ≡ 128 = c.ends_where.auto.lows in
     let highs : length c.ends_where.new.highs ≡ 128 = c.ends_where.auto.highs in
     record {
@@ -24,13 +27,12 @@ raise_voices-requires c =
       heard = c.requires.heard;
       walk = λ e.
           record {
-            by-table = refl;
             sides =
                 record {
                   ready =
                       record {
                         last = k.last;
-                        inside = c.requires.on-grid.inside refl;
+                        inside = c.requires.on-grid.inside;
                         lows-long = omega (arith, lows, k.long);
                         highs-long = omega (arith, highs, k.long);
                         ends = c.ends_where.ensures e;

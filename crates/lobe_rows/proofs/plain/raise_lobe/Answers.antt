@@ -7,6 +7,7 @@ use native.Mathlib.Omega.{arith}
 use lib.ListN.{length}
 use Rattle.lists.specs.Turned.{turned_none}
 use Rattle.lobes.specs.Distance.{logs_of}
+use Rattle.lobes.proofs.Lent.{if-lent}
 use Rattle.lobe_rows.proofs.Walk.{chunk-joined, lobe-walked}
 use Rattle.lobe_rows.proofs.plain.raise_lobe.Goals as goal
 
@@ -22,14 +23,14 @@ openings-requires c = (
   record {
     log-of-center = c.requires.1.log-of-center;
     last = omega (arith, c.min-count.ensures, c.requires.1.last);
-    inside = λ e. omega (arith, c.min-count.ensures, c.requires.1.inside e);
+    inside = if-lent _ c.requires.1.inside (λ table e inside. omega (arith, c.min-count.ensures, inside));
   },
 )
 
 pub loop-start-preserved : goal.loop-start-preserved
 loop-start-preserved c =
     let l = c.loop-start in
-    let logs = logs_of c.args.tabled c.args.table.now in
+    let logs = logs_of c.args.table in
     let room : c.min-count.result ≤ length l.chunk = omega (arith, c.min-count.ensures, l.invariant.0) in
     let next : l.start + c.min-count.result ≡ l.start + length c.args.chunk.now = omega (arith, c.min-count.ensures) in (
       c.openings.auto.chunk ∙ l.invariant.0,
@@ -59,7 +60,7 @@ returns c =
 pub returns-2 : goal.returns-2
 returns-2 c =
     let l = c.loop-start in
-    let logs = logs_of c.args.tabled c.args.table.now in
+    let logs = logs_of c.args.table in
     let room : c.min-count.result ≤ length l.chunk = omega (arith, c.min-count.ensures, l.invariant.0) in
     let next : l.start + c.min-count.result ≡ c.args.lobe.last_bin + 1 = omega (arith, c.min-count.ensures) in (
       lobe-walked _ _ _ _ (chunk-joined _ logs _ _ l.start c.min-count.result _ l.chunk _ room next c.openings.ensures l.invariant.3 c.join.ensures) (inl (omega arith)) (omega arith),

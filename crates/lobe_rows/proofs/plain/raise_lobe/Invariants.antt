@@ -14,5 +14,5 @@ invariant-loop-start l =
     (length l.chunk ≡ length l.initial.chunk)
     × (length l.indexes ≡ length l.initial.indexes)
     × ((l.start ≤ l.lobe.last_bin + 1) ⊎ (l.start ≡ l.lobe.first_bin))
-    × Turned (reached l.grid (logs_of l.tabled l.table) l.lobe l.gains.first) l.lobe.first_bin l.initial.first l.first l.start
-    × Turned (reached l.grid (logs_of l.tabled l.table) l.lobe l.gains.second) l.lobe.first_bin l.initial.second l.second l.start
+    × Turned (reached l.grid (logs_of l.table) l.lobe l.gains.first) l.lobe.first_bin l.initial.first l.first l.start
+    × Turned (reached l.grid (logs_of l.table) l.lobe l.gains.second) l.lobe.first_bin l.initial.second l.second l.start

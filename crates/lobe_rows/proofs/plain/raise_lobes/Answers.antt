@@ -2,8 +2,10 @@
 -- joining all of them to what the bins held at entry gives. Assumes nothing.
 use mathlib.Core.Path.{refl, sym, ◌∙◌}
 use Prim.Native.Nat.{◌-◌, ◌≤◌}
+use native.Mathlib.Nat.{lt_of_le_of_lt}
 use native.Mathlib.Omega.{arith}
 use lib.ListN.{length}
+use Rattle.lobes.proofs.Lent.{if-lent}
 use Rattle.lobe_rows.proofs.EachLobe.{lobes-all, lobes-next, lobes-end}
 use borrow.Author.Rules.{rules}
 use Rattle.lobe_rows.proofs.plain.raise_lobes.Goals as goal
@@ -24,7 +26,7 @@ raise_lobe-requires c =
     let w = c.requires.1.known c.loop-p.p c.loop-p-test.true in
     let g = c.requires.1.on-grid in (
       record { chunk-64 = c.loop-p.invariant.3 ∙ c.requires.0.chunk-64; indexes-64 = c.loop-p.invariant.4 ∙ c.requires.0.indexes-64 },
-      record { log-of-center = w.0; last = omega (arith, w.1, g.last); inside = λ e. omega (arith, w.1, g.inside e) },
+      record { log-of-center = w.0; last = omega (arith, w.1, g.last); inside = if-lent _ g.inside (λ table e inside. lt_of_le_of_lt w.1 inside) },
     )
 
 pub loop-p-preserved : goal.loop-p-preserved

@@ -16,5 +16,5 @@ invariant-loop-p l =
     × (length l.second ≡ length l.initial.second)
     × (length l.chunk ≡ length l.initial.chunk)
     × (length l.indexes ≡ length l.initial.indexes)
-    × (lobes-from l.grid (logs_of l.tabled l.table) l.gains.first l.lobes l.count l.p l.first ≡ map_at (lobes_joined l.grid (logs_of l.tabled l.table) l.gains.first (take l.count l.lobes)) l.initial.first)
-    × (lobes-from l.grid (logs_of l.tabled l.table) l.gains.second l.lobes l.count l.p l.second ≡ map_at (lobes_joined l.grid (logs_of l.tabled l.table) l.gains.second (take l.count l.lobes)) l.initial.second)
+    × (lobes-from l.grid (logs_of l.table) l.gains.first l.lobes l.count l.p l.first ≡ map_at (lobes_joined l.grid (logs_of l.table) l.gains.first (take l.count l.lobes)) l.initial.first)
+    × (lobes-from l.grid (logs_of l.table) l.gains.second l.lobes l.count l.p l.second ≡ map_at (lobes_joined l.grid (logs_of l.table) l.gains.second (take l.count l.lobes)) l.initial.second)

@@ -1,13 +1,13 @@
 -- `raise_tone` raises the lobes of the partials together or one after the other; either way that is
 -- joining the tone. Assumes nothing.
 use mathlib.Core.Path.{◌≡◌, ap, ◌∙◌, subst}
-use mathlib.Core.Bool.{Bool}
 use mathlib.Core.List.{List}
 use native.Mathlib.Omega.{arith}
 use lib.ListN.{take}
 use lib.Ieee.{Float}
 use Rattle.lists.specs.Maps.{map_at}
-use Rattle.lobes.specs.Distance.{lent, logs_of}
+use Rattle.lobes.specs.Distance.{Logs, logs_of}
+use Rattle.lobes.proofs.Lent.{if-lent}
 use Rattle.lobe_joins.specs.Joined.{lobes_joined}
 use Rattle.tone_lobes.specs.ToneLobes.{lobes_of}
 use Rattle.tone_lobes.proofs.Listed.{known-lobes}
@@ -20,25 +20,25 @@ raised_together-requires c =
     record {
       scratch = c.requires.scratch;
       few = omega (arith, c.requires.few, c.partials_of-count.ensures.1);
-      walk = λ e.
-          let k = c.requires.walk e in
+      walk =
+          if-lent _ c.requires.walk
+          (λ table e walk compact.
+          let k = walk compact in
           record {
             sides = k.sides;
             sound = k.tone-ready.sound c.lobes_of-lobes.result c.partials_of-count.result c.partials_of-count.ensures.0
-                (subst (λ (b : Bool). take c.partials_of-count.result c.lobes_of-lobes.result ≡ lobes_of c.args.way.grid (logs_of b c.args.table.now) c.args.tone) k.by-table of);
+                (subst (λ (logs : Logs). take c.partials_of-count.result c.lobes_of-lobes.result ≡ lobes_of c.args.way.grid logs c.args.tone) e of);
             gains = k.tone-ready.gains;
-          };
+          });
     }
 
 pub returns-then-raised_together : goal.returns-then-raised_together
 returns-then-raised_together c =
-    let k = c.requires.walk (c.raised_together.ensures.0 c.if-raised_together.true) in
-    let first = rw c.if-raised_together.true at c.raised_together.ensures.1 in
-    let second = rw c.if-raised_together.true at c.raised_together.ensures.2 in
-    let of = subst (λ (b : Bool). take c.partials_of-count.result c.lobes_of-lobes.result ≡ lobes_of c.args.way.grid (logs_of b c.args.table.now) c.args.tone) k.by-table c.lobes_of-lobes.ensures.0 in
-    rw k.by-table (
-      tone-raised c.args.way.grid (lent c.args.table.now) c.args.tone _ c.partials_of-count.result c.lobes_of-lobes.result of c.args.first.now first,
-      tone-raised c.args.way.grid (lent c.args.table.now) c.args.tone _ c.partials_of-count.result c.lobes_of-lobes.result of c.args.second.now second,
+    let logs = logs_of c.args.table in
+    let first = rw c.if-raised_together.true at c.raised_together.ensures.0 in
+    let second = rw c.if-raised_together.true at c.raised_together.ensures.1 in (
+      tone-raised c.args.way.grid logs c.args.tone _ c.partials_of-count.result c.lobes_of-lobes.result c.lobes_of-lobes.ensures.0 c.args.first.now first,
+      tone-raised c.args.way.grid logs c.args.tone _ c.partials_of-count.result c.lobes_of-lobes.result c.lobes_of-lobes.ensures.0 c.args.second.now second,
     )
 
 pub raise_lobes-requires : goal.raise_lobes-requires
@@ -56,10 +56,10 @@ raise_lobes-requires c = (
 
 pub returns : goal.returns
 returns c =
-    let logs = logs_of c.args.way.tabled c.args.table.now in
+    let logs = logs_of c.args.table in
     let lobes = take c.partials_of-count.result c.lobes_of-lobes.result in
-    let first = rw c.if-raised_together.false at c.raised_together.ensures.1 in
-    let second = rw c.if-raised_together.false at c.raised_together.ensures.2 in (
+    let first = rw c.if-raised_together.false at c.raised_together.ensures.0 in
+    let second = rw c.if-raised_together.false at c.raised_together.ensures.1 in (
       tone-raised c.args.way.grid logs c.args.tone _ c.partials_of-count.result c.lobes_of-lobes.result c.lobes_of-lobes.ensures.0 c.args.first.now
           (c.raise_lobes.ensures.0 ∙ ap (λ (xs : List Float). map_at (lobes_joined c.args.way.grid logs c.args.gains.first lobes) xs) first),
       tone-raised c.args.way.grid logs c.args.tone _ c.partials_of-count.result c.lobes_of-lobes.result c.lobes_of-lobes.ensures.0 c.args.second.now

@@ -1,5 +1,6 @@
 -- `raise_voice` leaves both sides as they are where the voice is skipped, and else joins its tone
 -- by its gains. Assumes nothing.
+use Rattle.lobes.proofs.Lent.{if-lent}
 use Rattle.openness.specs.Sides.{first_side, second_side}
 use Rattle.openness.proofs.EachVoice.{voice-skipped, voice-joined}
 use Rattle.openness.proofs.ReadyVoices.{tone-ready}
@@ -14,13 +15,14 @@ raise_tone-requires c =
       scratch = c.requires.scratch;
       few = c.requires.few;
       on-grid = c.requires.on-grid;
-      walk = λ e.
-          let k = c.requires.walk e in
+      walk =
+          if-lent _ c.requires.walk
+          (λ table e walk compact.
+          let k = walk compact in
           record {
-            by-table = k.by-table;
             sides = k.sides;
-            tone-ready = tone-ready c.args.way.grid c.args.table.now c.args.voice (first_side c.args.way.stereo) (second_side c.args.way.stereo) k.grid-real k.voice-real c.tone_of-tone.ensures c.gains_of-gains.ensures.0 c.gains_of-gains.ensures.1;
-          };
+            tone-ready = tone-ready c.args.way.grid table c.args.voice (first_side c.args.way.stereo) (second_side c.args.way.stereo) k.grid-real k.voice-real c.tone_of-tone.ensures c.gains_of-gains.ensures.0 c.gains_of-gains.ensures.1;
+          });
     }
 
 pub returns : goal.returns

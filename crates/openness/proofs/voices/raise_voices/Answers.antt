@@ -6,6 +6,7 @@ use Prim.Native.Nat.{◌-◌, ◌≤◌}
 use native.Mathlib.Omega.{arith}
 use lib.ListN.{length, get_or}
 use Rattle.scene.specs.Accepted.{no_voice}
+use Rattle.lobes.proofs.Lent.{lent-at, if-lent}
 use Rattle.openness.specs.Sides.{first_side, second_side}
 use Rattle.openness.proofs.EachVoice.{voices-next, voices-end}
 use Rattle.openness.proofs.ReadyVoices.{voice-open, voice-real}
@@ -13,7 +14,7 @@ use Rattle.openness.proofs.voices.raise_voices.Goals as goal
 
 pub loop-index-init : goal.loop-index-init
 loop-index-init c =
-    (c.well_formed.1.1.1.1.1.1.1.1.1.1.1.1.0.1.0.1, refl, refl, refl, refl, refl, refl, λ e. (c.requires.walk e).sides.sides)
+    (c.well_formed.1.1.1.1.1.1.1.1.1.1.1.1.0.1.0.1, refl, refl, refl, refl, refl, refl, λ table e compact. (lent-at e c.requires.walk compact).sides.sides)
 
 pub offset_bounds-voices-index : goal.offset_bounds-voices-index
 offset_bounds-voices-index c = omega arith
@@ -28,14 +29,15 @@ raise_voice-requires c =
       scratch = record { chunk-64 = c.loop-index.invariant.3 ∙ c.requires.scratch.chunk-64; indexes-64 = c.loop-index.invariant.4 ∙ c.requires.scratch.indexes-64 };
       few = c.requires.few;
       on-grid = c.requires.on-grid;
-      walk = λ e.
-          let k = c.requires.walk e in
+      walk =
+          if-lent _ c.requires.walk
+          (λ table e walk compact.
+          let k = walk compact in
           record {
-            by-table = k.by-table;
-            sides = record { ready = k.sides.ready; sides = c.loop-index.invariant.7 e };
+            sides = record { ready = k.sides.ready; sides = c.loop-index.invariant.7 table e compact };
             grid-real = k.grid-real;
             voice-real = voice-real c.args.voices c.args.count c.loop-index.index some k.voices-real c.loop-index-test.true;
-          };
+          });
     }
 
 pub loop-index-preserved : goal.loop-index-preserved
@@ -49,15 +51,15 @@ loop-index-preserved c =
       omega (arith, c.raise_voice.auto.indexes, c.loop-index.invariant.4),
       voices-next _ _ _ _ _ c.loop-index.index _ some c.loop-index-test.true c.raise_voice.ensures.0 ∙ c.loop-index.invariant.5,
       voices-next _ _ _ _ _ c.loop-index.index _ some c.loop-index-test.true c.raise_voice.ensures.1 ∙ c.loop-index.invariant.6,
-      λ e.
-          let k = c.requires.walk e in
-          let o = c.loop-index.invariant.7 e in
+      λ table e compact.
+          let k = lent-at e c.requires.walk compact in
+          let o = c.loop-index.invariant.7 table e compact in
           let u = voice-real c.args.voices c.args.count c.loop-index.index some k.voices-real c.loop-index-test.true in
-          let first = rw k.by-table at c.raise_voice.ensures.0 in
-          let second = rw k.by-table at c.raise_voice.ensures.1 in
+          let first = rw e at c.raise_voice.ensures.0 in
+          let second = rw e at c.raise_voice.ensures.1 in
           record {
-            first-open = voice-open c.args.way.grid k.grid-real c.args.table.now (first_side c.args.way.stereo) voice u c.loop-index.first o.first-open first;
-            second-open = voice-open c.args.way.grid k.grid-real c.args.table.now (second_side c.args.way.stereo) voice u c.loop-index.second o.second-open second;
+            first-open = voice-open c.args.way.grid k.grid-real table (first_side c.args.way.stereo) voice u c.loop-index.first o.first-open first;
+            second-open = voice-open c.args.way.grid k.grid-real table (second_side c.args.way.stereo) voice u c.loop-index.second o.second-open second;
           },
     )
 

@@ -2,9 +2,11 @@
 -- joining all of them to what the bins held at entry gives. Assumes nothing.
 use mathlib.Core.Path.{◌≡◌}
 use mathlib.Core.Bool.{true}
+use mathlib.Core.List.{List}
 use Prim.Native.Nat.{◌-◌}
 use lib.ListN.{length}
-use Rattle.lobes.specs.Distance.{logs_of}
+use lib.Ieee.{Float}
+use Rattle.lobes.specs.Distance.{lent, logs_of}
 use Rattle.lobes.specs.Pan.{channel_gain}
 use Rattle.block_rows.specs.Premises.{SidesOpen}
 use Rattle.openness.specs.Sides.{first_side, second_side}
@@ -18,6 +20,6 @@ invariant-loop-index l =
     × (length l.second ≡ length l.initial.second)
     × (length l.chunk ≡ length l.initial.chunk)
     × (length l.indexes ≡ length l.initial.indexes)
-    × (voices-from l.way.grid (logs_of l.way.tabled l.table) (channel_gain (first_side l.way.stereo)) l.voices l.count l.index l.first ≡ voices-from l.way.grid (logs_of l.way.tabled l.table) (channel_gain (first_side l.way.stereo)) l.voices l.count 0 l.initial.first)
-    × (voices-from l.way.grid (logs_of l.way.tabled l.table) (channel_gain (second_side l.way.stereo)) l.voices l.count l.index l.second ≡ voices-from l.way.grid (logs_of l.way.tabled l.table) (channel_gain (second_side l.way.stereo)) l.voices l.count 0 l.initial.second)
-    × (l.way.compact ≡ true → SidesOpen l.first l.second)
+    × (voices-from l.way.grid (logs_of l.table) (channel_gain (first_side l.way.stereo)) l.voices l.count l.index l.first ≡ voices-from l.way.grid (logs_of l.table) (channel_gain (first_side l.way.stereo)) l.voices l.count 0 l.initial.first)
+    × (voices-from l.way.grid (logs_of l.table) (channel_gain (second_side l.way.stereo)) l.voices l.count l.index l.second ≡ voices-from l.way.grid (logs_of l.table) (channel_gain (second_side l.way.stereo)) l.voices l.count 0 l.initial.second)
+    × ((table : List Float) → logs_of l.table ≡ lent table → l.way.compact ≡ true → SidesOpen l.first l.second)
