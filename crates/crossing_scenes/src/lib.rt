@@ -12,7 +12,7 @@ ghost use Rattle.crossing_scenes.specs.Scenes.{plain_read, ReadsScene};
 
 use answer::Refusal;
 use crossing::answers::give_outcome;
-use crossing::settings::Settings;
+use crossing::settings::{Settings, config_of};
 use limits::lengths::MOST_VOICES;
 use record_calls::{read_scene, write_scene};
 use scene::{MaskConfig, MaskVoice, Scene, blank_scene};
@@ -36,6 +36,17 @@ pub struct PlainSceneRead {
     pub scene: PlainScene,
 }
 
+// A shape above 7 counts as 7.
+pub fn scene_of(plain: PlainScene) -> Scene
+    ensures { result ≡ scene_of plain }
+{
+    Scene {
+        config: config_of(plain.settings),
+        voices: voices_of(plain.voices),
+        count: plain.count,
+    }
+}
+
 // A shape outside 0..7 is refusal 2, unless refusal 1 comes first.
 impl TryFrom<PlainScene> for Scene {
     type Error = Refusal;
@@ -43,13 +54,8 @@ impl TryFrom<PlainScene> for Scene {
     ghost try_from_gives = { ReadsScene };
 
     fn try_from(plain: PlainScene) -> Result<Scene, Refusal> {
-        let config = MaskConfig::try_from(plain.settings)?;
-        let voices = voices_of(plain.voices);
-        Ok(Scene {
-            config,
-            voices,
-            count: plain.count,
-        })
+        MaskConfig::try_from(plain.settings)?;
+        Ok(scene_of(plain))
     }
 }
 

@@ -5,14 +5,14 @@ use crate::list;
 use float32::bits::bits_of;
 use limits::lengths::MOST_VOICES;
 use scene::pitches::pitch_of;
-use scene::{MaskConfig, MaskVoice, MotionConfig, MotionShape, Pitch, Scene};
+use scene::{MaskConfig, MaskVoice, MotionConfig, Pitch, Scene};
 use voice_records::VoiceRecord;
 
 // The moving field's settings, from four words. A shape's number past the last gives the last.
 pub fn motion_at(bytes: &[u8], at: usize, past: usize) -> MotionConfig {
     let first = at.wrapping_add(past);
     MotionConfig {
-        shape: MotionShape::try_from(list::word(bytes, first, 0)).unwrap_or(MotionShape::Cloud),
+        shape: scene::shape_of(list::word(bytes, first, 0)),
         depth_db: list::float(bytes, first, 1),
         phase: list::float(bytes, first, 2),
         size_octaves: list::float(bytes, first, 3),

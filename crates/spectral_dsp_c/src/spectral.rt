@@ -13,7 +13,7 @@ ghost use Rattle.crossing.specs.Settings.{motion_of, with_shape};
 
 use answer::{Answer, Reason};
 use crossing::answers::{give_answer, give_outcome};
-use crossing::settings::motion_of;
+use crossing::settings::try_motion_of;
 use list_calls::advance_bank;
 
 #[unsafe(no_mangle)]
@@ -79,7 +79,7 @@ pub extern "C" fn dovetable_motion_openness(
         result place.old place.new openness.old
         openness.new }
 {
-    match motion_of(shape, depth_db, phase, size_octaves) {
+    match try_motion_of(shape, depth_db, phase, size_octaves) {
         Ok(motion) => give_answer(
             spectral_dsp::motion_openness(frequency, motion),
             openness,
@@ -104,7 +104,7 @@ pub extern "C" fn dovetable_motion_attenuation_db(
         place.old place.new attenuation_db.old
         attenuation_db.new }
 {
-    match motion_of(shape, depth_db, phase, size_octaves) {
+    match try_motion_of(shape, depth_db, phase, size_octaves) {
         Ok(motion) => give_answer(
             spectral_dsp::motion_attenuation_db(frequency, motion),
             attenuation_db,
@@ -127,7 +127,7 @@ pub extern "C" fn dovetable_motion_compensation_gain(
         (with_shape shape (compensation_reply (motion_of shape depth_db phase size_octaves))) result
         place.old place.new gain.old gain.new }
 {
-    match motion_of(shape, depth_db, phase, size_octaves) {
+    match try_motion_of(shape, depth_db, phase, size_octaves) {
         Ok(motion) => give_answer(
             spectral_dsp::motion_compensation_gain(motion),
             gain,
