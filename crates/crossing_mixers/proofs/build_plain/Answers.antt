@@ -6,6 +6,7 @@ use Prim.Native.Nat.{◌≤◌}
 use native.Mathlib.Omega.{arith}
 use lib.ListN.{length}
 use lib.Ieee.{Float}
+use Rattle.answer.proofs.Tests.{passed-on}
 use Rattle.answer.specs.Reply.{of_outcome}
 use Rattle.answer.specs.Written.{written}
 use Rattle.scene.specs.declared.Scene.{Scene}
@@ -17,7 +18,8 @@ use Rattle.crossing_mixers.proofs.build_plain.Goals as goal
 pub returns-in_err-scene : goal.returns-in_err-scene
 returns-in_err-scene c =
     let read = c.in_err-scene.ensures in
-    let refused = unknown _ _ _ refl read.1 read.0 in record {
+    let refused = passed-on _ _ c.from_residual.ensures.1 ∙ unknown _ _ _ refl read.1 read.0 in
+    record {
       result_value = refused;
       left_after = rw refused (unknown-left _ _ _ _ read.0);
       right_after = rw refused (unknown-left _ _ _ _ read.0);
