@@ -177,7 +177,7 @@ fn stereo_outcome(
     let config = settings::config_at(bytes, at, 1);
     match voices {
         Voices::Stored => build_stereo(bytes, at, left, right, curve, table),
-        Voices::Banked => spectral_dsp::read_masks(left, right, curve, bank, config, table),
+        Voices::Banked => spectral_dsp::read_masks(left, right, curve, &bank, config, table),
     }
 }
 

@@ -19,8 +19,8 @@ returns c =
     (plain_at a.given strip) table in
     let mask : Side → ℕ → List Float =
     λ side strip. plain_mask side curve (plain_at a.given strip) table in
-    let turned = c.turn-turned.ensures in
-    let named = c.turn-turned.result.named in
+    let turned = c.turn-named.ensures in
+    let named = c.turn-named.result in
     let place = c.scene_place.result in
     let there = c.scene_place.ensures.0 in
     let built = c.build_named-outcome.ensures in
@@ -28,7 +28,7 @@ returns c =
       value = simp (
         c.number.ensures,
         c.place.ensures,
-        c.is_strip.ensures,
+        c.is_some.ensures,
         c.strip_of.ensures,
         answer,
         turned.named_value,
