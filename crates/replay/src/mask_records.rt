@@ -15,7 +15,8 @@ pub fn fill_table(bytes: &[u8], at: usize, past: usize, size: usize, table: &mut
     slice::fill(bytes, first, 1, table);
     let rate = list::float(bytes, first, 0);
     if rate != 0.0 {
-        spectral_dsp::MaskWorkspace::prepare(table, rate, size);
+        // A table that is refused keeps what it holds.
+        let _ = spectral_dsp::MaskWorkspace::prepare(table, rate, size);
         slice::put_both(bytes, first, 1, table);
     }
 }

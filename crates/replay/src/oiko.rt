@@ -20,7 +20,10 @@ fn print_note_frequency(rt: &impl Print, note: u8) -> io::Result<()> {
 
 fn print_note_frequency_with_tuning(rt: &impl Print, note: u8, tuning: u32) -> io::Result<()> {
     print!(rt; "note_frequency_with_tuning {note} {tuning:08x}")?;
-    text::print_answer(rt, oiko_dsp::note_frequency_with_tuning(note, of_bits(tuning)))
+    text::print_answer(
+        rt,
+        oiko_dsp::note_frequency_with_tuning(note, of_bits(tuning)),
+    )
 }
 
 fn print_call(rt: &impl Print, call: u32, first: u32, second: u32) -> io::Result<()> {

@@ -39,10 +39,7 @@ fn print_gains(rt: &impl Print, gains: CoherentGains) -> io::Result<()> {
     print_float(rt, gains.smooth_window)
 }
 
-pub fn print_prepared(
-    rt: &impl Print,
-    prepared: Result<CoherentGains, Refusal>,
-) -> io::Result<()> {
+pub fn print_prepared(rt: &impl Print, prepared: Result<CoherentGains, Refusal>) -> io::Result<()> {
     match prepared {
         Ok(gains) => print_gains(rt, gains),
         Err(refusal) => print!(rt; " {refusal}"),
