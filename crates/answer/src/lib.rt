@@ -6,6 +6,7 @@ ghost use Rattle.std.specs.Prelude.{◌≡◌};
 ghost use Rattle.answer.specs.Reply.{number, number_in, number_of, place, place_in, of_answer};
 
 use limits::lengths::MIDI_NOTES;
+use std::error::Error;
 use std::fmt;
 
 // Why a call refuses, in the order of document 01's table, and of the requests after it.
@@ -112,6 +113,8 @@ impl fmt::Display for Refusal {
         write!(f, "refused {} {}", self.reason.number(), self.place)
     }
 }
+
+impl Error for Refusal {}
 
 impl Answer {
     // Document 01's number: 0 where the call is done.

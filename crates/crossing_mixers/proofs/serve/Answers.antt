@@ -1,4 +1,5 @@
 -- `serve` meets its contract: whom `turn` names, `build_named` builds. Assumes nothing.
+use Rattle.answer.proofs.Replies.{number-in-outcome, place-in-outcome}
 use mathlib.Core.List.{List}
 use Prim.Native.Nat.{ℕ}
 use lib.ListN.{length}
@@ -27,7 +28,9 @@ returns c =
     let answer = reply-named reply named place there built.result_value in record {
       value = simp (
         c.number.ensures,
+        number-in-outcome,
         c.place.ensures,
+        place-in-outcome,
         c.is_some.ensures,
         c.strip_of.ensures,
         answer,
