@@ -32,13 +32,8 @@ pub fn try_motion_of(
 ) -> Result<MotionConfig, UnknownShape>
     ensures { OkIff result (shape < 8) (motion_of shape depth_db phase size_octaves) }
 {
-    let shape = MotionShape::try_from(shape)?;
-    Ok(MotionConfig {
-        shape,
-        depth_db,
-        phase,
-        size_octaves,
-    })
+    MotionShape::try_from(shape)?;
+    Ok(motion_of(shape, depth_db, phase, size_octaves))
 }
 
 // A mask's settings, with those of its motion. The shape is a number, 0..7 in the Rust's order.
