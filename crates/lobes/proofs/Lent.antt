@@ -5,9 +5,9 @@ use mathlib.Core.List.{List}
 use lib.Ieee.{Float}
 use Rattle.lobes.specs.Distance.{Logs, lent, none, IfLent}
 
-pub lent-at : {P : List Float → Type 0} {logs : Logs} {table : List Float} → logs ≡ lent table → IfLent logs P → P table
+pub lent-at : (P : List Float → Type 0) {logs : Logs} {table : List Float} → logs ≡ lent table → IfLent logs P → P table
 unfolding IfLent
-lent-at {P} {logs} {table} e p = subst (λ (l : Logs). IfLent l P) e p
+lent-at P e p = subst (λ (l : Logs). IfLent l P) e p
 
 pub if-lent : {P Q : List Float → Type 0} (logs : Logs) → IfLent logs P → ((table : List Float) → logs ≡ lent table → P table → Q table) → IfLent logs Q
 unfolding IfLent

@@ -4,14 +4,14 @@
 
 pub mod centers;
 
-ghost use Rattle.std.specs.Prelude.{◌≡◌, true, ◌+◌, ◌/◌, ◌≤◌, length, take};
+ghost use Rattle.std.specs.Prelude.{◌≡◌, ◌+◌, ◌/◌, ◌≤◌, length, take};
 ghost use Rattle.lists.specs.Maps.{tabulate};
 ghost use Rattle.power.specs.Table.{power_table};
 ghost use Rattle.sine.specs.Table.{sine_table};
 ghost use Rattle.limits.specs.Lengths.{most_voices, most_size, manual_mask_points};
 ghost use Rattle.lobes.specs.Pan as side;
 ghost use Rattle.lobes.specs.Grid.{grid_of};
-ghost use Rattle.lobes.specs.Distance.{lent, logs_of};
+ghost use Rattle.lobes.specs.Distance.{lent, logs_of, IfLent};
 ghost use Rattle.openness.specs.Scene.{SoundScene};
 ghost use Rattle.mask_builder.specs.Mask.{openness_at, mask_of};
 
@@ -29,23 +29,20 @@ fn open_mono(
     voices: [MaskVoice; MOST_VOICES],
     count: usize,
     config: MaskConfig,
-    tabled: bool,
-    table: &[f32],
+    table: Option<&[f32]>,
 )
     requires { (count ≤ most_voices)
         × (config.fft_size ≤ most_size)
         × (length out.old ≡ config.fft_size / 2 + 1)
-        × (tabled ≡ true → length table.now ≡ config.fft_size / 2 + 1)
-        × (tabled ≡ true → SoundScene (grid_of config) (take count voices) table.now) }
+        × (IfLent (logs_of table) (λ entries. length entries ≡ config.fft_size / 2 + 1))
+        × (IfLent (logs_of table) (SoundScene (grid_of config) (take count voices))) }
     ensures { out.new ≡ tabulate (length out.old)
-        (openness_at config (logs_of tabled table.now) side.mono (take count voices)) }
+        (openness_at config (logs_of table.entry) side.mono (take count voices)) }
 {
     if config.note_layer_enabled {
         let gaussians = gaussian::gaussian_table();
         let grid = lobes::grids::grid_of(powers, config);
-        openness::open_one(
-            out, powers, sines, &gaussians, tabled, table, voices, count, grid,
-        );
+        openness::open_one(out, powers, sines, &gaussians, table, voices, count, grid);
     } else {
         out.fill(0.0);
     }
@@ -85,28 +82,27 @@ fn open_sides(
     }
 }
 
-// The mono mask, from the lent table where `tabled` is true.
+// The mono mask, from the table where one is lent.
 pub fn build_one(
     out: &mut [f32],
     curve: &[f32],
     voices: [MaskVoice; MOST_VOICES],
     count: usize,
     config: MaskConfig,
-    tabled: bool,
-    table: &[f32],
+    table: Option<&[f32]>,
 )
     requires { (length curve.now ≡ manual_mask_points)
         × (count ≤ most_voices)
         × (config.fft_size ≤ most_size)
         × (length out.old ≡ config.fft_size / 2 + 1)
-        × (tabled ≡ true → length table.now ≡ config.fft_size / 2 + 1)
-        × (tabled ≡ true → SoundScene (grid_of config) (take count voices) table.now) }
+        × (IfLent (logs_of table) (λ entries. length entries ≡ config.fft_size / 2 + 1))
+        × (IfLent (logs_of table) (SoundScene (grid_of config) (take count voices))) }
     ensures { out.new ≡ mask_of curve.now config
-        (logs_of tabled table.now) side.mono (take count voices) }
+        (logs_of table.entry) side.mono (take count voices) }
 {
     let powers = power::table::power_table();
     let sines = sine::table::sine_table();
-    open_mono(&powers, &sines, out, voices, count, config, tabled, table);
+    open_mono(&powers, &sines, out, voices, count, config, table);
     bin_gains::finish_one(&powers, &sines, out, curve, config);
 }
 
@@ -135,7 +131,7 @@ pub fn build_two(
 {
     // Centered voices give identical masks; copy rather than rebuild.
     if centers::all_centered(voices, count) {
-        build_one(left, curve, voices, count, config, true, table);
+        build_one(left, curve, voices, count, config, Some(table));
         right.copy_from_slice(left);
         return;
     }

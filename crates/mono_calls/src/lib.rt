@@ -38,15 +38,7 @@ pub fn build_mask(
     of_settings(config)?;
     of_levels(note_levels, lengths)?;
     let voices = scene::levels::voices_of(note_levels);
-    build_one(
-        output,
-        manual_mask_db,
-        voices,
-        MIDI_NOTES,
-        config,
-        false,
-        note_levels,
-    );
+    build_one(output, manual_mask_db, voices, MIDI_NOTES, config, None);
     Ok(())
 }
 
@@ -68,15 +60,7 @@ pub fn build_mask_with_voices(
     let sized = output.len() == bins && manual_mask_db.len() == MANUAL_MASK_POINTS;
     of_settings(config)?;
     of_voices(voices, count, sized)?;
-    build_one(
-        output,
-        manual_mask_db,
-        voices,
-        count,
-        config,
-        false,
-        manual_mask_db,
-    );
+    build_one(output, manual_mask_db, voices, count, config, None);
     Ok(())
 }
 
@@ -101,6 +85,6 @@ pub fn build_mask_with_voices_precomputed(
     of_settings(config)?;
     of_voices(voices, count, lengths)?;
     of_table(table)?;
-    build_one(output, manual_mask_db, voices, count, config, true, table);
+    build_one(output, manual_mask_db, voices, count, config, Some(table));
     Ok(())
 }

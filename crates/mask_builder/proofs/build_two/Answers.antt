@@ -3,10 +3,15 @@
 use mathlib.Core.Path.{sym, subst, ◌∙◌}
 use lib.Dec.{T}
 use Rattle.lobes.specs.Pan.{left, right}
-use Rattle.lobes.specs.Distance.{lent}
+use Rattle.lobes.specs.Distance.{lent, IfLent}
 use Rattle.mask_builder.proofs.Built.{finished, one-mask}
 use borrow.Author.Rules.{rules}
 use Rattle.mask_builder.proofs.build_two.Goals as goal
+
+pub build_one-requires : goal.build_one-requires
+unfolding IfLent
+build_one-requires c =
+    (c.requires.0, c.requires.1, c.requires.2, c.requires.3, c.requires.5, c.requires.6)
 
 pub returns-then-all_centered : goal.returns-then-all_centered
 returns-then-all_centered c =

@@ -3,6 +3,7 @@ use Rattle.lists.specs.Maps.{replicate-tabulate}
 use mathlib.Core.Path.{◌∙◌, ◌≡◌}
 use Prim.Native.Nat.{◌/◌}
 use native.Mathlib.Omega.{arith}
+use Rattle.lobes.proofs.Lent.{if-lent}
 use Rattle.mask_builder.proofs.Built.{grid-partials, grid-last, opened, shut}
 use borrow.Author.Rules.{rules}
 use Rattle.mask_builder.proofs.open_mono.Goals as goal
@@ -14,9 +15,9 @@ open_one-requires c =
     let last : c.grid_of-grid.result.last_bin ≡ config.fft_size / 2 = rw e (grid-last config) in
     record {
       few = rw e (grid-partials config);
-      on-grid = record { last = omega arith; inside = λ t. let l = c.requires.3 t in omega arith };
+      on-grid = record { last = omega arith; inside = if-lent _ c.requires.3 (λ table e l. omega (arith, l)) };
       heard = search rules;
-      scene = λ t. rw e (c.requires.4 t);
+      scene = rw e c.requires.4;
     }
 
 pub returns-then-config : goal.returns-then-config

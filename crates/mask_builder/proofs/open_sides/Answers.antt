@@ -3,20 +3,22 @@ use Rattle.lists.specs.Maps.{replicate-tabulate}
 use mathlib.Core.Path.{◌∙◌, ◌≡◌}
 use Prim.Native.Nat.{◌/◌}
 use native.Mathlib.Omega.{arith}
+use Rattle.lobes.specs.Distance.{IfLent}
 use Rattle.mask_builder.proofs.Built.{grid-partials, grid-last, opened, shut}
 use borrow.Author.Rules.{rules}
 use Rattle.mask_builder.proofs.open_sides.Goals as goal
 
 pub open_two-requires : goal.open_two-requires
+unfolding IfLent
 open_two-requires c =
     let e = c.grid_of-grid.ensures in
     let config = c.args.config in
     let last : c.grid_of-grid.result.last_bin ≡ config.fft_size / 2 = rw e (grid-last config) in
     record {
       few = rw e (grid-partials config);
-      on-grid = record { last = omega arith; inside = λ t. omega arith };
+      on-grid = record { last = omega arith; inside = omega arith };
       heard = search rules;
-      scene = λ t. rw e c.requires.5;
+      scene = rw e c.requires.5;
     }
 
 pub returns-then-config : goal.returns-then-config

@@ -1,7 +1,7 @@
 -- `build_mask` answers as its tests say, leaves the mask as it was where it refuses, and builds it
 -- where it is done. Assumes nothing.
 use mathlib.Core.Path.{◌≡◌, sym, ap, ◌∙◌}
-use mathlib.Core.Bool.{true≢false, ◌&&◌}
+use mathlib.Core.Bool.{◌&&◌}
 use mathlib.Core.List.{List}
 use borrow.Author.Rules.{rules}
 use lib.Dec.{eqb, lit≤}
@@ -10,7 +10,7 @@ use lib.ListN.{length, get_or, take}
 use lib.Seq.{take_all}
 use Rattle.lists.specs.Maps.{length-tab}
 use Rattle.answer.proofs.Tests.{passed-on}
-use Rattle.lobes.specs.Distance.{none}
+use Rattle.lobes.specs.Distance.{none, IfLent}
 use Rattle.lobes.specs.Pan.{mono}
 use Rattle.scene.specs.Levels.{level_voice, voices_of}
 use Rattle.mask_builder.specs.Mask.{mask_of}
@@ -47,13 +47,14 @@ voices_of-voices-requires c =
     (mask-accepted a.manual_mask_db.now a.config (length a.output.now) a.note_levels.now (is-done _ (sym e))).1
 
 pub build_one-requires : goal.build_one-requires
+unfolding IfLent
 build_one-requires c =
     let a = c.args in
     let g : c.if-manual_mask_db-eq-MANUAL_MASK_POINTS.lent ≡ (eqb (length a.manual_mask_db.now) 8193 && eqb (length a.note_levels.now) 128) = search rules in
     let l : c.if-output-bins.lengths ≡ (eqb (length a.output.now) c.bins-bins.result && c.if-manual_mask_db-eq-MANUAL_MASK_POINTS.lent) = search rules in
     let e = mask-answer a.manual_mask_db.now a.config c.bins-bins.ensures c.in_ok-of_settings.ensures (length a.output.now) a.note_levels.now c.in_ok-of_levels.ensures l g in
     let f = mask-accepted a.manual_mask_db.now a.config (length a.output.now) a.note_levels.now (is-done _ (sym e)) in
-    (f.0.0, lit≤ tt, f.0.1, f.2, (λ t. absurd (true≢false (sym t))), (λ t. absurd (true≢false (sym t))))
+    (f.0.0, lit≤ tt, f.0.1, f.2, tt, tt)
 
 pub returns-clause-result_value : goal.returns-clause-result_value
 returns-clause-result_value c =

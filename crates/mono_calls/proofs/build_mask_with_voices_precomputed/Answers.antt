@@ -6,6 +6,7 @@ use borrow.Author.Rules.{rules}
 use lib.Dec.{eqb}
 use lib.ListN.{length}
 use Rattle.answer.proofs.Tests.{passed-on}
+use Rattle.lobes.specs.Distance.{IfLent}
 use Rattle.mask_builder.proofs.SoundScenes.{sound-scene}
 use Rattle.refusals.specs.Masks.{tabled_mask_reply}
 use Rattle.refusals.proofs.MaskAccepted.{is-done, tabled-mask-accepted}
@@ -40,6 +41,7 @@ returns-in_err-of_table-clause-result_value c =
     (second-answers c.in_ok-of_voices.ensures c.in_err-of_table.ensures) g (length a.output.now) l
 
 pub build_one-requires : goal.build_one-requires
+unfolding IfLent
 build_one-requires c =
     let a = c.args in
     let g : c.if-manual_mask_db-eq-MANUAL_MASK_POINTS.lent ≡ (eqb (length a.manual_mask_db.now) 8193 && eqb (length a.table.now) c.bins-bins.result) = search rules in
@@ -51,7 +53,7 @@ build_one-requires c =
     let f = tabled-mask-accepted a.manual_mask_db.now a.config a.voices a.count a.table.now (length a.output.now) d in
     let scene = tabled-mask-scene a.manual_mask_db.now a.voices a.count a.config a.table.now (length a.output.now) d (voices-f32 128 a.voices _ c.well_formed.1.1.0) (settings-f32 a.config _ c.well_formed.1.1.1.1.0) in
     let table = tabled-mask-table a.manual_mask_db.now a.voices a.count a.config a.table.now (length a.output.now) d (λ i l. c.shared_slice_known-2-1.given i) in
-    (f.0.0, f.1, f.0.1, f.3, (λ t. f.2), (λ t. sound-scene a.config _ a.table.now f.0.1 scene.voices-real scene.settings-real table.entries table.entry-real))
+    (f.0.0, f.1, f.0.1, f.3, f.2, sound-scene a.config _ a.table.now f.0.1 scene.voices-real scene.settings-real table.entries table.entry-real)
 
 pub returns-clause-result_value : goal.returns-clause-result_value
 returns-clause-result_value c =

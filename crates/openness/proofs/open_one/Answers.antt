@@ -36,10 +36,10 @@ raise_voices-requires c =
                   ready =
                       record {
                         last = k.last;
-                        inside = lent-at e c.requires.on-grid.inside;
+                        inside = lent-at _ e c.requires.on-grid.inside;
                         lows-long = omega (arith, lows, k.long);
                         highs-long = omega (arith, highs, k.long);
-                        ends = lent-at e c.ends_where.ensures compact;
+                        ends = lent-at _ e c.ends_where.ensures compact;
                         table-real = k.table-real;
                       };
                   sides = record { first-open = zeros-open _ (c.fill.ensures.after (λ y e. e) ∙ replicate-tabulate _ _); second-open = one-zero-open };

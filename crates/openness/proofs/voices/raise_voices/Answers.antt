@@ -14,7 +14,7 @@ use Rattle.openness.proofs.voices.raise_voices.Goals as goal
 
 pub loop-index-init : goal.loop-index-init
 loop-index-init c =
-    (c.well_formed.1.1.1.1.1.1.1.1.1.1.1.1.0.1.0.1, refl, refl, refl, refl, refl, refl, λ table e compact. (lent-at e c.requires.walk compact).sides.sides)
+    (c.well_formed.1.1.1.1.1.1.1.1.1.1.1.1.0.1.0.1, refl, refl, refl, refl, refl, refl, λ table e compact. (lent-at _ e c.requires.walk compact).sides.sides)
 
 pub offset_bounds-voices-index : goal.offset_bounds-voices-index
 offset_bounds-voices-index c = omega arith
@@ -52,7 +52,7 @@ loop-index-preserved c =
       voices-next _ _ _ _ _ c.loop-index.index _ some c.loop-index-test.true c.raise_voice.ensures.0 ∙ c.loop-index.invariant.5,
       voices-next _ _ _ _ _ c.loop-index.index _ some c.loop-index-test.true c.raise_voice.ensures.1 ∙ c.loop-index.invariant.6,
       λ table e compact.
-          let k = lent-at e c.requires.walk compact in
+          let k = lent-at _ e c.requires.walk compact in
           let o = c.loop-index.invariant.7 table e compact in
           let u = voice-real c.args.voices c.args.count c.loop-index.index some k.voices-real c.loop-index-test.true in
           let first = rw e at c.raise_voice.ensures.0 in
