@@ -62,7 +62,7 @@ fn print_usage(rt: &impl Print) -> io::Result<()> {
 
 // Does what the argument says.
 fn run_with(rt: &impl Print, word: &[u8]) -> io::Result<()> {
-    if word == b"--plot" {
+    if word == b"--plot".as_slice() {
         return run(rt, true);
     }
     print_usage(rt)

@@ -16,7 +16,7 @@ fn id_of(word: u32) -> u16 {
 // The bank that a record gives. Each id is a step on from the one before; the places past the count
 // are filled too, since a call must not look at them.
 fn given_bank(bytes: &[u8], at: usize) -> Bank {
-    let stored = std::num::wrapping_add_usize(at, 3);
+    let stored = at.wrapping_add(3);
     let step = id_of(list::word(bytes, at, 2));
     let mut id = id_of(list::word(bytes, at, 1));
     let mut bank = spectral_dsp::new_bank();
@@ -24,7 +24,7 @@ fn given_bank(bytes: &[u8], at: usize) -> Bank {
     for place in 0..MOST_VOICES {
         bank.ids[place] = id;
         bank.voices[place] = VoiceRecord::from(settings::voice_of(bytes, stored, place));
-        id = std::num::wrapping_add_u16(id, step);
+        id = id.wrapping_add(step);
     }
     bank
 }
@@ -45,26 +45,21 @@ fn print_bank(rt: &impl Print, bank: &Bank) -> io::Result<()> {
 }
 
 // Prints the line of a bank that is new or given.
-fn print_made(rt: &impl Print, name: &[u8], bank: &Bank) -> io::Result<()> {
-    text::print(rt, name)?;
+fn print_made(rt: &impl Print, name: &str, bank: &Bank) -> io::Result<()> {
+    print!(rt; "{name}")?;
     print_bank(rt, bank)
 }
 
 // Prints the line of a call that changes a bank.
-fn print_changed(
-    rt: &impl Print,
-    name: &[u8],
-    outcome: Outcome,
-    bank: &Bank,
-) -> io::Result<()> {
-    text::print(rt, name)?;
+fn print_changed(rt: &impl Print, name: &str, outcome: Outcome, bank: &Bank) -> io::Result<()> {
+    print!(rt; "{name}")?;
     text::print_outcome(rt, outcome)?;
     print_bank(rt, bank)
 }
 
 fn print_read_masks(rt: &impl Print, bytes: &[u8], at: usize, bank: &Bank) -> io::Result<()> {
-    text::print(rt, b"read_masks")?;
-    mask_records::print_stereo_masks(rt, bytes, at, Voices::Banked, *bank)
+    print!(rt; "read_masks")?;
+    mask_records::print_stereo_masks(rt, bytes, at, Voices::Banked, bank)
 }
 
 // Makes the call of the record at a place on the bank, and prints its line.
@@ -80,26 +75,26 @@ fn print_call(
     match call {
         0 => {
             *bank = spectral_dsp::new_bank();
-            print_made(rt, b"new_bank", bank)
+            print_made(rt, "new_bank", bank)
         }
         1 => {
             let outcome = spectral_dsp::add_voice(bank, id, voice);
-            print_changed(rt, b"add_voice", outcome, bank)
+            print_changed(rt, "add_voice", outcome, bank)
         }
         2 => {
             let outcome = spectral_dsp::remove_voice(bank, id);
-            print_changed(rt, b"remove_voice", outcome, bank)
+            print_changed(rt, "remove_voice", outcome, bank)
         }
         3 => {
             let outcome = spectral_dsp::change_voice(bank, id, voice);
-            print_changed(rt, b"change_voice", outcome, bank)
+            print_changed(rt, "change_voice", outcome, bank)
         }
         4 => print_read_masks(rt, bytes, at, bank),
         5 => {
             *bank = given_bank(bytes, at);
-            print_made(rt, b"given", bank)
+            print_made(rt, "given", bank)
         }
-        _ => text::print(rt, b"no such call"),
+        _ => print!(rt; "no such call"),
     }
 }
 

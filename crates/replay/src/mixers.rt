@@ -48,24 +48,24 @@ fn print_mixer(rt: &impl Print, mixer: &Mixer) -> io::Result<()> {
 fn print_named(rt: &impl Print, named: Option<usize>) -> io::Result<()> {
     match named {
         Some(strip) => text::print_count(rt, strip),
-        None => text::print(rt, b" nobody"),
+        None => print!(rt; " nobody"),
     }
 }
 
 // Prints the line of a mixer that is new or given.
-fn print_made(rt: &impl Print, name: &[u8], mixer: &Mixer) -> io::Result<()> {
-    text::print(rt, name)?;
+fn print_made(rt: &impl Print, name: &str, mixer: &Mixer) -> io::Result<()> {
+    print!(rt; "{name}")?;
     print_mixer(rt, mixer)
 }
 
 fn print_request(rt: &impl Print, strip: usize, mixer: &mut Mixer) -> io::Result<()> {
-    text::print(rt, b"request")?;
+    print!(rt; "request")?;
     text::print_outcome(rt, spectral_dsp::request(mixer, strip))?;
     print_mixer(rt, mixer)
 }
 
 fn print_turn(rt: &impl Print, mixer: &mut Mixer) -> io::Result<()> {
-    text::print(rt, b"turn")?;
+    print!(rt; "turn")?;
     print_named(rt, spectral_dsp::turn(mixer))?;
     print_mixer(rt, mixer)
 }
@@ -99,7 +99,7 @@ fn print_serve(
     scenes: &[Scene; STRIPS],
     mixer: &mut Mixer,
 ) -> io::Result<()> {
-    text::print(rt, b"serve")?;
+    print!(rt; "serve")?;
     let mut left = [mask_records::BEFORE; 8194];
     let mut right = [mask_records::BEFORE; 8194];
     let mut curve = [0.0f32; 8194];
@@ -122,7 +122,7 @@ fn print_serve(
 }
 
 fn print_scene(rt: &impl Print, strip: usize) -> io::Result<()> {
-    text::print(rt, b"scene")?;
+    print!(rt; "scene")?;
     text::print_count(rt, strip)
 }
 
@@ -139,17 +139,17 @@ fn print_call(
     match call {
         0 => {
             *mixer = spectral_dsp::new_mixer();
-            print_made(rt, b"new_mixer", mixer)
+            print_made(rt, "new_mixer", mixer)
         }
         1 => print_request(rt, strip, mixer),
         2 => print_turn(rt, mixer),
         3 => print_serve(rt, bytes, at, scenes, mixer),
         4 => {
             *mixer = given_mixer(bytes, at);
-            print_made(rt, b"given", mixer)
+            print_made(rt, "given", mixer)
         }
         SCENE => print_scene(rt, strip),
-        _ => text::print(rt, b"no such call"),
+        _ => print!(rt; "no such call"),
     }
 }
 
