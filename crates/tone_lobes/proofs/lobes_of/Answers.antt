@@ -1,6 +1,5 @@
 -- `lobes_of` computes every lobe: those below the current index are done. Assumes nothing.
 use mathlib.Core.Path.{◌≡◌, ◌∙◌}
-use Prim.Native.Nat.{◌-◌}
 use native.Mathlib.Omega.{arith}
 use lib.ListN.{length}
 use Rattle.lists.specs.Turned.{turned_none, turned_more}

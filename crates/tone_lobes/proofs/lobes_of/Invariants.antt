@@ -1,5 +1,5 @@
 -- `lobes_of` computes every lobe: those below the current index are done. Assumes nothing.
-use Prim.Native.Nat.{◌-◌, ◌≤◌}
+use Prim.Native.Nat.{◌≤◌}
 use Rattle.lists.specs.Turned.{Turned}
 use Rattle.lobes.specs.Distance.{logs_of}
 use Rattle.tone_lobes.proofs.Listed.{nth}

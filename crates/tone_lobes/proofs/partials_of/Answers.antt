@@ -1,6 +1,5 @@
 -- `partials_of` counts: the partials before the current one and those from it on are all. Assumes
 -- nothing.
-use Prim.Native.Nat.{◌-◌}
 use native.Mathlib.Omega.{arith}
 use Rattle.tone_lobes.proofs.Listed.{after_none, after_next, after_stop, after-all}
 use Rattle.tone_lobes.proofs.partials_of.Goals as goal

@@ -1,7 +1,7 @@
 -- `partials_of` counts: the partials before the current one and those from it on are all. Assumes
 -- nothing.
 use mathlib.Core.Path.{◌≡◌}
-use Prim.Native.Nat.{◌+◌, ◌-◌, ◌≤◌}
+use Prim.Native.Nat.{◌+◌, ◌≤◌}
 use lib.ListN.{length}
 use Rattle.tone_lobes.specs.ToneLobes.{partials_of}
 use Rattle.tone_lobes.proofs.Listed.{after}

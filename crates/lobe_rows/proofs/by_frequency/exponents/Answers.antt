@@ -2,12 +2,11 @@
 -- bell. Assumes nothing.
 use mathlib.Core.Path.{ap}
 use mathlib.Core.Logic.{inl}
-use Prim.Native.Nat.{◌-◌}
 use native.Mathlib.Omega.{arith}
 use lib.Ieee.{Float, nan, binary32, mul}
 use Rattle.lists.specs.Turned.{turned_none, turned-to}
 use Rattle.lists.specs.Runs.{turned-next}
-use Rattle.lobes.specs.Distance.{minus_half, in_widths}
+use Rattle.lobes.specs.Distance.{minus_half}
 use Rattle.lobe_rows.proofs.by_frequency.exponents.Goals as goal
 
 pub loop-k-init : goal.loop-k-init

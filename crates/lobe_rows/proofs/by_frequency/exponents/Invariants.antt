@@ -1,6 +1,6 @@
 -- `exponents` replaces the first `count` octaves: of those below k each is the exponent of its
 -- bell. Assumes nothing.
-use Prim.Native.Nat.{◌-◌, ◌≤◌}
+use Prim.Native.Nat.{◌≤◌}
 use lib.Ieee.{binary32, mul}
 use Rattle.lists.specs.Turned.{Turned}
 use Rattle.lobes.specs.Distance.{minus_half, in_widths}

@@ -1,12 +1,10 @@
 -- `lines` replaces the first `count` parts: of those below k each is the line from its own entry.
 -- Assumes nothing.
 use mathlib.Core.Logic.{inl}
-use Prim.Native.Nat.{◌-◌}
 use native.Mathlib.Omega.{arith}
 use lib.Ieee.{nan}
 use Rattle.lists.specs.Turned.{turned_none, turned-to}
 use Rattle.lists.specs.Runs.{turned-next}
-use Rattle.gaussian.specs.Bell.{line}
 use Rattle.lobe_rows.proofs.chunk.lines.Goals as goal
 
 pub loop-k-init : goal.loop-k-init

@@ -1,6 +1,6 @@
 -- `lines` replaces the first `count` parts: of those below k each is the line from its own entry.
 -- Assumes nothing.
-use Prim.Native.Nat.{◌-◌, ◌≤◌}
+use Prim.Native.Nat.{◌≤◌}
 use lib.ListN.{get_or}
 use Rattle.lists.specs.Turned.{Turned}
 use Rattle.gaussian.specs.Bell.{line}

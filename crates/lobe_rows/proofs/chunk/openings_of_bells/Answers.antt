@@ -1,12 +1,10 @@
 -- `openings_of_bells` replaces the first `count` bells: of those below k each is what the lobe
 -- opens under it. Assumes nothing.
 use mathlib.Core.Logic.{inl}
-use Prim.Native.Nat.{◌-◌}
 use native.Mathlib.Omega.{arith}
 use lib.Ieee.{nan}
 use Rattle.lists.specs.Turned.{turned_none, turned-to}
 use Rattle.lists.specs.Runs.{turned-next}
-use Rattle.lobe_rows.specs.Stages.{opened_by}
 use Rattle.lobe_rows.proofs.chunk.openings_of_bells.Goals as goal
 
 pub loop-k-init : goal.loop-k-init

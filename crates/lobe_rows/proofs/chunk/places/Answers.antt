@@ -1,11 +1,9 @@
 -- `places` replaces the first `count` entries: of those below k each is a place, by the distance
 -- that the table gives. Assumes nothing.
 use mathlib.Core.Logic.{inl}
-use Prim.Native.Nat.{◌-◌}
 use native.Mathlib.Omega.{arith}
 use lib.Ieee.{nan}
 use Rattle.lists.specs.Turned.{turned_none, turned_more, turned-to}
-use Rattle.lobe_rows.specs.Stages.{place_of}
 use Rattle.lobe_rows.proofs.chunk.places.Goals as goal
 
 pub loop-k-init : goal.loop-k-init

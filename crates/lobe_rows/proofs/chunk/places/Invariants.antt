@@ -1,6 +1,6 @@
 -- `places` replaces the first `count` entries: of those below k each is a place, by the distance
 -- that the table gives. Assumes nothing.
-use Prim.Native.Nat.{◌+◌, ◌-◌, ◌≤◌}
+use Prim.Native.Nat.{◌+◌, ◌≤◌}
 use lib.ListN.{get_or}
 use lib.Ieee.{nan, binary32, sub}
 use Rattle.lists.specs.Turned.{Turned}

@@ -1,6 +1,6 @@
 -- `steps` replaces the first `count` places, and as many indexes: of those below k each is what
 -- `step_of` ensures. Assumes nothing.
-use Prim.Native.Nat.{◌-◌, ◌≤◌}
+use Prim.Native.Nat.{◌≤◌}
 use lib.ListN.{get_or}
 use lib.Ieee.{nan}
 use Rattle.lists.specs.Turned.{Turned}

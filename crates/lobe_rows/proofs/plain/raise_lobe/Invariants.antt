@@ -2,7 +2,7 @@
 -- the chunk holds the openings of the next ones. Assumes nothing.
 use mathlib.Core.Path.{◌≡◌}
 use mathlib.Core.Logic.{◌⊎◌}
-use Prim.Native.Nat.{◌+◌, ◌-◌, ◌≤◌}
+use Prim.Native.Nat.{◌+◌, ◌≤◌}
 use lib.ListN.{length}
 use Rattle.lists.specs.Turned.{Turned}
 use Rattle.lobes.specs.Distance.{logs_of}

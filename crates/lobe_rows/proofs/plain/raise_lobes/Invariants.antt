@@ -1,7 +1,6 @@
 -- `raise_lobes`: joining the lobes from the current one on to what the bins hold now gives what
 -- joining all of them to what the bins held at entry gives. Assumes nothing.
 use mathlib.Core.Path.{◌≡◌}
-use Prim.Native.Nat.{◌-◌}
 use lib.ListN.{length, take}
 use Rattle.lists.specs.Maps.{map_at}
 use Rattle.lobes.specs.Distance.{logs_of}
