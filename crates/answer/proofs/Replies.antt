@@ -12,7 +12,7 @@ use Rattle.answer.specs.declared.CoherentGains.{CoherentGains}
 use Rattle.answer.specs.declared.Reason.{Reason}
 use Rattle.answer.specs.declared.Reason.TheVariants as reason
 use Rattle.answer.specs.declared.Refusal.{Refusal}
-use Rattle.answer.specs.Reply.{number_of, of_refusal, of_answer, of_outcome, of_prepared}
+use Rattle.answer.specs.Reply.{number, number_in, number_of, place, place_in, of_refusal, of_answer, of_outcome, of_prepared}
 
 -- the reason that has a number
 abbrev with_number : ℕ → Reason
@@ -80,3 +80,20 @@ same-prepared (Ok g) (Ok h) e =
 same-prepared (Ok g) (Err s) e = cc
 same-prepared (Err r) (Ok h) e = cc
 same-prepared (Err r) (Err s) e = ap Err (same_refusal r s e)
+
+-- ---- they are the reply's
+pub number-in-outcome : (o : Result (Unit {0}) Refusal) → number_in o ≡ number (of_outcome o)
+number-in-outcome (Ok u) = refl
+number-in-outcome (Err r) = refl
+
+pub place-in-outcome : (o : Result (Unit {0}) Refusal) → place_in o ≡ place (of_outcome o)
+place-in-outcome (Ok u) = refl
+place-in-outcome (Err r) = refl
+
+pub number-in-prepared : (p : Result CoherentGains Refusal) → number_in p ≡ number (of_prepared p)
+number-in-prepared (Ok g) = refl
+number-in-prepared (Err r) = refl
+
+pub place-in-prepared : (p : Result CoherentGains Refusal) → place_in p ≡ place (of_prepared p)
+place-in-prepared (Ok g) = refl
+place-in-prepared (Err r) = refl

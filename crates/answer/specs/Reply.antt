@@ -52,3 +52,12 @@ of_outcome (Err r) = of_refusal r
 abbrev pub of_prepared : Result CoherentGains Refusal → Reply
 of_prepared (Ok g) = done (g.window ∷ g.smooth_window ∷ [])
 of_prepared (Err r) = of_refusal r
+
+-- the number and the place of an answer that is a Result, whatever it answers where it is done
+abbrev pub number_in : {A : Type 0} → Result A Refusal → ℕ
+number_in (Ok a) = 0
+number_in (Err r) = number_of r.reason
+
+abbrev pub place_in : {A : Type 0} → Result A Refusal → ℕ
+place_in (Ok a) = 0
+place_in (Err r) = r.place

@@ -3,9 +3,10 @@
 #![tactic(auto)]
 
 ghost use Rattle.std.specs.Prelude.{◌≡◌};
-ghost use Rattle.answer.specs.Reply.{number, number_of, place, of_answer, of_outcome};
+ghost use Rattle.answer.specs.Reply.{number, number_in, number_of, place, place_in, of_answer};
 
 use limits::lengths::MIDI_NOTES;
+use std::error::Error;
 use std::fmt;
 
 // Why a call refuses, in the order of document 01's table, and of the requests after it.
@@ -113,6 +114,8 @@ impl fmt::Display for Refusal {
     }
 }
 
+impl Error for Refusal {}
+
 impl Answer {
     // Document 01's number: 0 where the call is done.
     pub fn number(self) -> u8
@@ -136,21 +139,21 @@ impl Answer {
 }
 
 // Document 01's number, for a caller that takes numbers: 0 where the call is done.
-pub fn number(outcome: Outcome) -> u8
-    ensures { result ≡ number (of_outcome outcome) }
+pub fn number<T: Copy>(answer: Result<T, Refusal>) -> u8
+    ensures { result ≡ number_in answer }
 {
-    match outcome {
-        Ok(()) => 0,
+    match answer {
+        Ok(_) => 0,
         Err(refusal) => refusal.reason.number(),
     }
 }
 
 // The place that a refusal names, else 0.
-pub fn place(outcome: Outcome) -> usize
-    ensures { result ≡ place (of_outcome outcome) }
+pub fn place<T: Copy>(answer: Result<T, Refusal>) -> usize
+    ensures { result ≡ place_in answer }
 {
-    match outcome {
-        Ok(()) => 0,
+    match answer {
+        Ok(_) => 0,
         Err(refusal) => refusal.place,
     }
 }

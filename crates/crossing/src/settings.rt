@@ -1,15 +1,30 @@
 // The settings of a motion and of a mask, from plain numbers, and those of a mask as plain numbers.
-ghost use Rattle.std.specs.Prelude.{◌≡◌, ◌<◌};
+ghost use Rattle.std.specs.Prelude.{◌≡◌, ◌<◌, cond};
 ghost use Rattle.std.specs.Result.{OkIff};
-ghost use Rattle.answer.specs.Reply.{of_refusal};
+ghost use Rattle.answer.specs.Refusal.{SIZE_OR_RATE, SETTING};
+ghost use Rattle.answer.specs.Reply.{refused, of_refusal};
+ghost use Rattle.scene.specs.Accepted.{size_accepted};
 ghost use Rattle.crossing.specs.Settings.{motion_of};
-ghost use Rattle.crossing.specs.MaskSettings.{plain_settings, shape_reply, Reads};
+ghost use Rattle.crossing.specs.MaskSettings.{config_of, plain_settings, Reads};
 
 use answer::{Reason, Refusal};
-use scene::shape_numbers::UnknownShape;
+use scene::shape_numbers::{UnknownShape, shape_of};
 use scene::{MaskConfig, MotionConfig, MotionShape};
 
-pub fn motion_of(
+// The shape is a number, 0..7 in the Rust's order; 8 and above count as 7.
+pub fn motion_of(shape: u32, depth_db: f32, phase: f32, size_octaves: f32) -> MotionConfig
+    ensures { result ≡ motion_of shape depth_db phase size_octaves }
+{
+    MotionConfig {
+        shape: shape_of(shape),
+        depth_db,
+        phase,
+        size_octaves,
+    }
+}
+
+// The same for a caller who refuses any other shape.
+pub fn try_motion_of(
     shape: u32,
     depth_db: f32,
     phase: f32,
@@ -17,13 +32,8 @@ pub fn motion_of(
 ) -> Result<MotionConfig, UnknownShape>
     ensures { OkIff result (shape < 8) (motion_of shape depth_db phase size_octaves) }
 {
-    let shape = MotionShape::try_from(shape)?;
-    Ok(MotionConfig {
-        shape,
-        depth_db,
-        phase,
-        size_octaves,
-    })
+    MotionShape::try_from(shape)?;
+    Ok(motion_of(shape, depth_db, phase, size_octaves))
 }
 
 // A mask's settings, with those of its motion. The shape is a number, 0..7 in the Rust's order.
@@ -43,12 +53,32 @@ pub struct Settings {
     pub motion_size_octaves: f32,
 }
 
-// A shape outside 0..7 is refusal 2, unless refusal 1 comes first.
-#[tactic(auto, unfolding(scene::specs::Accepted::size_accepted))]
-fn shape_refused(settings: Settings) -> Refusal
-    ensures { of_refusal result ≡ shape_reply settings }
+pub fn config_of(settings: Settings) -> MaskConfig
+    ensures { result ≡ config_of settings }
 {
-    if limits::size(settings.fft_size) && limits::rate(settings.sample_rate) {
+    MaskConfig {
+        sample_rate: settings.sample_rate,
+        fft_size: settings.fft_size,
+        note_depth_db: settings.note_depth_db,
+        note_layer_enabled: settings.note_layer_enabled,
+        width_cents: settings.width_cents,
+        partials: settings.partials,
+        harmonic_rolloff_db_per_octave: settings.harmonic_rolloff_db_per_octave,
+        motion: motion_of(
+            settings.motion_shape,
+            settings.motion_depth_db,
+            settings.motion_phase,
+            settings.motion_size_octaves,
+        ),
+    }
+}
+
+// A shape outside 0..7 is refusal 2, unless refusal 1 comes first.
+pub fn shape_refused(config: MaskConfig) -> Refusal
+    ensures { of_refusal result
+        ≡ cond (size_accepted config) (refused SETTING 0) (refused SIZE_OR_RATE 0) }
+{
+    if scene::size_accepted(config) {
         return Reason::Setting.into();
     }
     Reason::SizeOrRate.into()
@@ -60,25 +90,11 @@ impl TryFrom<Settings> for MaskConfig {
     ghost try_from_gives = { Reads };
 
     fn try_from(settings: Settings) -> Result<MaskConfig, Refusal> {
-        let motion = motion_of(
-            settings.motion_shape,
-            settings.motion_depth_db,
-            settings.motion_phase,
-            settings.motion_size_octaves,
-        );
-        match motion {
-            Ok(motion) => Ok(MaskConfig {
-                sample_rate: settings.sample_rate,
-                fft_size: settings.fft_size,
-                note_depth_db: settings.note_depth_db,
-                note_layer_enabled: settings.note_layer_enabled,
-                width_cents: settings.width_cents,
-                partials: settings.partials,
-                harmonic_rolloff_db_per_octave: settings.harmonic_rolloff_db_per_octave,
-                motion,
-            }),
-            Err(_) => Err(shape_refused(settings)),
+        let config = config_of(settings);
+        if 7 < settings.motion_shape {
+            return Err(shape_refused(config));
         }
+        Ok(config)
     }
 }
 

@@ -17,9 +17,10 @@ ghost use Rattle.crossing_banks.specs.Banked.{plain_banked};
 use answer::Outcome;
 use bank_masks::read_masks;
 use crossing::answers::give_outcome;
-use crossing::settings::{Settings, config_of, shape_refused};
+use crossing::settings::Settings;
+use scene::{MaskConfig, MaskVoice};
 use voice_bank::{Bank, add_voice, change_voice, remove_voice};
-use voice_records::{VoiceRecord, voice_of};
+use voice_records::VoiceRecord;
 
 // What a call on a bank answers, with C's layout: a number, 0 when done, a place, and the bank.
 #[repr(C)]
@@ -45,7 +46,7 @@ pub fn add(mut bank: Bank, id: u16, voice: VoiceRecord) -> PlainBanked
     ensures { result ≡ plain_banked (add_reply bank id (voice_of voice))
         (bank_added bank id (voice_of voice)) }
 {
-    let outcome = add_voice(&mut bank, id, voice_of(voice));
+    let outcome = add_voice(&mut bank, id, MaskVoice::from(voice));
     plain_banked(outcome, bank)
 }
 
@@ -62,7 +63,7 @@ pub fn change(mut bank: Bank, id: u16, voice: VoiceRecord) -> PlainBanked
     ensures { result ≡ plain_banked (change_reply bank id (voice_of voice))
         (bank_changed bank id (voice_of voice)) }
 {
-    let outcome = change_voice(&mut bank, id, voice_of(voice));
+    let outcome = change_voice(&mut bank, id, MaskVoice::from(voice));
     plain_banked(outcome, bank)
 }
 
@@ -88,10 +89,11 @@ pub fn read(
         bank config table.now)) (read_mask side.right manual_mask_db.now bank
         (config_of settings) table.now) right.old }
 {
-    let config = config_of(settings);
-    if 7 < settings.motion_shape {
-        return give_outcome(shape_refused(config), place);
+    match MaskConfig::try_from(settings) {
+        Ok(config) => {
+            let outcome = read_masks(left, right, manual_mask_db, &bank, config, table);
+            give_outcome(outcome, place)
+        }
+        Err(refusal) => give_outcome(Err(refusal), place),
     }
-    let outcome = read_masks(left, right, manual_mask_db, &bank, config, table);
-    give_outcome(outcome, place)
 }

@@ -12,9 +12,9 @@ ghost use Rattle.crossing.specs.Given.{Given};
 ghost use Rattle.crossing.specs.MaskSettings.{config_of, with_settings};
 
 use crossing::answers::give_outcome;
-use crossing::settings::{Settings, config_of, shape_refused};
+use crossing::settings::Settings;
 use limits::lengths::MOST_VOICES;
-use scene::MaskVoice;
+use scene::{MaskConfig, MaskVoice};
 
 // Without a table: every bin by its own frequency.
 pub fn mono(
@@ -33,12 +33,19 @@ pub fn mono(
         manual_mask_db.now (config_of settings) none side.mono (take count voices))
         output.old }
 {
-    let config = config_of(settings);
-    if 7 < settings.motion_shape {
-        return give_outcome(shape_refused(config), place);
+    match MaskConfig::try_from(settings) {
+        Ok(config) => {
+            let outcome = mono_calls::build_mask_with_voices(
+                output,
+                manual_mask_db,
+                voices,
+                count,
+                config,
+            );
+            give_outcome(outcome, place)
+        }
+        Err(refusal) => give_outcome(Err(refusal), place),
     }
-    let outcome = mono_calls::build_mask_with_voices(output, manual_mask_db, voices, count, config);
-    give_outcome(outcome, place)
 }
 
 // With the table of the bins' logarithms.
@@ -59,19 +66,20 @@ pub fn tabled(
         table.now)) (mask_of manual_mask_db.now (config_of settings)
         (lent table.now) side.mono (take count voices)) output.old }
 {
-    let config = config_of(settings);
-    if 7 < settings.motion_shape {
-        return give_outcome(shape_refused(config), place);
+    match MaskConfig::try_from(settings) {
+        Ok(config) => {
+            let outcome = mono_calls::build_mask_with_voices_precomputed(
+                output,
+                manual_mask_db,
+                voices,
+                count,
+                config,
+                table,
+            );
+            give_outcome(outcome, place)
+        }
+        Err(refusal) => give_outcome(Err(refusal), place),
     }
-    let outcome = mono_calls::build_mask_with_voices_precomputed(
-        output,
-        manual_mask_db,
-        voices,
-        count,
-        config,
-        table,
-    );
-    give_outcome(outcome, place)
 }
 
 // Both masks of a stereo pair.
@@ -99,20 +107,21 @@ pub fn stereo(
         (config_of settings) (lent table.now) side.right (take count voices))
         right.old }
 {
-    let config = config_of(settings);
-    if 7 < settings.motion_shape {
-        return give_outcome(shape_refused(config), place);
+    match MaskConfig::try_from(settings) {
+        Ok(config) => {
+            let outcome = mask_calls::build_stereo_masks_with_voices_precomputed(
+                left,
+                right,
+                manual_mask_db,
+                voices,
+                count,
+                config,
+                table,
+            );
+            give_outcome(outcome, place)
+        }
+        Err(refusal) => give_outcome(Err(refusal), place),
     }
-    let outcome = mask_calls::build_stereo_masks_with_voices_precomputed(
-        left,
-        right,
-        manual_mask_db,
-        voices,
-        count,
-        config,
-        table,
-    );
-    give_outcome(outcome, place)
 }
 
 // Uses the frequency table of a prepared spectrum, which begins after the four windows of its
@@ -144,18 +153,19 @@ pub fn prepared(
         (lent (drop (4 * settings.fft_size) block.now)) side.right
         (take count voices)) right.old }
 {
-    let config = config_of(settings);
-    if 7 < settings.motion_shape {
-        return give_outcome(shape_refused(config), place);
+    match MaskConfig::try_from(settings) {
+        Ok(config) => {
+            let outcome = mask_calls::build_stereo_masks_with_prepared_spectrum(
+                left,
+                right,
+                manual_mask_db,
+                voices,
+                count,
+                config,
+                block,
+            );
+            give_outcome(outcome, place)
+        }
+        Err(refusal) => give_outcome(Err(refusal), place),
     }
-    let outcome = mask_calls::build_stereo_masks_with_prepared_spectrum(
-        left,
-        right,
-        manual_mask_db,
-        voices,
-        count,
-        config,
-        block,
-    );
-    give_outcome(outcome, place)
 }

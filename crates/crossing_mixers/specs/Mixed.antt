@@ -1,6 +1,6 @@
 -- What a call on a mixer answers to a caller in C, and how the sixteen scenes come from one.
 -- Assumes nothing.
-use Rattle.std.specs.Prelude.{Bool, true, false, List, ℕ, get_or, Float, Option, Some, None}
+use Rattle.std.specs.Prelude.{Bool, List, ℕ, get_or, Float, Option, is_some, unwrap_or}
 use Rattle.answer.specs.Reply.{Reply, number, place}
 use Rattle.lobes.specs.Pan.{Side}
 use Rattle.mixer.specs.declared.Mixer.{Mixer}
@@ -17,12 +17,10 @@ use Rattle.crossing_mixers.specs.declared.StripScenes.{StripScenes}
 
 -- whether a turn names a strip, and which one; 0 where it names none
 abbrev pub is_strip : Option ℕ → Bool
-is_strip (Some strip) = true
-is_strip None = false
+is_strip named = is_some named
 
 abbrev pub strip_of : Option ℕ → ℕ
-strip_of (Some strip) = strip
-strip_of None = 0
+strip_of named = unwrap_or named 0
 
 abbrev pub plain_filed : Reply → Mixer → PlainFiled
 plain_filed reply mixer = record { number = number reply; place = place reply; mixer = mixer }

@@ -13,10 +13,10 @@ ghost use Rattle.crossing_mixers.specs.Mixed.{plain_filed, plain_turned, plain_s
 ghost use Rattle.crossing_mixers.specs.Mixed.{plain_reply, plain_mask, plain_at};
 
 use answer::{Outcome, Reason};
-use crossing::settings::{config_of, shape_refused};
-use crossing_scenes::{PlainScene, scene_of};
+use crossing_scenes::PlainScene;
 use mixer::{Mixer, STRIPS, request, turn};
 use mixer_masks::{build_scene, scene_place};
+use scene::Scene;
 
 // What a request answers, with C's layout: a number, 0 when done, a place, and the mixer.
 #[repr(C)]
@@ -101,11 +101,8 @@ fn build_plain(
     ensures right_after { right.new ≡ written (of_outcome result) (plain_mask side.right
         manual_mask_db.now plain.now table.now) right.old }
 {
-    let settings = plain.settings;
-    if 7 < settings.motion_shape {
-        return shape_refused(config_of(settings));
-    }
-    build_scene(left, right, manual_mask_db, &scene_of(*plain), table)
+    let scene = Scene::try_from(*plain)?;
+    build_scene(left, right, manual_mask_db, &scene, table)
 }
 
 // Builds the masks of the scene of the strip that a turn has named, if it has named one.

@@ -11,10 +11,10 @@ use Rattle.scene.specs.declared.Scene.{Scene}
 use Rattle.scene.specs.Accepted.{no_voice}
 use Rattle.scene.proofs.Parts.{fields-same}
 use Rattle.scene.proofs.Shapes.{shape-of-number}
-use Rattle.crossing.specs.MaskSettings.{config_of}
+use Rattle.crossing.specs.MaskSettings.{config_of, plain_settings}
 use Rattle.voice_records.specs.VoiceRecords.{plain_voice, voices_of_record}
 use Rattle.voice_records.proofs.RecordVoices.{voice-back}
-use Rattle.crossing_scenes.specs.Scenes.{scene_of, plain_settings, plain_scene}
+use Rattle.crossing_scenes.specs.Scenes.{scene_of, plain_scene}
 
 -- ---- what goes to C and comes back
 settings-back : (config : MaskConfig) → config_of (plain_settings config) ≡ config

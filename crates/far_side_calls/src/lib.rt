@@ -6,9 +6,9 @@ ghost use Rattle.chord_law.specs.Calls.{call_of, whole_with};
 ghost use Rattle.far_side_law.specs.FarSide.{FarSideSilent};
 ghost use Rattle.far_side_calls.specs.Leaves.{Leaves};
 
+use answer::Outcome;
 use limits::lengths::MOST_VOICES;
 use mask_calls::build_stereo_masks_with_voices_precomputed;
-use paired_calls::Outcomes;
 use scene::{MaskConfig, MaskVoice};
 
 // Builds the masks of two scenes, A's and B's.
@@ -27,15 +27,15 @@ pub fn two_scenes(
     b_count: usize,
     b_config: MaskConfig,
     b_table: &[f32],
-) -> Outcomes
+) -> (Outcome, Outcome)
     ensures leaves { Leaves (call_of (length a_left.old)
         (length a_right.old) a_curve.now a_voices a_count a_config
         a_table.now) a_left.old a_right.old
-        (of_outcome result.a) a_left.new a_right.new }
+        (of_outcome result.0) a_left.new a_right.new }
     ensures leaves_2 { Leaves (call_of (length b_left.old)
         (length b_right.old) b_curve.now b_voices b_count b_config
         b_table.now) b_left.old b_right.old
-        (of_outcome result.b) b_left.new b_right.new }
+        (of_outcome result.1) b_left.new b_right.new }
     ensures far_side_silent { FarSideSilent (whole_with (call_of (length a_left.old)
         (length a_right.old) a_curve.now a_voices a_count a_config
         a_table.now) a_left.new a_right.new)
@@ -49,5 +49,5 @@ pub fn two_scenes(
     let b = build_stereo_masks_with_voices_precomputed(
         b_left, b_right, b_curve, b_voices, b_count, b_config, b_table,
     );
-    Outcomes { a: a, b: b }
+    (a, b)
 }

@@ -7,7 +7,6 @@ use lib.Ieee.Scale.{overflow}
 use Rattle.float_laws.specs.Units.{real, number, real-number, real-of-size, mag, mag-below, sign, key, lt→key, key→lt}
 use Rattle.float_laws.specs.Round.{plus_zero}
 use Rattle.float_laws.specs.Power.{power, mag-power, real-power}
-use Rattle.float_laws.specs.Bounds.{one}
 use Rattle.float32.specs.Order.{magnitude}
 use Rattle.float32.specs.Remainder as remainder
 use Rattle.float32.specs.Remainder.{rem_euclid_one, whole_part, all_whole}

@@ -2,9 +2,9 @@
 -- it is below 1 by monotone rounding, in three stretches. From 3/4 up 3 - 2 * p is exact and p * p
 -- is off by at most one part in 2 ^ 24; the exact product is at most 1, so what is rounded last is
 -- at most 1 + 2 ^ -24, and that rounds to 1. Assumes nothing.
-use Rattle.std.proofs.Common.{◌≡◌, ℕ, ◌+◌, ◌-◌, ◌*◌, ◌^◌, ◌<◌, ◌≤◌, false, T, pos, negsuc, sym, refl, ap, ◌∙◌, subst, inl, inr, le_trans, le_of_eq, lt_of_le_of_lt, mul-le-mul_right, mul-one, arith, lit<, lit≤}
+use Rattle.std.proofs.Common.{◌≡◌, ℕ, ◌+◌, ◌*◌, ◌^◌, ◌≤◌, false, T, pos, negsuc, sym, refl, ap, ◌∙◌, subst, inl, inr, le_trans, le_of_eq, lt_of_le_of_lt, mul-le-mul_right, mul-one, arith, lit<, lit≤}
 use lib.Count.{count_trailing_zeros}
-use lib.Ieee.{Float, fin, binary32, low, le, sub, mul, of_bits, fits, neg, add, sum, round, size, span, climb, units, odd}
+use lib.Ieee.{Float, fin, binary32, le, sub, mul, of_bits, fits, neg, add, sum, round, size, span, climb, units, odd}
 use lib.Ieee.Scale.{overflow}
 use Rattle.float_laws.specs.Units.{mag, number, real, key, real-number}
 use Rattle.float_laws.specs.Order.{le-refl-f, le-trans-f, le-total-f}

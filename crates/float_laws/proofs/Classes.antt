@@ -9,13 +9,13 @@ use Rattle.std.proofs.Math.ListN.{get_or-append}
 use Rattle.std.specs.Float.{nan, Format, binary32}
 use Rattle.std.specs.Float.Ieee.{prec, emax, low, fits, le, unlike, add, mul, div, of_bits, odd, of_fields}
 use Rattle.lists.specs.Maps.{tabulate, length-tab, get_d_tabulate}
-use Rattle.lists.specs.Folds.{fold, range, fold-tab}
+use Rattle.lists.specs.Folds.{range, fold-tab}
 use Rattle.lists.specs.Totals.{total, All, all-tab, total-tab, total-same, total-none, residues, residues-rows}
 use Rattle.float_laws.specs.Units.{mag, sign, real}
 use Rattle.float_laws.specs.Order.{maximum}
 use Rattle.float_laws.specs.Round.{plus_zero}
 use Rattle.float_laws.specs.Near.{Near, near-20}
-use Rattle.float_laws.specs.Window.{squared, energy, dual, turn, length-turn, AtMost16, at-most-16, sixteen, window-near, window-sign, window-real}
+use Rattle.float_laws.specs.Window.{energy, dual, turn, length-turn, AtMost16, at-most-16, sixteen, window-near, window-sign, window-real}
 use Rattle.float_laws.specs.Classes.{energy_at, dual_by, gain, loss, SumsToOne, least_divisor, dual_at}
 
 gain-alike : (f : Format) (x y : Float) → sign y ≡ sign x → gain f x y ≡ mag f x * mag f y

@@ -3,22 +3,15 @@
 -- sum.
 -- The indices of one residue class modulo hop read one list of values, each from its own place on,
 -- so the bound of Window is one of the slice. Assumes nothing.
-use Rattle.std.specs.Prelude.{◌≡◌, refl, Bool, true, false, cond, List, ℕ, ◌+◌, ◌-◌, ◌*◌, ◌/◌, ◌%◌, ◌^◌, ◌≤◌, ◌<◌, T, eqb, length, get_or, take, drop, Float}
-use Rattle.std.proofs.Common.{sym, ap, ◌∙◌, subst, zero-add, one-mul, add-mul, mod-eq_of_lt, div-add-mod', div-lt_iff_lt-mul, le_trans, le_of_eq, lt_of_lt_of_le, arith, lit≤, length-drop, ext_get_or, get_or-append-add, get_or-drop, get_or-take}
-use Rattle.std.proofs.Math.Decide.{dec_lt}
-use Rattle.std.proofs.Math.Arith.{digits_lt, digits_mod}
-use Rattle.std.specs.Int.Count.{count_trailing_zeros}
-use Rattle.std.proofs.Math.ListN.{get_or-append}
+use Rattle.std.specs.Prelude.{◌≡◌, cond, List, ℕ, ◌+◌, ◌*◌, ◌%◌, ◌^◌, ◌≤◌, ◌<◌, T, length, get_or, Float}
 use Rattle.std.specs.Float.{nan, Format, binary32}
-use Rattle.std.specs.Float.Ieee.{prec, emax, low, fits, le, unlike, add, mul, div, of_bits, odd, of_fields}
-use Rattle.lists.specs.Maps.{tabulate, length-tab, get_d_tabulate}
-use Rattle.lists.specs.Folds.{fold, range, fold-tab}
-use Rattle.lists.specs.Totals.{total, All, all-tab, total-tab, total-same, total-none, residues, residues-rows}
+use Rattle.std.specs.Float.Ieee.{low, unlike, add, div, of_bits}
+use Rattle.lists.specs.Folds.{fold, range}
+use Rattle.lists.specs.Totals.{residues}
 use Rattle.float_laws.specs.Units.{mag, sign, real}
 use Rattle.float_laws.specs.Order.{maximum}
 use Rattle.float_laws.specs.Round.{plus_zero}
-use Rattle.float_laws.specs.Near.{Near, near-20}
-use Rattle.float_laws.specs.Window.{squared, energy, dual, turn, length-turn, AtMost16, at-most-16, sixteen, window-near, window-sign, window-real}
+use Rattle.float_laws.specs.Window.{squared}
 
 -- ---- the code's step: the sum of squares that index i divides by, and its dual
 abbrev pub energy_at : Format → List Float → ℕ → ℕ → ℕ → Float

@@ -2,7 +2,7 @@
 -- negative and at most 2 ^ k. `Rise f k x y` says that of x and y, and that x is at most y. Each
 -- operation has one law: what its operands' relations give for its result. A chain's law is these
 -- laws applied in the chain's order. Assumes nothing.
-use Rattle.std.specs.Prelude.{◌≡◌, false, ℕ, suc, ◌+◌, ◌*◌, ◌-◌, ◌^◌, ◌≤◌, max, T}
+use Rattle.std.specs.Prelude.{◌≡◌, false, ℕ, suc, ◌+◌, ◌*◌, ◌^◌, ◌≤◌, max, T}
 use Rattle.std.proofs.Common.{sym, ap, ◌∙◌, subst, subst₂, le_trans, le_of_eq, mul-le-mul, mul-le-mul_right, pow-suc, mul_right_comm, arith, pow_pos, pow-add, pow_mono}
 use Rattle.std.proofs.Math.Nat.{mul-mul-mul_comm}
 use lib.Ieee.{Float, Format, emax, low, le, add, mul}

@@ -2,28 +2,21 @@
 -- builders answer and write what they do for the list itself: more than 128 voices are refused, and
 -- of at most 128 they read the first entries of the array, as many as the list has. Assumes
 -- nothing.
-use mathlib.Core.Path.{◌≡◌, refl, sym, ap, ◌∙◌, subst}
-use mathlib.Core.Bool.{Bool, true, false, cond, not}
-use mathlib.Core.List.{List, []}
+use mathlib.Core.Path.{◌≡◌, refl, ap}
+use mathlib.Core.Bool.{Bool}
+use mathlib.Core.List.{List}
 use Prim.Native.Nat.{ℕ, ◌≤◌}
-use lib.Dec.{T, ltb, nltb→le}
 use lib.Ieee.{Float}
 use lib.ListN.{length, take}
-use lib.Seq.{take-length}
-use Rattle.lists.specs.Folds.{first_bad}
-use Rattle.answer.specs.Refusal.{VOICE_COUNT, LENGTH, VOICE}
 use Rattle.answer.specs.Reply.{Reply, done, refused}
 use Rattle.answer.specs.Written.{written}
 use Rattle.scene.specs.declared.MaskVoice.{MaskVoice}
 use Rattle.scene.specs.declared.MaskConfig.{MaskConfig}
-use Rattle.scene.specs.Accepted.{voice_accepted}
-use Rattle.limits.specs.Lengths.{most_voices}
 use Rattle.refusals.specs.Masks.{first, settings_reply, voices_reply, table_reply}
 use Rattle.refusals.specs.Masks.{voices_mask_reply, tabled_mask_reply, stereo_reply}
 use Rattle.refusals.proofs.Heard.{all-heard, voices-same}
 use Rattle.refusals.proofs.MaskAccepted.{Done, both-done, voices-done}
 use Rattle.scene.specs.Gathered.{gathered}
-use Rattle.scene.proofs.Gathered.{take-gathered}
 
 module _ (voices : List MaskVoice) (count : ℕ) (counted : count ≡ length voices) where
   -- ---- the replies

@@ -1,17 +1,16 @@
 -- What the place of the first entry that fails a test says: it is at most the length, every entry
 -- before it passes, and the entry at it, if there is one, fails. Assumes nothing.
-use Rattle.std.specs.Prelude.{◌≡◌, Bool, get_or, take, drop}
-use Rattle.std.proofs.Math.Path.{refl, sym, ap, subst}
-use Rattle.std.proofs.Common.{◌∙◌, le_of_suc-le-suc, not-suc-le-zero, zero-add, le_refl, add-one, drop_of_length-le, length-take, drop-cons, get_or-take, length-take-le}
+use Rattle.std.specs.Prelude.{◌≡◌, Bool, get_or}
+use Rattle.std.proofs.Math.Path.{refl, sym, subst}
+use Rattle.std.proofs.Common.{◌∙◌, le_of_suc-le-suc, not-suc-le-zero, zero-add, le_refl}
 use Rattle.std.proofs.Math.Bool.{true, false, cond}
-use mathlib.Core.List.{List, [], ◌∷◌, ◌++◌}
+use mathlib.Core.List.{List, [], ◌∷◌}
 use Prim.Native.Nat.{ℕ, zero, suc, ◌+◌, ◌-◌, ◌≤◌, ◌<◌}
 use Rattle.std.proofs.Math.Nat.{add-zero, suc-add, add-suc, sub-zero}
 use Rattle.std.proofs.Math.Decide.{dec_lt}
 use native.Mathlib.Omega.{arith}
 use Rattle.std.proofs.Math.Dec.{T}
 use Rattle.std.proofs.Math.ListN.{length}
-use Rattle.lists.specs.Maps.{tab_from}
 use Rattle.lists.specs.Folds.{first_bad_from, first_bad}
 
 module _ {A : Type 0} where

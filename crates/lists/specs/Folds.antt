@@ -5,15 +5,12 @@
 -- entry and the rest after it, or nothing. The step, stop and end laws take that as their first
 -- fact. Assumes nothing.
 use Rattle.std.specs.Prelude.{◌≡◌, Bool, get_or, take, drop}
-use Rattle.std.proofs.Math.Path.{refl, sym, ap, subst}
-use Rattle.std.proofs.Common.{◌∙◌, le_of_suc-le-suc, not-suc-le-zero, zero-add, le_refl, add-one, drop_of_length-le, length-take, drop-cons, get_or-take, length-take-le}
+use Rattle.std.proofs.Math.Path.{refl, ap}
+use Rattle.std.proofs.Common.{◌∙◌, add-one, drop_of_length-le, length-take, drop-cons, get_or-take, length-take-le}
 use Rattle.std.proofs.Math.Bool.{true, false, cond}
 use mathlib.Core.List.{List, [], ◌∷◌, ◌++◌}
 use Prim.Native.Nat.{ℕ, zero, suc, ◌+◌, ◌-◌, ◌≤◌, ◌<◌}
-use Rattle.std.proofs.Math.Nat.{add-zero, suc-add, add-suc, sub-zero}
-use Rattle.std.proofs.Math.Decide.{dec_lt}
 use native.Mathlib.Omega.{arith}
-use Rattle.std.proofs.Math.Dec.{T}
 use Rattle.std.proofs.Math.ListN.{length}
 use Rattle.lists.specs.Maps.{tab_from}
 

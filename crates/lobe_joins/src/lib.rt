@@ -6,7 +6,6 @@ ghost use Rattle.std.specs.Float.{nan};
 ghost use Rattle.lists.specs.Maps.{map_range};
 ghost use Rattle.lobe_joins.specs.Joined.{joined};
 
-
 // What a bin holds after a lobe is joined to it; `gain` is the voice's gain on this side.
 fn joined(held: f32, opening: f32, gain: f32) -> f32
     ensures { result ≡ joined gain held opening }

@@ -13,7 +13,7 @@ ghost use Rattle.bank_masks.specs.Reading.{read_reply};
 ghost use Rattle.bank_law.specs.Calls.{reading_of, answer_with};
 ghost use Rattle.bank_law.specs.Promises.{BanksNotAudible};
 
-use answer::{Outcome, Prepared};
+use answer::{CoherentGains, Outcome, Refusal};
 use bank_masks::read_masks;
 use limits::lengths::MOST_VOICES;
 use mask_calls::{
@@ -23,14 +23,7 @@ use processing_calls::PreparedSpectrum;
 use scene::{MaskConfig, MaskVoice};
 use voice_bank::Bank;
 
-// What two calls answer.
-#[derive(Clone, Copy)]
-pub struct Outcomes {
-    pub a: Outcome,
-    pub b: Outcome,
-}
-
-// Makes two stereo calls, A's and B's.
+// Makes two stereo calls, A's and B's, and gives what they answer.
 pub fn two_stereo_calls(
     a_left: &mut [f32],
     a_right: &mut [f32],
@@ -46,11 +39,11 @@ pub fn two_stereo_calls(
     b_count: usize,
     b_config: MaskConfig,
     b_table: &[f32],
-) -> Outcomes
-    ensures a_value { of_outcome result.a ≡ reply_to (call_of (length a_left.old)
+) -> (Outcome, Outcome)
+    ensures a_value { of_outcome result.0 ≡ reply_to (call_of (length a_left.old)
         (length a_right.old) a_curve.now a_voices a_count a_config
         a_table.now) }
-    ensures b_value { of_outcome result.b ≡ reply_to (call_of (length b_left.old)
+    ensures b_value { of_outcome result.1 ≡ reply_to (call_of (length b_left.old)
         (length b_right.old) b_curve.now b_voices b_count b_config
         b_table.now) }
     ensures law_holds { LawHolds (whole_with (call_of (length a_left.old)
@@ -66,7 +59,7 @@ pub fn two_stereo_calls(
     let b = build_stereo_masks_with_voices_precomputed(
         b_left, b_right, b_curve, b_voices, b_count, b_config, b_table,
     );
-    Outcomes { a: a, b: b }
+    (a, b)
 }
 
 // Reads the masks of two banks with one curve, the same settings and one table.
@@ -80,11 +73,11 @@ pub fn read_two_banks(
     curve: &[f32],
     config: MaskConfig,
     table: &[f32],
-) -> Outcomes
-    ensures a_value { of_outcome result.a ≡ read_reply (length a_left.old)
+) -> (Outcome, Outcome)
+    ensures a_value { of_outcome result.0 ≡ read_reply (length a_left.old)
         (length a_right.old) curve.now a_bank config
         table.now }
-    ensures b_value { of_outcome result.b ≡ read_reply (length b_left.old)
+    ensures b_value { of_outcome result.1 ≡ read_reply (length b_left.old)
         (length b_right.old) curve.now b_bank config
         table.now }
     ensures banks_not_audible { BanksNotAudible a_bank b_bank
@@ -92,22 +85,15 @@ pub fn read_two_banks(
         table.now)
         (reading_of b_left.old b_right.old curve.now config
         table.now)
-        (answer_with (of_outcome result.a) a_left.new a_right.new)
-        (answer_with (of_outcome result.b) b_left.new b_right.new) }
+        (answer_with (of_outcome result.0) a_left.new a_right.new)
+        (answer_with (of_outcome result.1) b_left.new b_right.new) }
 {
-    let a = read_masks(a_left, a_right, curve, a_bank, config, table);
-    let b = read_masks(b_left, b_right, curve, b_bank, config, table);
-    Outcomes { a: a, b: b }
+    let a = read_masks(a_left, a_right, curve, &a_bank, config, table);
+    let b = read_masks(b_left, b_right, curve, &b_bank, config, table);
+    (a, b)
 }
 
-// What a call that fills a block and a stereo call by it answer.
-#[derive(Clone, Copy)]
-pub struct Answers {
-    pub prepared: Prepared,
-    pub masks: Outcome,
-}
-
-// Fills the block, then builds both masks by it.
+// Fills the block, then builds both masks by it, and gives what the two calls answer.
 pub fn prepare_and_build(
     sample_rate: f32,
     window: &[f32],
@@ -120,20 +106,17 @@ pub fn prepare_and_build(
     voices: [MaskVoice; MOST_VOICES],
     count: usize,
     config: MaskConfig,
-) -> Answers
-    ensures prepared_value { of_prepared result.prepared ≡ new_reply (new_of sample_rate
+) -> (Result<CoherentGains, Refusal>, Outcome)
+    ensures prepared_value { of_prepared result.0 ≡ new_reply (new_of sample_rate
         window.now smooth.now overlap block.old) }
     ensures built_by_block { BuiltByBlock (new_of sample_rate
         window.now smooth.now overlap block.old)
         (stereo_of left.old right.old curve.now voices count config)
-        (built_of (of_outcome result.masks) left.new right.new) }
+        (built_of (of_outcome result.1) left.new right.new) }
 {
     let prepared = PreparedSpectrum::new(sample_rate, window, smooth, overlap, block);
     let masks = build_stereo_masks_with_prepared_spectrum(
         left, right, curve, voices, count, config, block,
     );
-    Answers {
-        prepared: prepared,
-        masks: masks,
-    }
+    (prepared, masks)
 }

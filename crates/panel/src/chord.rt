@@ -1,6 +1,6 @@
 // The scene: C minor seventh, with the third on the left, the fifth on the right, and the seventh
 // near 7:4.
-use limits::lengths::MOST_VOICES;
+use limits::lengths::{MANUAL_MASK_POINTS, MOST_VOICES};
 use scene::{MaskConfig, MaskVoice, MotionConfig, MotionShape, Pitch};
 
 pub const SAMPLE_RATE: f32 = 48000.0;
@@ -36,7 +36,7 @@ pub fn config() -> MaskConfig {
         width_cents: 40.0,
         partials: PARTIALS as usize,
         harmonic_rolloff_db_per_octave: 3.0,
-        motion: motion,
+        motion,
     }
 }
 
@@ -44,12 +44,12 @@ fn voice(note: u8, level: f32, tuning_semitones: f32, pan: f32) -> MaskVoice {
     let pitch = Pitch::Note(note, tuning_semitones);
     MaskVoice {
         pitch,
-        level: level,
+        level,
         pressure: 1.0,
         timbre: 0.5,
         volume_gain: 1.0,
         expression_gain: 1.0,
-        pan: pan,
+        pan,
     }
 }
 
@@ -65,16 +65,14 @@ pub fn voices() -> [MaskVoice; MOST_VOICES] {
 
 // Muted around the seventh's highest partial.
 fn drawn_db(point: u16) -> f32 {
-    if 1200 <= point {
-        if point < 1300 {
-            return MUTE_DB;
-        }
+    if 1200 <= point && point < 1300 {
+        return MUTE_DB;
     }
     point as f32 * SLOPE_DB
 }
 
-pub fn curve() -> [f32; 8193] {
-    let mut curve = [0.0f32; 8193];
+pub fn curve() -> [f32; MANUAL_MASK_POINTS] {
+    let mut curve = [0.0f32; MANUAL_MASK_POINTS];
     for point in 0u16..8193 {
         curve[point as usize] = drawn_db(point);
     }

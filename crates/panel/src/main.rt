@@ -7,15 +7,9 @@ mod figures;
 mod plot;
 mod rows;
 
-use answer::Outcome;
 use chord::BINS;
-use figures::print;
 use std::env::{Env, FillError};
 use std::io;
-
-fn print_refusal(rt: &impl Print, number: u8, place: usize) -> io::Result<()> {
-    println!(rt; "refused {number} {place}")
-}
 
 fn show(
     rt: &impl Print,
@@ -44,8 +38,8 @@ fn build_and_show(rt: &impl Print, plotted: bool, table: &[f32; BINS]) -> io::Re
         table,
     );
     match outcome {
-        Outcome::Done => show(rt, plotted, table, &left, &right),
-        Outcome::Refused(number, place) => print_refusal(rt, number, place),
+        Ok(()) => show(rt, plotted, table, &left, &right),
+        Err(refusal) => println!(rt; "{refusal}"),
     }
 }
 
@@ -57,22 +51,18 @@ fn run(rt: &impl Print, plotted: bool) -> io::Result<()> {
         chord::FFT_SIZE,
     );
     match outcome {
-        Outcome::Done => build_and_show(rt, plotted, &table),
-        Outcome::Refused(number, place) => print_refusal(rt, number, place),
+        Ok(()) => build_and_show(rt, plotted, &table),
+        Err(refusal) => println!(rt; "{refusal}"),
     }
 }
 
-fn same(a: &[u8], b: &[u8]) -> bool {
-    a == b
-}
-
 fn print_usage(rt: &impl Print) -> io::Result<()> {
-    print(rt, b"usage: panel [--plot]\n")
+    println!(rt; "usage: panel [--plot]")
 }
 
 // Does what the argument says.
 fn run_with(rt: &impl Print, word: &[u8]) -> io::Result<()> {
-    if same(word, b"--plot") {
+    if word == b"--plot".as_slice() {
         return run(rt, true);
     }
     print_usage(rt)

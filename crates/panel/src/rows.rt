@@ -1,9 +1,9 @@
 // The gains at the bins closest to the chord's partials, in ascending order, one row per bin.
 use crate::chord;
 use crate::chord::{BIN_HZ, BINS};
-use crate::figures::{print, print_decibels, print_in_column};
+use crate::figures::print_decibels;
 use answer::Answer;
-use counts::floor_to_count;
+use counts::{floor_to_count, millionths};
 use scene::{MaskVoice, Pitch};
 use std::io;
 
@@ -31,43 +31,34 @@ fn mark_note(marked: &mut [bool; BINS], note: u8, tuning_semitones: f32) {
 }
 
 fn mark_voice(marked: &mut [bool; BINS], voice: MaskVoice) {
-    let pitch = voice.pitch;
-    match pitch {
+    match voice.pitch {
         Pitch::Note(note, tuning_semitones) => mark_note(marked, note, tuning_semitones),
         Pitch::Hertz(hertz) => mark_partials(marked, hertz),
     }
 }
 
 fn mark_chord(marked: &mut [bool; BINS]) {
-    let voices = chord::voices();
-    for i in 0..chord::VOICES {
-        mark_voice(marked, voices[i]);
+    for voice in &chord::voices()[..chord::VOICES] {
+        mark_voice(marked, *voice);
     }
 }
 
 fn print_row(rt: &impl Print, bin: u16, left: f32, right: f32) -> io::Result<()> {
-    print_in_column(rt, 4, bin as u64)?;
-    print_in_column(rt, 7, floor_to_count(bin as f32 * BIN_HZ) as u64)?;
-    print_in_column(rt, 12, counts::millionths(left))?;
-    print_in_column(rt, 12, counts::millionths(right))?;
+    let hertz = floor_to_count(bin as f32 * BIN_HZ);
+    print!(rt;
+        "{bin:>4}{hertz:>7}{:>12}{:>12}",
+        millionths(left),
+        millionths(right)
+    )?;
     print_decibels(rt, 10, left)?;
     print_decibels(rt, 10, right)?;
-    print(rt, b"\n")
+    println!(rt; "")
 }
 
 fn print_heading(rt: &impl Print) -> io::Result<()> {
-    print(
-        rt,
-        b"C minor seventh at 48000 Hz, size 8192: the bins closest to its partials\n",
-    )?;
-    print(
-        rt,
-        b"                   gain, millionths            decibels\n",
-    )?;
-    print(
-        rt,
-        b" bin  hertz        left       right      left     right\n",
-    )
+    println!(rt; "C minor seventh at 48000 Hz, size 8192: the bins closest to its partials")?;
+    println!(rt; "                   gain, millionths            decibels")?;
+    println!(rt; " bin  hertz        left       right      left     right")
 }
 
 pub fn print_rows(rt: &impl Print, left: &[f32; BINS], right: &[f32; BINS]) -> io::Result<()> {

@@ -10,7 +10,7 @@ ghost use Rattle.record_heads.specs.Heads.{head_number, settings_floats, head_by
 ghost use Rattle.record_heads.specs.Heads.{head_in, count_of, zero_bits, settings_of, settings_in};
 
 use record_words::{FLOATS, floats_at, put_floats, put_three, three_at};
-use scene::{MaskConfig, MotionConfig, MotionShape};
+use scene::{MaskConfig, MotionConfig};
 
 // The small fields take this many bytes.
 const FIELDS: usize = 3;
@@ -86,10 +86,8 @@ pub fn zero_bits(number: u32) -> bool
 fn motion_of(number: u32, floats: [f32; FLOATS]) -> MotionConfig
     ensures { result ≡ (settings_of number floats).motion }
 {
-    // Three bits are always a shape's number.
-    let shape = MotionShape::try_from(field_at(number, 16, 7)).unwrap();
     MotionConfig {
-        shape,
+        shape: scene::shape_of(field_at(number, 16, 7)),
         depth_db: floats[4],
         phase: floats[5],
         size_octaves: floats[6],

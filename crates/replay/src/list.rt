@@ -8,27 +8,6 @@ use std::io;
 use std::io::Read;
 use std::rt::Files;
 
-fn wide(byte: u8) -> u32
-    ensures { result < 256 }
-{
-    byte as u32
-}
-
-// The word that begins at a byte; 0 past the list's end.
-fn word_from(bytes: &[u8], at: usize) -> u32 {
-    if bytes.len() < 4 {
-        return 0;
-    }
-    if bytes.len() - 4 < at {
-        return 0;
-    }
-    let b0 = wide(bytes[at]);
-    let b1 = wide(bytes[at + 1]);
-    let b2 = wide(bytes[at + 2]);
-    let b3 = wide(bytes[at + 3]);
-    ((b0 * 256 + b1) * 256 + b2) * 256 + b3
-}
-
 // The number of whole words.
 pub fn words(bytes: &[u8]) -> usize {
     bytes.len() / 4
@@ -36,11 +15,17 @@ pub fn words(bytes: &[u8]) -> usize {
 
 // The word with this number past another; 0 past the list's end.
 pub fn word(bytes: &[u8], at: usize, past: usize) -> u32 {
-    let index = std::num::wrapping_add_usize(at, past);
+    let index = at.wrapping_add(past);
     if bytes.len() / 4 <= index {
         return 0;
     }
-    word_from(bytes, index * 4)
+    let first = index * 4;
+    u32::from_be_bytes([
+        bytes[first],
+        bytes[first + 1],
+        bytes[first + 2],
+        bytes[first + 3],
+    ])
 }
 
 pub fn float(bytes: &[u8], at: usize, past: usize) -> f32 {
@@ -51,31 +36,24 @@ pub fn count(bytes: &[u8], at: usize, past: usize) -> usize {
     word(bytes, at, past) as usize
 }
 
-// The greatest count has no word; the greatest word stands for it.
-const GREATEST_WORD: usize = 4294967295;
-
-const GREATEST_COUNT: usize = 18446744073709551615;
-
-// A count that can be the greatest.
+// A count that can be the greatest, which has no word: the greatest word stands for it.
 pub fn any_count(bytes: &[u8], at: usize, past: usize) -> usize {
-    let n = count(bytes, at, past);
-    if n == GREATEST_WORD {
-        return GREATEST_COUNT;
+    match word(bytes, at, past) {
+        u32::MAX => usize::MAX,
+        n => n as usize,
     }
-    n
 }
 
 // The byte with this number, counted from a word on; 0 past the list's end.
 pub fn byte(bytes: &[u8], at: usize, past: usize, number: usize) -> u8 {
-    let index = std::num::wrapping_add_usize(at, past);
+    let index = at.wrapping_add(past);
     if bytes.len() / 4 <= index {
         return 0;
     }
-    let place = std::num::wrapping_add_usize(index * 4, number);
-    if bytes.len() <= place {
-        return 0;
+    match bytes.get((index * 4).wrapping_add(number)) {
+        Some(byte) => *byte,
+        None => 0,
     }
-    bytes[place]
 }
 
 // The place past a record of this many words; the end where there is no such place.
@@ -83,10 +61,7 @@ pub fn after(at: usize, words: usize, end: usize) -> usize
     requires { at < end }
     ensures { (at < result) × (result ≤ end) }
 {
-    if words == 0 {
-        return end;
-    }
-    if end - at < words {
+    if words == 0 || end - at < words {
         return end;
     }
     at + words

@@ -4,7 +4,6 @@ use crate::{list, settings, slice, text};
 use answer::Outcome;
 use spectral_dsp::Bank;
 use std::io;
-use std::num::wrapping_add_usize;
 
 // What each entry of a mask holds before the call.
 pub const BEFORE: f32 = 7.0;
@@ -12,20 +11,21 @@ pub const BEFORE: f32 = 7.0;
 // A table is a rate and a slice. Where the rate is not 0, the table is prepared at it, and its two
 // values are put in once more.
 pub fn fill_table(bytes: &[u8], at: usize, past: usize, size: usize, table: &mut [f32]) {
-    let first = wrapping_add_usize(at, past);
+    let first = at.wrapping_add(past);
     slice::fill(bytes, first, 1, table);
     let rate = list::float(bytes, first, 0);
     if rate != 0.0 {
-        spectral_dsp::MaskWorkspace::prepare(table, rate, size);
+        // A table that is refused keeps what it holds.
+        let _ = spectral_dsp::MaskWorkspace::prepare(table, rate, size);
         slice::put_both(bytes, first, 1, table);
     }
 }
 
 fn print_entry(rt: &impl Print, mask: &[f32], bin: usize) -> io::Result<()> {
-    if bin < mask.len() {
-        text::print_float(rt, mask[bin])?;
+    match mask.get(bin) {
+        Some(gain) => text::print_float(rt, *gain),
+        None => Ok(()),
     }
-    Ok(())
 }
 
 pub fn print_mask(rt: &impl Print, mask: &[f32]) -> io::Result<()> {
@@ -57,7 +57,7 @@ fn print_build_mask_on(
 
 // The longest slices of the lists have 8,194 entries.
 fn print_build_mask(rt: &impl Print, bytes: &[u8], at: usize) -> io::Result<()> {
-    text::print(rt, b"build_mask")?;
+    print!(rt; "build_mask")?;
     let mut output = [BEFORE; 8194];
     let mut curve = [0.0f32; 8194];
     let mut levels = [0.0f32; 8194];
@@ -93,7 +93,7 @@ fn print_with_voices_on(
 }
 
 fn print_with_voices(rt: &impl Print, bytes: &[u8], at: usize) -> io::Result<()> {
-    text::print(rt, b"build_mask_with_voices")?;
+    print!(rt; "build_mask_with_voices")?;
     let mut output = [BEFORE; 8194];
     let mut curve = [0.0f32; 8194];
     let n = slice::length(bytes, at, 12, &output);
@@ -124,7 +124,7 @@ fn print_precomputed_on(
 }
 
 fn print_precomputed(rt: &impl Print, bytes: &[u8], at: usize) -> io::Result<()> {
-    text::print(rt, b"build_mask_with_voices_precomputed")?;
+    print!(rt; "build_mask_with_voices_precomputed")?;
     let mut output = [BEFORE; 8194];
     let mut curve = [0.0f32; 8194];
     let mut table = [0.0f32; 8194];
@@ -168,7 +168,7 @@ fn stereo_outcome(
     bytes: &[u8],
     at: usize,
     voices: Voices,
-    bank: Bank,
+    bank: &Bank,
     left: &mut [f32],
     right: &mut [f32],
     curve: &[f32],
@@ -177,7 +177,7 @@ fn stereo_outcome(
     let config = settings::config_at(bytes, at, 1);
     match voices {
         Voices::Stored => build_stereo(bytes, at, left, right, curve, table),
-        Voices::Banked => spectral_dsp::read_masks(left, right, curve, bank, config, table),
+        Voices::Banked => spectral_dsp::read_masks(left, right, curve, &bank, config, table),
     }
 }
 
@@ -186,7 +186,7 @@ fn print_stereo_on(
     bytes: &[u8],
     at: usize,
     voices: Voices,
-    bank: Bank,
+    bank: &Bank,
     left: &mut [f32],
     right: &mut [f32],
     curve: &mut [f32],
@@ -209,7 +209,7 @@ pub fn print_stereo_masks(
     bytes: &[u8],
     at: usize,
     voices: Voices,
-    bank: Bank,
+    bank: &Bank,
 ) -> io::Result<()> {
     let mut left = [BEFORE; 8194];
     let mut right = [BEFORE; 8194];
@@ -233,8 +233,8 @@ pub fn print_stereo_masks(
 }
 
 fn print_stereo(rt: &impl Print, bytes: &[u8], at: usize) -> io::Result<()> {
-    text::print(rt, b"build_stereo_masks_with_voices_precomputed")?;
-    print_stereo_masks(rt, bytes, at, Voices::Stored, spectral_dsp::new_bank())
+    print!(rt; "build_stereo_masks_with_voices_precomputed")?;
+    print_stereo_masks(rt, bytes, at, Voices::Stored, &spectral_dsp::new_bank())
 }
 
 fn print_call(rt: &impl Print, call: u32, bytes: &[u8], at: usize) -> io::Result<()> {
@@ -243,7 +243,7 @@ fn print_call(rt: &impl Print, call: u32, bytes: &[u8], at: usize) -> io::Result
         1 => print_with_voices(rt, bytes, at),
         2 => print_precomputed(rt, bytes, at),
         3 => print_stereo(rt, bytes, at),
-        _ => text::print(rt, b"no such call"),
+        _ => print!(rt; "no such call"),
     }
 }
 

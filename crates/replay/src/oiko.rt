@@ -1,5 +1,6 @@
 // The list `oiko_dsp`. A record is three words: the call, and its arguments.
 use crate::{list, text};
+use float32::bits::of_bits;
 use std::io;
 
 // A note is a byte: the word's last.
@@ -8,24 +9,20 @@ fn note_of(word: u32) -> u8 {
 }
 
 fn print_db_to_gain(rt: &impl Print, db: u32) -> io::Result<()> {
-    text::print(rt, b"db_to_gain")?;
-    text::print_word(rt, db)?;
-    text::print_answer(rt, oiko_dsp::db_to_gain(float32::bits::of_bits(db)))
+    print!(rt; "db_to_gain {db:08x}")?;
+    text::print_answer(rt, oiko_dsp::db_to_gain(of_bits(db)))
 }
 
 fn print_note_frequency(rt: &impl Print, note: u8) -> io::Result<()> {
-    text::print(rt, b"note_frequency")?;
-    text::print_count(rt, note as usize)?;
+    print!(rt; "note_frequency {note}")?;
     text::print_answer(rt, oiko_dsp::note_frequency(note))
 }
 
 fn print_note_frequency_with_tuning(rt: &impl Print, note: u8, tuning: u32) -> io::Result<()> {
-    text::print(rt, b"note_frequency_with_tuning")?;
-    text::print_count(rt, note as usize)?;
-    text::print_word(rt, tuning)?;
+    print!(rt; "note_frequency_with_tuning {note} {tuning:08x}")?;
     text::print_answer(
         rt,
-        oiko_dsp::note_frequency_with_tuning(note, float32::bits::of_bits(tuning)),
+        oiko_dsp::note_frequency_with_tuning(note, of_bits(tuning)),
     )
 }
 
@@ -34,7 +31,7 @@ fn print_call(rt: &impl Print, call: u32, first: u32, second: u32) -> io::Result
         0 => print_db_to_gain(rt, first),
         1 => print_note_frequency(rt, note_of(first)),
         2 => print_note_frequency_with_tuning(rt, note_of(first), second),
-        _ => text::print(rt, b"no such call"),
+        _ => print!(rt; "no such call"),
     }
 }
 

@@ -24,7 +24,7 @@ fn print_build_dual_synthesis_window_on(
 
 // The list's longest windows have 16,386 values.
 fn print_build_dual_synthesis_window(rt: &impl Print, bytes: &[u8], at: usize) -> io::Result<()> {
-    text::print(rt, b"build_dual_synthesis_window")?;
+    print!(rt; "build_dual_synthesis_window")?;
     let mut analysis = [0.0f32; 16386];
     let mut synthesis = [0.0f32; 16386];
     let n = slice::length(bytes, at, 2, &analysis);
@@ -47,7 +47,7 @@ fn print_soften_spectral_edges_on(
 
 // The list's longest gain lists have 8,195 entries.
 fn print_soften_spectral_edges(rt: &impl Print, bytes: &[u8], at: usize) -> io::Result<()> {
-    text::print(rt, b"soften_spectral_edges")?;
+    print!(rt; "soften_spectral_edges")?;
     let mut source = [0.0f32; 8195];
     let mut output = [0.0f32; 8195];
     let n = slice::length(bytes, at, 1, &source);
@@ -71,7 +71,7 @@ fn print_smooth_mask_in_db_on(
 
 // The list's longest gain lists have 8,195 entries.
 fn print_smooth_mask_in_db(rt: &impl Print, bytes: &[u8], at: usize) -> io::Result<()> {
-    text::print(rt, b"smooth_mask_in_db")?;
+    print!(rt; "smooth_mask_in_db")?;
     let mut current = [0.0f32; 8195];
     let mut target = [0.0f32; 8195];
     let n = slice::length(bytes, at, 2, &current);
@@ -122,7 +122,7 @@ fn print_spectrum_in(
 
 // The list's longest windows have 32,768 values.
 fn print_prepared_spectrum_new(rt: &impl Print, bytes: &[u8], at: usize) -> io::Result<()> {
-    text::print(rt, b"prepared_spectrum_new")?;
+    print!(rt; "prepared_spectrum_new")?;
     let mut window = [0.0f32; 32768];
     let mut smooth = [0.0f32; 32768];
     let mut block = [0.0f32; 147457];
@@ -135,7 +135,7 @@ fn print_call(rt: &impl Print, call: u32, bytes: &[u8], at: usize) -> io::Result
         1 => print_soften_spectral_edges(rt, bytes, at),
         2 => print_smooth_mask_in_db(rt, bytes, at),
         3 => print_prepared_spectrum_new(rt, bytes, at),
-        _ => text::print(rt, b"no such call"),
+        _ => print!(rt; "no such call"),
     }
 }
 

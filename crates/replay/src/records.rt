@@ -4,9 +4,8 @@ ghost use Rattle.std.specs.Prelude.{◌≤◌};
 ghost use Rattle.replay.specs.Counts.{IsPrefixLen};
 
 use crate::{list, settings, text};
-use limits::lengths::MOST_VOICES;
-use scene::Scene;
-use spectral_dsp::SceneRead;
+use answer::Refusal;
+use scene::{Scene, blank_scene};
 use std::io;
 
 // The list's longest record has this many bytes.
@@ -38,7 +37,7 @@ fn print_write_scene_on(
 }
 
 fn print_write_scene(rt: &impl Print, bytes: &[u8], at: usize) -> io::Result<()> {
-    text::print(rt, b"write_scene")?;
+    print!(rt; "write_scene")?;
     let mut room = [BEFORE; LONGEST];
     let n = length(bytes, at, 12, &room);
     print_write_scene_on(rt, bytes, at, &mut room[..n])
@@ -54,33 +53,38 @@ fn stored_byte(bytes: &[u8], at: usize, number: usize) -> u8 {
 
 // Makes the bytes of a record that is read.
 fn fill(bytes: &[u8], at: usize, record: &mut [u8]) {
-    let mut i: usize = 0;
-    while i < record.len() {
-        record[i] = stored_byte(bytes, at, i);
-        i += 1;
+    for (number, byte) in record.iter_mut().enumerate() {
+        *byte = stored_byte(bytes, at, number);
     }
 }
 
 // The hash over the words of a scene: the settings, the count, and all voices of the array.
 fn hash_of_scene(scene: Scene) -> u64 {
-    let config = scene.config;
-    let voices = scene.voices;
-    let head = text::with_words(text::NO_BYTES, &settings::words_of_config(config));
+    let head = text::with_words(text::NO_BYTES, &settings::words_of_config(scene.config));
     let mut hash = text::with_word(head, settings::word_of(scene.count));
-    let mut i: usize = 0;
-    while i < MOST_VOICES {
-        hash = text::with_words(hash, &settings::words_of_voice(voices[i]));
-        i += 1;
+    for voice in &scene.voices {
+        hash = text::with_words(hash, &settings::words_of_voice(*voice));
     }
     hash
 }
 
-fn print_scene_read(rt: &impl Print, read: SceneRead) -> io::Result<()> {
-    let outcome = read.outcome;
-    let scene = read.scene;
-    text::print_outcome(rt, outcome)?;
+fn print_scene(rt: &impl Print, scene: Scene) -> io::Result<()> {
     text::print_count(rt, scene.count)?;
     text::print_made(rt, hash_of_scene(scene))
+}
+
+// Where the read is refused, the blank scene stands in the scene's place.
+fn print_scene_read(rt: &impl Print, read: Result<Scene, Refusal>) -> io::Result<()> {
+    match read {
+        Ok(scene) => {
+            text::print_outcome(rt, Ok(()))?;
+            print_scene(rt, scene)
+        }
+        Err(refusal) => {
+            text::print_outcome(rt, Err(refusal))?;
+            print_scene(rt, blank_scene())
+        }
+    }
 }
 
 fn print_read_scene_on(
@@ -94,7 +98,7 @@ fn print_read_scene_on(
 }
 
 fn print_read_scene(rt: &impl Print, bytes: &[u8], at: usize) -> io::Result<()> {
-    text::print(rt, b"read_scene")?;
+    print!(rt; "read_scene")?;
     let mut room = [0u8; LONGEST];
     let n = length(bytes, at, 1, &room);
     print_read_scene_on(rt, bytes, at, &mut room[..n])
@@ -104,7 +108,7 @@ fn print_call(rt: &impl Print, call: u32, bytes: &[u8], at: usize) -> io::Result
     match call {
         0 => print_write_scene(rt, bytes, at),
         1 => print_read_scene(rt, bytes, at),
-        _ => text::print(rt, b"no such call"),
+        _ => print!(rt; "no such call"),
     }
 }
 

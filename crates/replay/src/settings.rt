@@ -6,12 +6,11 @@ use float32::bits::bits_of;
 use limits::lengths::MOST_VOICES;
 use scene::pitches::pitch_of;
 use scene::{MaskConfig, MaskVoice, MotionConfig, Pitch, Scene};
-use std::num::wrapping_add_usize;
-use voice_records::{VoiceRecord, plain_voice};
+use voice_records::VoiceRecord;
 
-// The moving field's settings, from four words.
+// The moving field's settings, from four words. A shape's number past the last gives the last.
 pub fn motion_at(bytes: &[u8], at: usize, past: usize) -> MotionConfig {
-    let first = wrapping_add_usize(at, past);
+    let first = at.wrapping_add(past);
     MotionConfig {
         shape: scene::shape_of(list::word(bytes, first, 0)),
         depth_db: list::float(bytes, first, 1),
@@ -24,7 +23,7 @@ const SETTINGS_WORDS: usize = 11;
 
 // A mask's settings, from eleven words.
 pub fn config_at(bytes: &[u8], at: usize, past: usize) -> MaskConfig {
-    let first = wrapping_add_usize(at, past);
+    let first = at.wrapping_add(past);
     MaskConfig {
         sample_rate: list::float(bytes, first, 0),
         fft_size: list::count(bytes, first, 1),
@@ -42,23 +41,18 @@ pub fn word_of(count: usize) -> u32 {
     (count % 4294967296) as u32
 }
 
-fn word_of_switch(on: bool) -> u32 {
-    if on { 1 } else { 0 }
-}
-
 // The eleven words of a mask's settings.
 pub fn words_of_config(config: MaskConfig) -> [u32; SETTINGS_WORDS] {
     let motion = config.motion;
-    let shape = motion.shape;
     [
         bits_of(config.sample_rate),
         word_of(config.fft_size),
         bits_of(config.note_depth_db),
-        word_of_switch(config.note_layer_enabled),
+        u32::from(config.note_layer_enabled),
         bits_of(config.width_cents),
         word_of(config.partials),
         bits_of(config.harmonic_rolloff_db_per_octave),
-        scene::shape_number(shape),
+        u32::from(motion.shape),
         bits_of(motion.depth_db),
         bits_of(motion.phase),
         bits_of(motion.size_octaves),
@@ -89,7 +83,7 @@ fn pitch_at(bytes: &[u8], first: usize) -> Pitch {
 }
 
 pub fn voice_at(bytes: &[u8], at: usize, past: usize) -> MaskVoice {
-    let first = wrapping_add_usize(at, past);
+    let first = at.wrapping_add(past);
     let pitch = pitch_at(bytes, first);
     MaskVoice {
         pitch,
@@ -102,14 +96,10 @@ pub fn voice_at(bytes: &[u8], at: usize, past: usize) -> MaskVoice {
     }
 }
 
-fn word_of_pitch(form: u8, note: u8) -> u32 {
-    form as u32 * 256 + note as u32
-}
-
 // The eight words of a voice's record.
 pub fn words_of_record(record: VoiceRecord) -> [u32; VOICE_WORDS] {
     [
-        word_of_pitch(record.pitch_form, record.note),
+        u32::from(record.pitch_form) * 256 + u32::from(record.note),
         bits_of(record.semitones_or_hertz),
         bits_of(record.level),
         bits_of(record.pressure),
@@ -121,7 +111,7 @@ pub fn words_of_record(record: VoiceRecord) -> [u32; VOICE_WORDS] {
 }
 
 pub fn words_of_voice(voice: MaskVoice) -> [u32; VOICE_WORDS] {
-    words_of_record(plain_voice(voice))
+    words_of_record(VoiceRecord::from(voice))
 }
 
 // The stored voice with this number, or a default one past them.
@@ -136,12 +126,10 @@ pub fn voice_of(bytes: &[u8], first: usize, number: usize) -> MaskVoice
 
 // The first voices, as many as a call takes. A call with more is refused before it reads any.
 pub fn voices_at(bytes: &[u8], at: usize, past: usize) -> [MaskVoice; MOST_VOICES] {
-    let first = wrapping_add_usize(at, past);
+    let first = at.wrapping_add(past);
     let mut voices = [default_voice(); MOST_VOICES];
-    let mut number: usize = 0;
-    while number < MOST_VOICES {
+    for number in 0..MOST_VOICES {
         voices[number] = voice_of(bytes, first, number);
-        number += 1;
     }
     voices
 }
@@ -150,7 +138,7 @@ pub fn voices_at(bytes: &[u8], at: usize, past: usize) -> [MaskVoice; MOST_VOICE
 pub fn voice_words(bytes: &[u8], at: usize, past: usize) -> usize
     ensures { result ≤ 1026 }
 {
-    let first = wrapping_add_usize(at, past);
+    let first = at.wrapping_add(past);
     2 + list::count(bytes, first, 1) % 129 * VOICE_WORDS
 }
 

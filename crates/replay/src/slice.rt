@@ -2,7 +2,6 @@
 ghost use Rattle.replay.specs.Counts.{Counts};
 
 use crate::list;
-use std::num::wrapping_add_usize;
 
 // The slice's length, or that of the room for it where that is less.
 pub fn length(bytes: &[u8], at: usize, past: usize, room: &[f32]) -> usize
@@ -17,7 +16,7 @@ pub fn length(bytes: &[u8], at: usize, past: usize, room: &[f32]) -> usize
 
 // The generator's next state.
 fn next(state: u32) -> u32 {
-    ((state as u64 * 1664525 + 1013904223) % 4294967296) as u32
+    state.wrapping_mul(1664525).wrapping_add(1013904223)
 }
 
 // Spread from low to high by the state; low where the two have the same bits.
@@ -31,14 +30,14 @@ fn spread(low: u32, high: u32, state: u32) -> f32 {
 }
 
 fn put(xs: &mut [f32], place: usize, value: f32) {
-    if place < xs.len() {
-        xs[place] = value;
+    if let Some(x) = xs.get_mut(place) {
+        *x = value;
     }
 }
 
 // Puts the two values at their places.
 pub fn put_both(bytes: &[u8], at: usize, past: usize, xs: &mut [f32]) {
-    let first = wrapping_add_usize(at, past);
+    let first = at.wrapping_add(past);
     put(
         xs,
         list::count(bytes, first, 4),
@@ -53,15 +52,13 @@ pub fn put_both(bytes: &[u8], at: usize, past: usize, xs: &mut [f32]) {
 
 // Makes the entries of the slice.
 pub fn fill(bytes: &[u8], at: usize, past: usize, xs: &mut [f32]) {
-    let first = wrapping_add_usize(at, past);
+    let first = at.wrapping_add(past);
     let low = list::word(bytes, first, 2);
     let high = list::word(bytes, first, 3);
     let mut state = list::word(bytes, first, 1);
-    let mut i: usize = 0;
-    while i < xs.len() {
+    for x in xs.iter_mut() {
         state = next(state);
-        xs[i] = spread(low, high, state);
-        i += 1;
+        *x = spread(low, high, state);
     }
     put_both(bytes, at, past, xs);
 }

@@ -6,7 +6,7 @@ use scene::MotionConfig;
 use std::io;
 
 fn print_note_emphasis_gain(rt: &impl Print, bytes: &[u8], at: usize) -> io::Result<()> {
-    text::print(rt, b"note_emphasis_gain")?;
+    print!(rt; "note_emphasis_gain")?;
     text::print_word(rt, list::word(bytes, at, 1))?;
     text::print_answer(
         rt,
@@ -15,10 +15,10 @@ fn print_note_emphasis_gain(rt: &impl Print, bytes: &[u8], at: usize) -> io::Res
 }
 
 fn print_note_gate_gain(rt: &impl Print, bytes: &[u8], at: usize) -> io::Result<()> {
-    text::print(rt, b"note_gate_gain")?;
-    text::print_word(rt, list::word(bytes, at, 1))?;
-    text::print_word(rt, list::word(bytes, at, 2))?;
-    text::print_word(rt, list::word(bytes, at, 3))?;
+    print!(rt; "note_gate_gain")?;
+    for number in 1..4 {
+        text::print_word(rt, list::word(bytes, at, number))?;
+    }
     text::print_answer(
         rt,
         spectral_dsp::note_gate_gain(
@@ -43,7 +43,7 @@ fn print_manual_gain_on(
 
 // The list's longest curve has 8,194 points.
 fn print_manual_gain_at_bin(rt: &impl Print, bytes: &[u8], at: usize) -> io::Result<()> {
-    text::print(rt, b"manual_gain_at_bin")?;
+    print!(rt; "manual_gain_at_bin")?;
     text::print_count(rt, list::count(bytes, at, 1))?;
     text::print_count(rt, list::count(bytes, at, 2))?;
     let mut room = [0.0f32; 8194];
@@ -53,16 +53,15 @@ fn print_manual_gain_at_bin(rt: &impl Print, bytes: &[u8], at: usize) -> io::Res
 
 // The settings from four words, which are printed.
 fn motion_at(rt: &impl Print, bytes: &[u8], at: usize, past: usize) -> io::Result<MotionConfig> {
-    let first = std::num::wrapping_add_usize(at, past);
-    text::print_word(rt, list::word(bytes, first, 0))?;
-    text::print_word(rt, list::word(bytes, first, 1))?;
-    text::print_word(rt, list::word(bytes, first, 2))?;
-    text::print_word(rt, list::word(bytes, first, 3))?;
+    let first = at.wrapping_add(past);
+    for number in 0..4 {
+        text::print_word(rt, list::word(bytes, first, number))?;
+    }
     Ok(settings::motion_at(bytes, at, past))
 }
 
 fn print_motion_openness(rt: &impl Print, bytes: &[u8], at: usize) -> io::Result<()> {
-    text::print(rt, b"motion_openness")?;
+    print!(rt; "motion_openness")?;
     text::print_word(rt, list::word(bytes, at, 1))?;
     let motion = motion_at(rt, bytes, at, 2)?;
     text::print_answer(
@@ -72,7 +71,7 @@ fn print_motion_openness(rt: &impl Print, bytes: &[u8], at: usize) -> io::Result
 }
 
 fn print_motion_attenuation_db(rt: &impl Print, bytes: &[u8], at: usize) -> io::Result<()> {
-    text::print(rt, b"motion_attenuation_db")?;
+    print!(rt; "motion_attenuation_db")?;
     text::print_word(rt, list::word(bytes, at, 1))?;
     let motion = motion_at(rt, bytes, at, 2)?;
     text::print_answer(
@@ -82,53 +81,27 @@ fn print_motion_attenuation_db(rt: &impl Print, bytes: &[u8], at: usize) -> io::
 }
 
 fn print_motion_compensation_gain(rt: &impl Print, bytes: &[u8], at: usize) -> io::Result<()> {
-    text::print(rt, b"motion_compensation_gain")?;
+    print!(rt; "motion_compensation_gain")?;
     let motion = motion_at(rt, bytes, at, 1)?;
     text::print_answer(rt, spectral_dsp::motion_compensation_gain(motion))
 }
 
-fn byte_of(word: u32, divisor: u32) -> u8 {
-    if divisor == 0 {
-        return 0;
-    }
-    (word / divisor % 256) as u8
-}
-
 // The 16 bytes of four words.
 fn held_at(bytes: &[u8], at: usize) -> [u8; HELD_BYTES] {
-    let a = list::word(bytes, at, 3);
-    let b = list::word(bytes, at, 4);
-    let c = list::word(bytes, at, 5);
-    let d = list::word(bytes, at, 6);
-    [
-        byte_of(a, 16777216),
-        byte_of(a, 65536),
-        byte_of(a, 256),
-        byte_of(a, 1),
-        byte_of(b, 16777216),
-        byte_of(b, 65536),
-        byte_of(b, 256),
-        byte_of(b, 1),
-        byte_of(c, 16777216),
-        byte_of(c, 65536),
-        byte_of(c, 256),
-        byte_of(c, 1),
-        byte_of(d, 16777216),
-        byte_of(d, 65536),
-        byte_of(d, 256),
-        byte_of(d, 1),
-    ]
+    let mut held = [0u8; HELD_BYTES];
+    for number in 0..HELD_BYTES {
+        held[number] = list::byte(bytes, at, 3, number);
+    }
+    held
 }
 
 fn print_envelopes(rt: &impl Print, envelopes: Envelopes) -> io::Result<()> {
-    let levels = envelopes.levels;
-    let outcome = envelopes.outcome;
-    text::print_outcome(rt, outcome)?;
-    text::print_hash(rt, &levels)
+    text::print_outcome(rt, envelopes.outcome)?;
+    text::print_hash(rt, &envelopes.levels)
 }
 
 fn print_advance_note_envelopes(rt: &impl Print, bytes: &[u8], at: usize) -> io::Result<()> {
-    text::print(rt, b"advance_note_envelopes")?;
+    print!(rt; "advance_note_envelopes")?;
     let mut levels = [0.0f32; MIDI_NOTES];
     slice::fill(bytes, at, 7, &mut levels);
     print_envelopes(
@@ -152,7 +125,7 @@ fn print_prepare_on(rt: &impl Print, bytes: &[u8], at: usize, table: &mut [f32])
 
 // The list's longest table has 16,386 entries.
 fn print_prepare(rt: &impl Print, bytes: &[u8], at: usize) -> io::Result<()> {
-    text::print(rt, b"prepare")?;
+    print!(rt; "prepare")?;
     let mut room = [0.0f32; 16386];
     let entries = slice::length(bytes, at, 3, &room);
     print_prepare_on(rt, bytes, at, &mut room[..entries])
@@ -168,7 +141,7 @@ fn print_call(rt: &impl Print, call: u32, bytes: &[u8], at: usize) -> io::Result
         5 => print_motion_compensation_gain(rt, bytes, at),
         6 => print_advance_note_envelopes(rt, bytes, at),
         7 => print_prepare(rt, bytes, at),
-        _ => text::print(rt, b"no such call"),
+        _ => print!(rt; "no such call"),
     }
 }
 

@@ -14,6 +14,7 @@ ghost use Rattle.scene.specs.Made.{silent_voice, blank_scene};
 ghost use Rattle.scene.specs.Gathered.{held};
 
 use limits::lengths::MOST_VOICES;
+pub use shape_numbers::shape_of;
 
 // A pitch by number or by hertz: a note, with an offset in semitones from its equal-tempered pitch;
 // or a frequency, which is then the fundamental itself.

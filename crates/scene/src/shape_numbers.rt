@@ -9,24 +9,32 @@ use crate::MotionShape;
 #[derive(Clone, Copy, Debug, PartialEq, Eq)]
 pub struct UnknownShape(pub u32);
 
-// The shape with this number, in the Rust's order.
+// The shape with this number, in the Rust's order; 7 and above give the last.
+pub fn shape_of(number: u32) -> MotionShape
+    ensures { result ≡ shape_of number }
+{
+    match number {
+        0 => MotionShape::Ripple,
+        1 => MotionShape::Harmonic,
+        2 => MotionShape::Drift,
+        3 => MotionShape::Scan,
+        4 => MotionShape::Notch,
+        5 => MotionShape::Saw,
+        6 => MotionShape::Sprinkle,
+        _ => MotionShape::Cloud,
+    }
+}
+
 impl TryFrom<u32> for MotionShape {
     type Error = UnknownShape;
 
     ghost try_from_gives = { λ number r. OkIff r (number < 8) (shape_of number) };
 
     fn try_from(number: u32) -> Result<MotionShape, UnknownShape> {
-        match number {
-            0 => Ok(MotionShape::Ripple),
-            1 => Ok(MotionShape::Harmonic),
-            2 => Ok(MotionShape::Drift),
-            3 => Ok(MotionShape::Scan),
-            4 => Ok(MotionShape::Notch),
-            5 => Ok(MotionShape::Saw),
-            6 => Ok(MotionShape::Sprinkle),
-            7 => Ok(MotionShape::Cloud),
-            _ => Err(UnknownShape(number)),
+        if 7 < number {
+            return Err(UnknownShape(number));
         }
+        Ok(shape_of(number))
     }
 }
 

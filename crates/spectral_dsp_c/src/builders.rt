@@ -12,7 +12,8 @@ ghost use Rattle.crossing.specs.MaskSettings.{config_of, with_settings};
 ghost use Rattle.voice_records.specs.VoiceRecords.{voices_of_record};
 
 use crossing::answers::give_outcome;
-use crossing::settings::{Settings, config_of, shape_refused};
+use crossing::settings::Settings;
+use scene::MaskConfig;
 use voice_records::VoiceRecord;
 
 #[unsafe(no_mangle)]
@@ -172,10 +173,11 @@ pub extern "C" fn dovetable_build_mask(
         config)) (mask_of manual_mask_db.now (config_of settings) none side.mono
         (voices_of note_levels.now)) output.old }
 {
-    let config = config_of(settings);
-    if 7 < settings.motion_shape {
-        return give_outcome(shape_refused(config), place);
+    match MaskConfig::try_from(settings) {
+        Ok(config) => {
+            let outcome = spectral_dsp::build_mask(output, manual_mask_db, note_levels, config);
+            give_outcome(outcome, place)
+        }
+        Err(refusal) => give_outcome(Err(refusal), place),
     }
-    let outcome = spectral_dsp::build_mask(output, manual_mask_db, note_levels, config);
-    give_outcome(outcome, place)
 }

@@ -11,9 +11,9 @@ ghost use Rattle.list_calls.specs.Prepared.{prepare_reply};
 ghost use Rattle.crossing.specs.Given.{Given, GivenValue};
 ghost use Rattle.crossing.specs.Settings.{motion_of, with_shape};
 
-use answer::{Answer, refusal};
+use answer::{Answer, Reason};
 use crossing::answers::{give_answer, give_outcome};
-use crossing::settings::motion_of;
+use crossing::settings::try_motion_of;
 use list_calls::advance_bank;
 
 #[unsafe(no_mangle)]
@@ -79,15 +79,14 @@ pub extern "C" fn dovetable_motion_openness(
         result place.old place.new openness.old
         openness.new }
 {
-    if 7 < shape {
-        return give_answer(Answer::Refused(refusal::SETTING, 0), openness, place);
+    match try_motion_of(shape, depth_db, phase, size_octaves) {
+        Ok(motion) => give_answer(
+            spectral_dsp::motion_openness(frequency, motion),
+            openness,
+            place,
+        ),
+        Err(_) => give_answer(Answer::Refused(Reason::Setting, 0), openness, place),
     }
-    let motion = motion_of(shape, depth_db, phase, size_octaves);
-    give_answer(
-        spectral_dsp::motion_openness(frequency, motion),
-        openness,
-        place,
-    )
 }
 
 #[unsafe(no_mangle)]
@@ -105,15 +104,14 @@ pub extern "C" fn dovetable_motion_attenuation_db(
         place.old place.new attenuation_db.old
         attenuation_db.new }
 {
-    if 7 < shape {
-        return give_answer(Answer::Refused(refusal::SETTING, 0), attenuation_db, place);
+    match try_motion_of(shape, depth_db, phase, size_octaves) {
+        Ok(motion) => give_answer(
+            spectral_dsp::motion_attenuation_db(frequency, motion),
+            attenuation_db,
+            place,
+        ),
+        Err(_) => give_answer(Answer::Refused(Reason::Setting, 0), attenuation_db, place),
     }
-    let motion = motion_of(shape, depth_db, phase, size_octaves);
-    give_answer(
-        spectral_dsp::motion_attenuation_db(frequency, motion),
-        attenuation_db,
-        place,
-    )
 }
 
 #[unsafe(no_mangle)]
@@ -129,11 +127,10 @@ pub extern "C" fn dovetable_motion_compensation_gain(
         (with_shape shape (compensation_reply (motion_of shape depth_db phase size_octaves))) result
         place.old place.new gain.old gain.new }
 {
-    if 7 < shape {
-        return give_answer(Answer::Refused(refusal::SETTING, 0), gain, place);
+    match try_motion_of(shape, depth_db, phase, size_octaves) {
+        Ok(motion) => give_answer(spectral_dsp::motion_compensation_gain(motion), gain, place),
+        Err(_) => give_answer(Answer::Refused(Reason::Setting, 0), gain, place),
     }
-    let motion = motion_of(shape, depth_db, phase, size_octaves);
-    give_answer(spectral_dsp::motion_compensation_gain(motion), gain, place)
 }
 
 // `MaskWorkspace::prepare` on a lent table.

@@ -2,12 +2,10 @@
 -- one has its gain. Assumes nothing.
 use mathlib.Core.Path.{ap}
 use mathlib.Core.Logic.{inl}
-use Prim.Native.Nat.{◌-◌}
 use native.Mathlib.Omega.{arith}
 use lib.Ieee.{nan, binary32, mul}
 use Rattle.lists.specs.Turned.{turned_none, turned-to}
 use Rattle.lists.specs.Stages.{turned-held}
-use Rattle.bin_gains.specs.Gains.{gate_at}
 use borrow.Author.Rules.{rules}
 use Rattle.bin_gains.proofs.finish_row.Goals as goal
 

@@ -1,7 +1,6 @@
 -- `move_row` replaces the first `count` entries: each entry below k is multiplied by the field's
 -- compensated gain. Assumes nothing.
 use mathlib.Core.Logic.{inl}
-use Prim.Native.Nat.{◌-◌}
 use native.Mathlib.Omega.{arith}
 use lib.Ieee.{nan}
 use Rattle.lists.specs.Turned.{turned_none, turned-to}

@@ -1,6 +1,6 @@
 -- `move_row` replaces the first `count` entries: each entry below k is multiplied by the field's
 -- compensated gain. Assumes nothing.
-use Prim.Native.Nat.{◌-◌, ◌≤◌}
+use Prim.Native.Nat.{◌≤◌}
 use lib.Ieee.{nan, binary32, mul}
 use Rattle.lists.specs.Turned.{Turned}
 use lib.ListN.{get_or}

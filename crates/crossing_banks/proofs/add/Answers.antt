@@ -3,9 +3,5 @@ use Rattle.crossing_banks.proofs.add.Goals as goal
 
 pub returns : goal.returns
 returns c =
-    simp (
-      c.plain_banked.ensures,
-      c.add_voice.ensures.outcome_value,
-      c.add_voice.ensures.bank_value,
-      c.voice_of.ensures,
-    )
+    let added = c.add_voice-outcome.ensures in
+    simp (c.plain_banked.ensures, added.outcome_value, added.bank_value, c.from.ensures)

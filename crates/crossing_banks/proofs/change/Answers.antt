@@ -3,9 +3,5 @@ use Rattle.crossing_banks.proofs.change.Goals as goal
 
 pub returns : goal.returns
 returns c =
-    simp (
-      c.plain_banked.ensures,
-      c.change_voice.ensures.outcome_value,
-      c.change_voice.ensures.bank_value,
-      c.voice_of.ensures,
-    )
+    let changed = c.change_voice-outcome.ensures in
+    simp (c.plain_banked.ensures, changed.outcome_value, changed.bank_value, c.from.ensures)

@@ -3,8 +3,5 @@ use Rattle.crossing_banks.proofs.remove.Goals as goal
 
 pub returns : goal.returns
 returns c =
-    simp (
-      c.plain_banked.ensures,
-      c.remove_voice.ensures.outcome_value,
-      c.remove_voice.ensures.bank_value,
-    )
+    let removed = c.remove_voice-outcome.ensures in
+    simp (c.plain_banked.ensures, removed.outcome_value, removed.bank_value)

@@ -1,6 +1,9 @@
 -- `crossing_masks::stereo` gives what the open call answers for a shape of 0..7,
 -- otherwise refusal 1 or 2. Assumes nothing.
+use mathlib.Core.Path.{refl}
 use mathlib.Core.List.{List}
+use native.Mathlib.Omega.{arith}
+use Prim.Native.Nat.{◌≤◌}
 use lib.Ieee.{Float}
 use lib.ListN.{take}
 use Rattle.scene.specs.declared.MaskConfig.{MaskConfig}
@@ -11,16 +14,18 @@ use Rattle.crossing.proofs.Configs.{known, known-left, unknown, unknown-left}
 use Rattle.crossing.proofs.Replies.{given}
 use Rattle.crossing_masks.proofs.stereo.Goals as goal
 
-pub returns-then-settings-gt7 : goal.returns-then-settings-gt7
-returns-then-settings-gt7 c =
-    let shape = c.if-settings-gt7.true in
-    record { given = given (unknown _ _ _ c.config_of-config.ensures c.shape_refused.ensures shape) c.give_outcome.ensures; left_after = unknown-left _ _ _ _ shape; right_after = unknown-left _ _ _ _ shape }
-
-pub returns : goal.returns
-returns c =
+pub returns-in-Ok : goal.returns-in-Ok
+returns-in-Ok c =
     let args = c.args in
-    let e = c.config_of-config.ensures in
+    let read = c.in-Ok.ensures in
+    let e = read.1 in
+    let known-shape : args.settings.motion_shape ≤ 7 = omega (arith, read.0) in
     let answer = c.build_stereo_masks_with_voices_precomputed-outcome.ensures in
     let left-mask : MaskConfig → List Float = λ k. mask_of args.manual_mask_db.now k (lent args.table.now) side.left (take args.count args.voices) in
     let right-mask : MaskConfig → List Float = λ k. mask_of args.manual_mask_db.now k (lent args.table.now) side.right (take args.count args.voices) in
-    record { given = given (known _ _ _ e answer.result_value c.if-settings-gt7.false) c.give_outcome-2.ensures; left_after = known-left _ _ _ e left-mask _ answer.result_value c.if-settings-gt7.false answer.left_after; right_after = known-left _ _ _ e right-mask _ answer.result_value c.if-settings-gt7.false answer.right_after }
+    record { given = given (known _ _ _ e answer.result_value known-shape) c.give_outcome.ensures; left_after = known-left _ _ _ e left-mask _ answer.result_value known-shape answer.left_after; right_after = known-left _ _ _ e right-mask _ answer.result_value known-shape answer.right_after }
+
+pub returns-in-Err : goal.returns-in-Err
+returns-in-Err c =
+    let refused = c.in-Err.ensures in
+    record { given = given (unknown _ _ _ refl refused.1 refused.0) c.give_outcome-in-Err.ensures; left_after = unknown-left _ _ _ _ refused.0; right_after = unknown-left _ _ _ _ refused.0 }

@@ -1,4 +1,5 @@
 -- `serve` meets its contract: whom `turn` names, `build_named` builds. Assumes nothing.
+use Rattle.answer.proofs.Replies.{number-in-outcome, place-in-outcome}
 use mathlib.Core.List.{List}
 use Prim.Native.Nat.{ℕ}
 use lib.ListN.{length}
@@ -19,16 +20,18 @@ returns c =
     (plain_at a.given strip) table in
     let mask : Side → ℕ → List Float =
     λ side strip. plain_mask side curve (plain_at a.given strip) table in
-    let turned = c.turn-turned.ensures in
-    let named = c.turn-turned.result.named in
+    let turned = c.turn-named.ensures in
+    let named = c.turn-named.result in
     let place = c.scene_place.result in
     let there = c.scene_place.ensures.0 in
     let built = c.build_named-outcome.ensures in
     let answer = reply-named reply named place there built.result_value in record {
       value = simp (
         c.number.ensures,
+        number-in-outcome,
         c.place.ensures,
-        c.is_strip.ensures,
+        place-in-outcome,
+        c.is_some.ensures,
         c.strip_of.ensures,
         answer,
         turned.named_value,

@@ -13,29 +13,22 @@ use Rattle.crossing_scenes.proofs.Crossed.{each-plain}
 use Rattle.crossing_scenes.proofs.plain_voices.Goals as goal
 
 pub loop-i-init : goal.loop-i-init
-loop-i-init c = (omega arith, refl, turned_none _ _ _)
+loop-i-init c = (refl, turned_none _ _ _)
 
 pub offset_bounds-voices-i : goal.offset_bounds-voices-i
 offset_bounds-voices-i c = omega arith
 
-pub overflow_add-i : goal.overflow_add-i
-overflow_add-i c = omega arith
-
-pub loop-i-smaller : goal.loop-i-smaller
-loop-i-smaller c = omega arith
-
 pub loop-i-preserved : goal.loop-i-preserved
 loop-i-preserved c = (
-  omega arith,
   refl,
-  turned_more no_record c.loop-i.invariant.2 (omega arith) c.plain_voice.ensures,
+  turned_more no_record c.loop-i.invariant.1 (omega arith) c.from.ensures,
 )
 
 pub returns : goal.returns
 returns c =
     let a = c.args in
     let l : length a.voices ≡ 128 = search rules in
-    turned-fill c.loop-i.invariant.2 (omega arith)
+    turned-fill c.loop-i.invariant.1 (omega arith)
     ∙ ap (λ (n : ℕ). tabulate n (λ k. plain_voice (get_or a.voices k no_voice)))
-    (c.loop-i.invariant.1 ∙ sym l)
+    (c.loop-i.invariant.0 ∙ sym l)
     ∙ each-plain a.voices

@@ -10,8 +10,5 @@ use Rattle.crossing_scenes.proofs.plain_voices.Given as goal
 
 abbrev pub invariant-loop-i : goal.invariant-loop-i
 invariant-loop-i l =
-    (l.i ≤ 128) × (length l.initial.records ≡ 128)
+    (length l.initial.records ≡ 128)
     × Turned (λ k x. plain_voice (get_or l.voices k no_voice)) 0 l.initial.records l.records l.i
-
-abbrev pub decreases-loop-i : goal.decreases-loop-i
-decreases-loop-i l = 128 - l.i

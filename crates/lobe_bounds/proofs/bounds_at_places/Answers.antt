@@ -1,11 +1,9 @@
 -- `bounds_at_places` replaces the first `count` entries: each entry below p is the bound at the
 -- position that was there. Assumes nothing.
 use mathlib.Core.Logic.{inl}
-use Prim.Native.Nat.{◌-◌}
 use native.Mathlib.Omega.{arith}
 use lib.Ieee.{nan}
 use Rattle.lists.specs.Turned.{turned_none, turned-to}
-use Rattle.lobe_bounds.specs.Bound.{bound_at}
 use Rattle.lobe_bounds.proofs.Columns.{turned-next}
 use Rattle.lobe_bounds.proofs.bounds_at_places.Goals as goal
 

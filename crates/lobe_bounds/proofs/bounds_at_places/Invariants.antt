@@ -1,6 +1,6 @@
 -- `bounds_at_places` replaces the first `count` entries: each entry below p is the bound at the
 -- position that was there. Assumes nothing.
-use Prim.Native.Nat.{◌-◌, ◌≤◌}
+use Prim.Native.Nat.{◌≤◌}
 use lib.ListN.{get_or}
 use lib.Ieee.{nan}
 use Rattle.lists.specs.Turned.{Turned}

@@ -1,7 +1,6 @@
 -- `greatest_at` finds the greatest: none of the numbers below p is above the one at the index that
 -- it keeps. Assumes nothing.
 use mathlib.Core.Path.{refl, ◌∙◌}
-use Prim.Native.Nat.{◌-◌}
 use native.Mathlib.Omega.{arith}
 use Rattle.lobe_bounds.proofs.Columns.{greatest-first, greatest-more, greatest-all}
 use Rattle.lobe_bounds.proofs.greatest_at.Goals as goal
@@ -17,8 +16,8 @@ loop-p-preserved c =
     let j = c.if-greatest-next in
     let more = greatest-more c.args.bounds.now c.args.count l.p l.place l.greatest j.place j.greatest c.requires.2 c.loop-p-test.true i.0 i.1.0 in
     elim j.branch [
-      then-greatest-next w ↦ let m = more (w.place-is ∙ simp w.if-greatest-next.true) (w.greatest-is ∙ simp w.if-greatest-next.true) in (m.0, (m.1, omega arith))
-    | else-greatest-next w ↦ let m = more (w.place-is ∙ simp w.if-greatest-next.false) (w.greatest-is ∙ simp w.if-greatest-next.false) in (m.0, (m.1, omega arith))
+      | then-greatest-next w ↦ let m = more (w.place-is ∙ simp w.if-greatest-next.true) (w.greatest-is ∙ simp w.if-greatest-next.true) in (m.0, (m.1, omega arith))
+      | else-greatest-next w ↦ let m = more (w.place-is ∙ simp w.if-greatest-next.false) (w.greatest-is ∙ simp w.if-greatest-next.false) in (m.0, (m.1, omega arith))
     ]
 
 pub returns : goal.returns

@@ -1,7 +1,7 @@
 -- `greatest_at` finds the greatest: none of the numbers below p is above the one at the index that
 -- it keeps. Assumes nothing.
 use mathlib.Core.Path.{◌≡◌}
-use Prim.Native.Nat.{◌-◌, ◌≤◌}
+use Prim.Native.Nat.{◌≤◌}
 use lib.ListN.{get_or}
 use lib.Ieee.{nan}
 use Rattle.lobe_bounds.specs.Bound.{GreatestAt}

@@ -1,11 +1,9 @@
 -- `nearest_places` replaces the first `count` entries: each entry below p is the place of the least
 -- distance. Assumes nothing.
 use mathlib.Core.Logic.{inl}
-use Prim.Native.Nat.{◌-◌}
 use native.Mathlib.Omega.{arith}
 use lib.Ieee.{nan}
 use Rattle.lists.specs.Turned.{turned_none, turned_more, turned-to}
-use Rattle.lobe_bounds.specs.Bound.{nearest_place}
 use Rattle.lobe_bounds.proofs.nearest_places.Goals as goal
 
 pub loop-p-init : goal.loop-p-init

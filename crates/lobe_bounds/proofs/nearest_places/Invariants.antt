@@ -1,6 +1,6 @@
 -- `nearest_places` replaces the first `count` entries: each entry below p is the place of the least
 -- distance. Assumes nothing.
-use Prim.Native.Nat.{◌-◌, ◌≤◌}
+use Prim.Native.Nat.{◌≤◌}
 use lib.ListN.{get_or}
 use lib.Ieee.{nan}
 use Rattle.lists.specs.Turned.{Turned}

@@ -8,9 +8,6 @@ use native.Mathlib.Omega.{arith}
 use lib.Ieee.{Float}
 use lib.ListN.{length, take, drop, drop_of_length-le}
 use Rattle.lists.specs.Parts.{part-tail}
-use Rattle.mask_calls.proofs.build_stereo_masks_with_prepared_spectrum.Statement.{
-  statement,
-}
 use Rattle.mask_calls.proofs.build_stereo_masks_with_prepared_spectrum.Goals as goal
 
 -- where the block is too short for four windows nothing stands after them

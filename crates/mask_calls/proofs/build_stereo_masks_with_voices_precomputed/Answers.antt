@@ -14,9 +14,6 @@ use Rattle.refusals.proofs.MaskAccepted.{is-done, stereo-accepted}
 use Rattle.refusals.proofs.MaskAnswers.{first-refuses, second-answers, stereo-answer}
 use Rattle.refusals.proofs.Parameters.{voices-f32, settings-f32}
 use Rattle.refusals.proofs.RealScene.{stereo-scene, stereo-table}
-use Rattle.mask_calls.proofs.build_stereo_masks_with_voices_precomputed.Statement.{
-  statement,
-}
 use Rattle.mask_calls.proofs.build_stereo_masks_with_voices_precomputed.Goals as goal
 
 pub returns-in_err-of_settings-clause-result_value :

@@ -1,6 +1,6 @@
 -- `lowerings` replaces the first `count` entries: each entry below k is in decibels. Assumes
 -- nothing.
-use Prim.Native.Nat.{◌-◌, ◌≤◌}
+use Prim.Native.Nat.{◌≤◌}
 use Rattle.lists.specs.Turned.{Turned}
 use Rattle.motion_rows.specs.Rows.{lowered}
 use Rattle.motion_rows.proofs.lowerings.Given as goal

@@ -1,7 +1,6 @@
 -- `open_below` replaces the first `count` entries: each entry below k is open if its frequency is
 -- below the lowest shown. Assumes nothing.
 use mathlib.Core.Logic.{inl}
-use Prim.Native.Nat.{◌-◌}
 use native.Mathlib.Omega.{arith}
 use lib.Ieee.{nan}
 use Rattle.lists.specs.Turned.{turned_none, turned-to}

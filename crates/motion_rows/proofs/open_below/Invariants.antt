@@ -1,6 +1,6 @@
 -- `open_below` replaces the first `count` entries: each entry below k is open if its frequency is
 -- below the lowest shown. Assumes nothing.
-use Prim.Native.Nat.{◌+◌, ◌-◌, ◌≤◌}
+use Prim.Native.Nat.{◌+◌, ◌≤◌}
 use lib.Ieee.{lt}
 use Rattle.lists.specs.Turned.{Turned}
 use mathlib.Core.Bool.{cond}

@@ -1,10 +1,8 @@
 -- `places` fills the first `count` entries: each entry below k is what `place_ahead` ensures of its
 -- angle. Assumes nothing.
 use mathlib.Core.Logic.{inl}
-use Prim.Native.Nat.{◌-◌}
 use native.Mathlib.Omega.{arith}
 use Rattle.lists.specs.Turned.{turned_none, turned_more, turned-to}
-use Rattle.sine.specs.Rows.{place_ahead}
 use Rattle.sine_rows.proofs.places.Goals as goal
 
 pub loop-k-init : goal.loop-k-init

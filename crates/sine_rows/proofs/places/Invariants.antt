@@ -1,6 +1,6 @@
 -- `places` fills the first `count` entries: each entry below k is what `place_ahead` ensures of its
 -- angle. Assumes nothing.
-use Prim.Native.Nat.{◌+◌, ◌-◌, ◌≤◌}
+use Prim.Native.Nat.{◌+◌, ◌≤◌}
 use lib.ListN.{get_or}
 use lib.Ieee.{nan}
 use Rattle.lists.specs.Turned.{Turned}

@@ -1,7 +1,6 @@
 -- `steps` fills the first `count` indexes and parts: each entry below k is what `step_of` ensures.
 -- Assumes nothing.
 use mathlib.Core.Logic.{inl}
-use Prim.Native.Nat.{◌-◌}
 use native.Mathlib.Omega.{arith}
 use Rattle.lists.specs.Turned.{turned_none, turned_more, turned-to}
 use Rattle.sine_rows.proofs.steps.Goals as goal

@@ -1,6 +1,6 @@
 -- `steps` fills the first `count` indexes and parts: each entry below k is what `step_of` ensures.
 -- Assumes nothing.
-use Prim.Native.Nat.{◌-◌, ◌≤◌}
+use Prim.Native.Nat.{◌≤◌}
 use lib.ListN.{get_or}
 use Rattle.lists.specs.Turned.{Turned}
 use Rattle.sine.specs.Rows.{index_of, part_of}

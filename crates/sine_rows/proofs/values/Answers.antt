@@ -2,11 +2,10 @@
 -- ensures of its step. Assumes nothing.
 use mathlib.Core.Path.{sym, subst}
 use mathlib.Core.Logic.{inl}
-use Prim.Native.Nat.{ℕ, ◌-◌, ◌<◌}
+use Prim.Native.Nat.{ℕ, ◌<◌}
 use native.Mathlib.Omega.{arith}
 use Rattle.lists.specs.Turned.{turned_none, turned-read, turned-to}
 use Rattle.lists.specs.Stages.{turned-held}
-use Rattle.sine.specs.Rows.{value_at}
 use Rattle.sine_rows.proofs.values.Goals as goal
 
 pub loop-k-init : goal.loop-k-init

@@ -1,6 +1,6 @@
 -- `values` replaces the first `count` indexes: each entry below k is the value that `value_at`
 -- ensures of its step. Assumes nothing.
-use Prim.Native.Nat.{◌-◌, ◌≤◌}
+use Prim.Native.Nat.{◌≤◌}
 use lib.ListN.{get_or}
 use Rattle.lists.specs.Turned.{Turned}
 use Rattle.sine.specs.Rows.{value_at}

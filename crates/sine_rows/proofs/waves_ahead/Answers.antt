@@ -2,10 +2,8 @@
 use mathlib.Core.Path.{refl}
 use mathlib.Core.Logic.{inl}
 use native.Mathlib.Omega.{arith}
-use Rattle.lists.specs.Turned.{Turned, turned_none, turned-to}
+use Rattle.lists.specs.Turned.{turned_none, turned-to}
 use Rattle.lists.specs.Runs.{turned-by}
-use Rattle.sine.specs.Sine.{wave}
-use Rattle.sine.specs.Rows.{place_ahead}
 use Rattle.sine_rows.proofs.waves_ahead.Goals as goal
 
 pub loop-start-init : goal.loop-start-init

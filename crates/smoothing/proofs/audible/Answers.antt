@@ -1,7 +1,6 @@
 -- `audible` fills the first `count` entries: each entry below k is its own gain, at least
 -- least_gain. Assumes nothing.
 use mathlib.Core.Logic.{inl}
-use Prim.Native.Nat.{◌-◌}
 use native.Mathlib.Omega.{arith}
 use lib.Ieee.{nan}
 use Rattle.lists.specs.Turned.{turned_none, turned_more, turned-to}

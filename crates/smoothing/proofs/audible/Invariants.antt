@@ -1,6 +1,6 @@
 -- `audible` fills the first `count` entries: each entry below k is its own gain, at least
 -- least_gain. Assumes nothing.
-use Prim.Native.Nat.{◌+◌, ◌-◌, ◌≤◌}
+use Prim.Native.Nat.{◌+◌, ◌≤◌}
 use lib.ListN.{get_or}
 use lib.Ieee.{nan}
 use Rattle.lists.specs.Turned.{Turned}

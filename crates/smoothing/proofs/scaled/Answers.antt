@@ -1,7 +1,6 @@
 -- `scaled` replaces the first `count` entries: each logarithm below k is in decibels.
 -- Assumes nothing.
 use mathlib.Core.Logic.{inl}
-use Prim.Native.Nat.{◌-◌}
 use native.Mathlib.Omega.{arith}
 use lib.Ieee.{nan}
 use Rattle.lists.specs.Turned.{turned_none, turned-to}

@@ -1,6 +1,6 @@
 -- `scaled` replaces the first `count` entries: each logarithm below k is in decibels.
 -- Assumes nothing.
-use Prim.Native.Nat.{◌-◌, ◌≤◌}
+use Prim.Native.Nat.{◌≤◌}
 use lib.Ieee.{binary32, mul}
 use Rattle.lists.specs.Turned.{Turned}
 use Rattle.float32.specs.Constants.{log10_2}

@@ -1,7 +1,7 @@
 -- `smooth_all` moves every gain: each gain below `start` is moved, and the others are as they were
 -- (proofs/Rows.antt). Assumes nothing.
 use mathlib.Core.Path.{refl}
-use Prim.Native.Nat.{◌-◌, ◌≤◌}
+use Prim.Native.Nat.{◌≤◌}
 use native.Mathlib.Omega.{arith}
 use borrow.Author.Rules.{rules}
 use lib.ListN.{length}

@@ -1,7 +1,7 @@
 -- `smooth_all` moves every gain: each gain below `start` is moved, and the others are as they were
 -- (proofs/Rows.antt). Assumes nothing.
 use mathlib.Core.Path.{◌≡◌}
-use Prim.Native.Nat.{◌-◌, ◌≤◌}
+use Prim.Native.Nat.{◌≤◌}
 use lib.ListN.{length, get_or}
 use lib.Ieee.{nan}
 use Rattle.lists.specs.Turned.{Turned}

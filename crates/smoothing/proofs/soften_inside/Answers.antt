@@ -1,7 +1,7 @@
 -- `soften_inside` softens every bin with two neighbours: each bin below `start` is done
 -- (proofs/Rows.antt). Assumes nothing.
 use mathlib.Core.Logic.{inl}
-use Prim.Native.Nat.{◌+◌, ◌-◌, ◌≤◌}
+use Prim.Native.Nat.{◌+◌, ◌≤◌}
 use native.Mathlib.Omega.{arith}
 use borrow.Author.Rules.{rules}
 use lib.ListN.{length}

@@ -1,7 +1,7 @@
 -- `soften_inside` softens every bin with two neighbours: each bin below `start` is done
 -- (proofs/Rows.antt). Assumes nothing.
 use mathlib.Core.Path.{◌≡◌}
-use Prim.Native.Nat.{◌-◌, ◌≤◌}
+use Prim.Native.Nat.{◌≤◌}
 use lib.ListN.{length}
 use Rattle.lists.specs.Turned.{Turned}
 use Rattle.smoothing.specs.Smoothing.{softened_at}

@@ -1,12 +1,10 @@
 -- `soften_row` replaces the bins from `start` on: each bin before the current one is softened.
 -- Assumes nothing.
 use mathlib.Core.Logic.{inl}
-use Prim.Native.Nat.{◌-◌}
 use native.Mathlib.Omega.{arith}
 use lib.Ieee.{nan}
 use borrow.Author.Rules.{rules}
 use Rattle.lists.specs.Turned.{turned_none, turned_more, turned-to}
-use Rattle.smoothing.specs.Smoothing.{softened}
 use Rattle.smoothing.proofs.soften_row.Goals as goal
 
 pub loop-bin-init : goal.loop-bin-init

@@ -1,7 +1,7 @@
 -- `denominator` is the definition's: the sum so far, run on over the offsets that are left, is the
 -- whole sum, and `at` is the index that the next offset reads. Assumes nothing.
 use mathlib.Core.Path.{◌≡◌, sym, ap, ◌∙◌}
-use Prim.Native.Nat.{ℕ, ◌+◌, ◌-◌, ◌*◌, ◌%◌, ◌<◌}
+use Prim.Native.Nat.{ℕ, ◌+◌, ◌*◌, ◌%◌, ◌<◌}
 use native.Mathlib.Nat.{zero-mul, add-zero, add-mul, one-mul, mod-eq_of_lt, mod-add-mod, sub-zero}
 use native.Mathlib.Omega.{arith}
 use lib.ListN.{length, get_or}

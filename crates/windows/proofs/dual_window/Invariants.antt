@@ -1,7 +1,5 @@
 -- `dual_window` writes the dual at every index: each entry below the index is done, and the others
 -- are as they were. Assumes nothing.
-use Prim.Native.Nat.{◌-◌}
-use lib.ListN.{length}
 use Rattle.lists.specs.Turned.{Turned}
 use Rattle.float_laws.specs.Classes.{dual_at}
 use Rattle.windows.proofs.dual_window.Given as goal

@@ -1,8 +1,7 @@
 -- `sum` is the fold from 0: the sum so far, run on over the values that are left, is the whole sum.
 -- Assumes nothing.
 use mathlib.Core.Path.{◌≡◌}
-use Prim.Native.Nat.{◌-◌}
-use lib.ListN.{length, drop}
+use lib.ListN.{drop}
 use lib.Ieee.{binary32, add}
 use Rattle.lists.specs.Folds.{fold}
 use Rattle.windows.specs.Windows.{sum_of}

@@ -1,7 +1,7 @@
 -- `halve` replaces the first `count` numbers: each entry below k is the smaller of the two, and the
 -- others, among them all that are still to be read, are as they were. Assumes nothing.
 use mathlib.Core.Logic.{inl}
-use Prim.Native.Nat.{◌+◌, ◌-◌}
+use Prim.Native.Nat.{◌+◌}
 use native.Mathlib.Omega.{arith}
 use lib.Ieee.{nan}
 use Rattle.lists.specs.Turned.{turned_none, turned_more, turned-to}

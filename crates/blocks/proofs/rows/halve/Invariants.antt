@@ -1,6 +1,6 @@
 -- `halve` replaces the first `count` numbers: each entry below k is the smaller of the two, and the
 -- others, among them all that are still to be read, are as they were. Assumes nothing.
-use Prim.Native.Nat.{◌+◌, ◌-◌, ◌≤◌}
+use Prim.Native.Nat.{◌+◌, ◌≤◌}
 use lib.ListN.{get_or}
 use lib.Ieee.{nan}
 use Rattle.lists.specs.Turned.{Turned}

@@ -1,7 +1,6 @@
 -- `negate` negates every entry: each entry below the index is negated, and the others are as they were.
 -- Assumes nothing.
 use mathlib.Core.Path.{ap}
-use Prim.Native.Nat.{◌-◌}
 use native.Mathlib.Omega.{arith}
 use lib.Ieee.{nan, neg}
 use Rattle.lists.specs.Turned.{turned_none, turned_more, turned-read, turned-all}

@@ -1,7 +1,5 @@
 -- `negate` negates every entry: each entry below the index is negated, and the others are as they were.
 -- Assumes nothing.
-use Prim.Native.Nat.{◌-◌}
-use lib.ListN.{length}
 use lib.Ieee.{neg}
 use Rattle.lists.specs.Turned.{Turned}
 use Rattle.blocks.proofs.rows.negate.Given as goal

@@ -21,9 +21,9 @@ returns-then-is_level c =
     let a = c.args in
     let room : a.count ≤ length a.row.now = c.requires in
     let filled : c.fill.new.self ≡ replicate a.count c.gain-level.result =
-        c.fill.ensures.after (λ y e. e) ∙ ap (λ (n : ℕ). replicate n c.gain-level.result) (length-take-le _ _ room) in
+    c.fill.ensures.after (λ y e. e) ∙ ap (λ (n : ℕ). replicate n c.gain-level.result) (length-take-le _ _ room) in
     let level : c.fill.new.self ++ drop a.count a.row.now ≡ map_range (λ k db. c.gain-level.result) 0 a.count a.row.now =
-        ap (λ (l : List Float). l ++ drop a.count a.row.now) filled ∙ replicate-front _ a.count a.row.now room in
+    ap (λ (l : List Float). l ++ drop a.count a.row.now) filled ∙ replicate-front _ a.count a.row.now room in
     let gains = rw c.gain-level.ensures at level in
     gains ∙ level-gains a.row.now a.count (c.is_level.ensures c.if-is_level.true).1
 

@@ -1,6 +1,6 @@
 -- `angles` replaces the first `count` entries: each entry below k is the angle of its place.
 -- Assumes nothing.
-use Prim.Native.Nat.{◌-◌, ◌≤◌}
+use Prim.Native.Nat.{◌≤◌}
 use lib.Ieee.{binary32, mul, sub, div}
 use Rattle.lists.specs.Turned.{Turned}
 use Rattle.float32.specs.Constants.{tau}

@@ -1,6 +1,6 @@
 -- `complements` replaces the first `count` entries: each entry below k is 1 less what it was.
 -- Assumes nothing.
-use Prim.Native.Nat.{◌-◌, ◌≤◌}
+use Prim.Native.Nat.{◌≤◌}
 use lib.Ieee.{binary32, sub}
 use Rattle.lists.specs.Turned.{Turned}
 use Rattle.float32.specs.Remainder.{one}

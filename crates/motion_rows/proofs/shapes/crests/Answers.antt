@@ -1,12 +1,10 @@
 -- `crests` replaces the first `count` entries: each entry below k is moved to 0..1. Assumes
 -- nothing.
 use mathlib.Core.Logic.{inl}
-use Prim.Native.Nat.{◌-◌}
 use native.Mathlib.Omega.{arith}
 use lib.Ieee.{nan}
 use Rattle.lists.specs.Turned.{turned_none, turned-to}
 use Rattle.lists.specs.Stages.{turned-held}
-use Rattle.float32.specs.Order.{clamp}
 use Rattle.motion_rows.proofs.shapes.crests.Goals as goal
 
 pub loop-k-init : goal.loop-k-init

@@ -1,6 +1,6 @@
 -- `crests` replaces the first `count` entries: each entry below k is moved to 0..1. Assumes
 -- nothing.
-use Prim.Native.Nat.{◌-◌, ◌≤◌}
+use Prim.Native.Nat.{◌≤◌}
 use lib.Ieee.{binary32, add, mul}
 use Rattle.lists.specs.Turned.{Turned}
 use Rattle.float32.specs.Order.{clamp}

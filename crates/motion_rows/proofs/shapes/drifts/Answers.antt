@@ -2,9 +2,8 @@
 use mathlib.Core.Path.{refl}
 use mathlib.Core.Logic.{inl}
 use native.Mathlib.Omega.{arith}
-use Rattle.lists.specs.Turned.{Turned, turned_none, turned-to}
+use Rattle.lists.specs.Turned.{turned_none, turned-to}
 use Rattle.lists.specs.Runs.{turned-by}
-use Rattle.motion.specs.Shapes.{drift}
 use Rattle.motion_rows.proofs.shapes.drifts.Goals as goal
 
 pub loop-start-init : goal.loop-start-init

@@ -1,6 +1,6 @@
 -- `fifth_powers` replaces the first `count` entries: each entry below k is its fifth power.
 -- Assumes nothing.
-use Prim.Native.Nat.{◌-◌, ◌≤◌}
+use Prim.Native.Nat.{◌≤◌}
 use Rattle.lists.specs.Turned.{Turned}
 use Rattle.float32.specs.Powers.{fifth}
 use Rattle.motion_rows.proofs.shapes.fifth_powers.Given as goal

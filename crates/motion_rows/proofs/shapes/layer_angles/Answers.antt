@@ -1,11 +1,9 @@
 -- `layer_angles` fills the first `count` entries of each layer: each entry below k is the angle at
 -- its place. Assumes nothing.
 use mathlib.Core.Logic.{inl}
-use Prim.Native.Nat.{◌-◌}
 use native.Mathlib.Omega.{arith}
 use lib.Ieee.{nan}
 use Rattle.lists.specs.Turned.{turned_none, turned_more, turned-to}
-use Rattle.motion.specs.Shapes.{broad_angle, middle_angle, detail_angle}
 use Rattle.motion_rows.proofs.shapes.layer_angles.Goals as goal
 
 pub loop-k-init : goal.loop-k-init

@@ -1,6 +1,6 @@
 -- `layer_angles` fills the first `count` entries of each layer: each entry below k is the angle at
 -- its place. Assumes nothing.
-use Prim.Native.Nat.{◌+◌, ◌-◌, ◌≤◌}
+use Prim.Native.Nat.{◌+◌, ◌≤◌}
 use lib.ListN.{get_or}
 use lib.Ieee.{nan}
 use Rattle.lists.specs.Turned.{Turned}

@@ -1,6 +1,6 @@
 -- `layers` replaces `count` places from `start` on: each entry below i is the drift, the sum of its
 -- layers. Assumes nothing.
-use Prim.Native.Nat.{◌+◌, ◌-◌, ◌≤◌}
+use Prim.Native.Nat.{◌+◌, ◌≤◌}
 use Rattle.lists.specs.Turned.{Turned}
 use Rattle.motion.specs.Shapes.{drift}
 use Rattle.motion_rows.proofs.shapes.layers.Given as goal

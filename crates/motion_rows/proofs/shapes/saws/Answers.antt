@@ -1,12 +1,10 @@
 -- `saws` replaces the first `count` entries: each entry below k is the saw at its place. Assumes
 -- nothing.
 use mathlib.Core.Logic.{inl}
-use Prim.Native.Nat.{◌-◌}
 use native.Mathlib.Omega.{arith}
 use lib.Ieee.{nan}
 use Rattle.lists.specs.Turned.{turned_none, turned-to}
 use Rattle.lists.specs.Stages.{turned-held}
-use Rattle.motion.specs.Shapes.{saw}
 use Rattle.motion_rows.proofs.shapes.saws.Goals as goal
 
 pub loop-k-init : goal.loop-k-init

@@ -1,6 +1,6 @@
 -- `saws` replaces the first `count` entries: each entry below k is the saw at its place. Assumes
 -- nothing.
-use Prim.Native.Nat.{◌-◌, ◌≤◌}
+use Prim.Native.Nat.{◌≤◌}
 use Rattle.lists.specs.Turned.{Turned}
 use Rattle.motion.specs.Shapes.{saw}
 use Rattle.motion_rows.proofs.shapes.saws.Given as goal

@@ -1,12 +1,10 @@
 -- `window_exponents` replaces the first `count` entries: each entry below k is the exponent of its
 -- place. Assumes nothing.
 use mathlib.Core.Logic.{inl}
-use Prim.Native.Nat.{◌-◌}
 use native.Mathlib.Omega.{arith}
 use lib.Ieee.{nan}
 use Rattle.lists.specs.Turned.{turned_none, turned-to}
 use Rattle.lists.specs.Stages.{turned-held}
-use Rattle.motion.specs.Shapes.{window_exponent}
 use Rattle.motion_rows.proofs.shapes.window_exponents.Goals as goal
 
 pub loop-k-init : goal.loop-k-init

@@ -1,6 +1,6 @@
 -- `window_exponents` replaces the first `count` entries: each entry below k is the exponent of its
 -- place. Assumes nothing.
-use Prim.Native.Nat.{◌-◌, ◌≤◌}
+use Prim.Native.Nat.{◌≤◌}
 use Rattle.lists.specs.Turned.{Turned}
 use Rattle.motion.specs.Shapes.{window_exponent}
 use Rattle.motion_rows.proofs.shapes.window_exponents.Given as goal

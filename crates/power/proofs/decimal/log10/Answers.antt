@@ -3,7 +3,6 @@
 use mathlib.Core.Path.{ap}
 use lib.Ieee.{Float, binary32, mul}
 use Rattle.float32.specs.Constants.{log10_2}
-use Rattle.power.proofs.decimal.log10.Given.{Over}
 use Rattle.power.proofs.decimal.log10.Goals as goal
 
 pub returns : goal.returns

@@ -1,11 +1,9 @@
 -- `clip` fills the first `count` entries: each entry below k is what `clipped` ensures. Assumes
 -- nothing.
 use mathlib.Core.Logic.{inl}
-use Prim.Native.Nat.{◌-◌}
 use native.Mathlib.Omega.{arith}
 use lib.Ieee.{nan}
 use Rattle.lists.specs.Turned.{turned_none, turned_more, turned-to}
-use Rattle.power_rows.specs.Exp2.{clipped}
 use Rattle.power_rows.proofs.exp2.clip.Goals as goal
 
 pub loop-k-init : goal.loop-k-init

@@ -2,9 +2,8 @@
 use mathlib.Core.Path.{refl}
 use mathlib.Core.Logic.{inl}
 use native.Mathlib.Omega.{arith}
-use Rattle.lists.specs.Turned.{Turned, turned_none, turned-to}
+use Rattle.lists.specs.Turned.{turned_none, turned-to}
 use Rattle.lists.specs.Runs.{turned-by}
-use Rattle.power.specs.Power.{E2}
 use Rattle.power_rows.proofs.exp2.exp2_row.Goals as goal
 
 pub loop-start-init : goal.loop-start-init

@@ -1,6 +1,6 @@
 -- `finish` replaces `count` numbers from `start` on: each entry below i is the power that
 -- `power_of` ensures. Assumes nothing.
-use Prim.Native.Nat.{◌+◌, ◌-◌, ◌≤◌}
+use Prim.Native.Nat.{◌+◌, ◌≤◌}
 use Rattle.lists.specs.Turned.{Turned}
 use Rattle.power.specs.Power.{E2}
 use Rattle.power_rows.proofs.exp2.finish.Given as goal

@@ -1,6 +1,6 @@
 -- `leading` fills the first `count` entries: each entry below k is what `digits_of` ensures.
 -- Assumes nothing.
-use Prim.Native.Nat.{◌-◌, ◌≤◌}
+use Prim.Native.Nat.{◌≤◌}
 use lib.ListN.{get_or}
 use Rattle.lists.specs.Turned.{Turned}
 use Rattle.power_rows.specs.Exp2.{digits}

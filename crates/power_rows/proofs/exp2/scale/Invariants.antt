@@ -1,6 +1,6 @@
 -- `scale` replaces the first `count` entries: each entry below k is its product with the factor.
 -- Assumes nothing.
-use Prim.Native.Nat.{◌-◌, ◌≤◌}
+use Prim.Native.Nat.{◌≤◌}
 use lib.Ieee.{binary32, mul}
 use Rattle.lists.specs.Turned.{Turned}
 use Rattle.power_rows.proofs.exp2.scale.Given as goal

@@ -1,7 +1,6 @@
 -- `steps` fills the first `count` entries: each entry below k is what `steps_of` ensures.
 -- Assumes nothing.
 use mathlib.Core.Logic.{inl}
-use Prim.Native.Nat.{◌-◌}
 use native.Mathlib.Omega.{arith}
 use Rattle.lists.specs.Turned.{turned_none, turned_more, turned-to}
 use Rattle.power_rows.proofs.exp2.steps.Goals as goal

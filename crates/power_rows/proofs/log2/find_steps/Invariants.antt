@@ -1,6 +1,6 @@
 -- `find_steps` fills the first `count` entries: each entry below k is the step of its own digits,
 -- or an entry of the table at an end of that. Assumes nothing.
-use Prim.Native.Nat.{◌-◌, ◌≤◌}
+use Prim.Native.Nat.{◌≤◌}
 use lib.ListN.{get_or}
 use Rattle.lists.specs.Turned.{Turned}
 use Rattle.power_rows.specs.Log2.{step_of, from_of, to_of}

@@ -1,5 +1,5 @@
 -- `make_ready` replaces the entries from `start` on: each entry below i is ready. Assumes nothing.
-use Prim.Native.Nat.{◌-◌, ◌≤◌}
+use Prim.Native.Nat.{◌≤◌}
 use Rattle.lists.specs.Turned.{Turned}
 use Rattle.power_rows.specs.Log2.{ready_of}
 use Rattle.power_rows.proofs.log2.make_ready.Given as goal

@@ -1,7 +1,6 @@
 -- `take_digits` fills the first `count` entries: each entry below k has the digits of its own
 -- number. Assumes nothing.
 use mathlib.Core.Logic.{inl}
-use Prim.Native.Nat.{◌-◌}
 use native.Mathlib.Omega.{arith}
 use Rattle.lists.specs.Turned.{turned_none, turned_more, turned-to}
 use Rattle.power_rows.proofs.log2.take_digits.Goals as goal

@@ -1,6 +1,6 @@
 -- `take_logs` replaces the entries from `start` on: each entry below i is its logarithm. Assumes
 -- nothing.
-use Prim.Native.Nat.{◌+◌, ◌-◌, ◌≤◌}
+use Prim.Native.Nat.{◌+◌, ◌≤◌}
 use Rattle.lists.specs.Turned.{Turned}
 use Rattle.power.specs.Log.{L2}
 use Rattle.power_rows.proofs.log2.take_logs.Given as goal
