@@ -128,11 +128,7 @@ pub extern "C" fn dovetable_motion_compensation_gain(
         place.old place.new gain.old gain.new }
 {
     match motion_of(shape, depth_db, phase, size_octaves) {
-        Ok(motion) => give_answer(
-            spectral_dsp::motion_compensation_gain(motion),
-            gain,
-            place,
-        ),
+        Ok(motion) => give_answer(spectral_dsp::motion_compensation_gain(motion), gain, place),
         Err(_) => give_answer(Answer::Refused(Reason::Setting, 0), gain, place),
     }
 }
