@@ -136,16 +136,16 @@ fn print_precomputed(rt: &impl Print, bytes: &[u8]) -> io::Result<()> {
     )
 }
 
-fn print_stereo_on(
+fn print_stereo_on<F: FnOnce(&mut [f32], &mut [f32], &[f32], &[f32]) -> Outcome>(
     rt: &impl Print,
     bytes: &[u8],
     left: &mut [f32],
     right: &mut [f32],
     curve: &mut [f32],
     table: &mut [f32],
-    build: impl FnOnce(&mut [f32], &mut [f32], &[f32], &[f32]) -> Outcome,
+    build: F,
 ) -> io::Result<()>
-    requires { build.IsAlwaysCallable build }
+    requires { F.IsAlwaysCallable build }
 {
     slice::fill(bytes, 14, curve);
     fill_table(bytes, 22, list::count(bytes, 2), table);
@@ -156,11 +156,13 @@ fn print_stereo_on(
 
 // Makes a stereo call, and prints its answer and both masks. The records of all such calls are the
 // same up to the voices.
-pub fn print_stereo_masks(
+pub fn print_stereo_masks<F: FnOnce(&mut [f32], &mut [f32], &[f32], &[f32]) -> Outcome>(
     rt: &impl Print,
     bytes: &[u8],
-    build: impl FnOnce(&mut [f32], &mut [f32], &[f32], &[f32]) -> Outcome,
-) -> io::Result<()> {
+    build: F,
+) -> io::Result<()>
+    requires { F.IsAlwaysCallable build }
+{
     let mut left = [BEFORE; 8194];
     let mut right = [BEFORE; 8194];
     let mut curve = [0.0f32; 8194];
