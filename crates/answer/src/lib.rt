@@ -62,7 +62,8 @@ pub struct CoherentGains {
     pub smooth_window: f32,
 }
 
-// The answer of `advance_note_envelopes`, with the bank that was passed by value beside it.
+// The answer of `advance_note_envelopes`, with the bank beside it: document 01 has it pass the bank
+// by value and hand it back.
 #[derive(Clone, Copy)]
 pub struct Envelopes {
     pub outcome: Outcome,

@@ -11,7 +11,8 @@ use answer::{Reason, Refusal};
 use scene::shape_numbers::{UnknownShape, shape_of};
 use scene::{MaskConfig, MotionConfig, MotionShape};
 
-// The shape is a number, 0..7 in the Rust's order; 8 and above count as 7.
+// The shape is a number, 0..7 in the Rust's order; 8 and above count as 7. It cannot fail, as
+// callers have it, and no more can `config_of`; `try_motion_of` and `try_from` refuse.
 pub fn motion_of(shape: u32, depth_db: f32, phase: f32, size_octaves: f32) -> MotionConfig
     ensures { result ≡ motion_of shape depth_db phase size_octaves }
 {

@@ -36,7 +36,7 @@ pub struct PlainSceneRead {
     pub scene: PlainScene,
 }
 
-// A shape above 7 counts as 7.
+// A shape above 7 counts as 7. It cannot fail, as callers have it; `try_from` refuses.
 pub fn scene_of(plain: PlainScene) -> Scene
     ensures { result ≡ scene_of plain }
 {
@@ -59,6 +59,7 @@ impl TryFrom<PlainScene> for Scene {
     }
 }
 
+// One voice after the other: std has no `From` between arrays of other types.
 fn plain_voices(voices: [MaskVoice; MOST_VOICES]) -> [VoiceRecord; MOST_VOICES]
     ensures { result ≡ map plain_voice voices }
 {

@@ -11,6 +11,8 @@ ghost use Rattle.elementary.specs.Functions.{value_of};
 use power::table::PowerTable;
 use sine::table::SineTable;
 
+// Which function to make. A caller, and a list of calls, name it as a value, so that one law speaks
+// of every function.
 #[derive(Clone, Copy, Debug, PartialEq, Eq)]
 pub enum Function {
     Exp2,

@@ -16,7 +16,7 @@ use mixer::{Mixer, STRIPS, turn};
 use scene::Scene;
 
 // What a turn with its scene answers: whom it named, and what the stereo call answered to that
-// strip's scene.
+// strip's scene. Both are told also where the scene is refused.
 #[derive(Clone, Copy)]
 pub struct Served {
     pub named: Option<usize>,

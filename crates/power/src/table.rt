@@ -25,8 +25,8 @@ pub fn power_table() -> PowerTable
     PowerTable { entries: POWERS }
 }
 
-// Where a power or a logarithm reads P: the table itself, or its entries one by one, for a caller of
-// a single number (single_power).
+// Where a power or a logarithm reads P: the table itself, or its entries one by one, for a caller
+// of a single number (single_power).
 pub trait PowerEntries {
     // P[j]
     fn entry(&self, j: usize) -> u32

@@ -1,7 +1,6 @@
 // The list `voice_banks`. A bank, empty at first, is kept from each record to the next. After the
 // call's number stands an id, an id and a voice, or what a stereo call takes before its voices. The
 // last number is no call: it puts a bank as a caller in C can make one.
-use crate::mask_records::Voices;
 use crate::{list, mask_records, settings, text};
 use answer::Outcome;
 use limits::lengths::MOST_VOICES;
@@ -15,15 +14,15 @@ fn id_of(word: u32) -> u16 {
 
 // The bank that a record gives. Each id is a step on from the one before; the places past the count
 // are filled too, since a call must not look at them.
-fn given_bank(bytes: &[u8], at: usize) -> Bank {
-    let stored = at.wrapping_add(3);
-    let step = id_of(list::word(bytes, at, 2));
-    let mut id = id_of(list::word(bytes, at, 1));
+fn given_bank(bytes: &[u8]) -> Bank {
+    let stored = list::past(bytes, 3);
+    let step = id_of(list::word(bytes, 2));
+    let mut id = id_of(list::word(bytes, 1));
     let mut bank = spectral_dsp::new_bank();
-    bank.count = list::any_count(bytes, at, 3);
+    bank.count = list::any_count(bytes, 3);
     for place in 0..MOST_VOICES {
         bank.ids[place] = id;
-        bank.voices[place] = VoiceRecord::from(settings::voice_of(bytes, stored, place));
+        bank.voices[place] = VoiceRecord::from(settings::voice_of(stored, place));
         id = id.wrapping_add(step);
     }
     bank
@@ -57,21 +56,18 @@ fn print_changed(rt: &impl Print, name: &str, outcome: Outcome, bank: &Bank) -> 
     print_bank(rt, bank)
 }
 
-fn print_read_masks(rt: &impl Print, bytes: &[u8], at: usize, bank: &Bank) -> io::Result<()> {
+fn print_read_masks(rt: &impl Print, bytes: &[u8], bank: &Bank) -> io::Result<()> {
     print!(rt; "read_masks")?;
-    mask_records::print_stereo_masks(rt, bytes, at, Voices::Banked, bank)
+    let config = settings::config_at(bytes, 1);
+    mask_records::print_stereo_masks(rt, bytes, |left, right, curve, table| {
+        spectral_dsp::read_masks(left, right, curve, bank, config, table)
+    })
 }
 
 // Makes the call of the record at a place on the bank, and prints its line.
-fn print_call(
-    rt: &impl Print,
-    call: u32,
-    bytes: &[u8],
-    at: usize,
-    bank: &mut Bank,
-) -> io::Result<()> {
-    let id = id_of(list::word(bytes, at, 1));
-    let voice = settings::voice_at(bytes, at, 2);
+fn print_call(rt: &impl Print, call: u32, bytes: &[u8], bank: &mut Bank) -> io::Result<()> {
+    let id = id_of(list::word(bytes, 1));
+    let voice = settings::voice_at(bytes, 2);
     match call {
         0 => {
             *bank = spectral_dsp::new_bank();
@@ -89,9 +85,9 @@ fn print_call(
             let outcome = spectral_dsp::change_voice(bank, id, voice);
             print_changed(rt, "change_voice", outcome, bank)
         }
-        4 => print_read_masks(rt, bytes, at, bank),
+        4 => print_read_masks(rt, bytes, bank),
         5 => {
-            *bank = given_bank(bytes, at);
+            *bank = given_bank(bytes);
             print_made(rt, "given", bank)
         }
         _ => print!(rt; "no such call"),
@@ -99,28 +95,21 @@ fn print_call(
 }
 
 // The number of words of a record, with the voices of a bank that is given.
-fn words_of(call: u32, bytes: &[u8], at: usize) -> usize {
+fn words_of(call: u32, bytes: &[u8]) -> usize {
     match call {
         0 => 1,
         1 => 10,
         2 => 2,
         3 => 10,
         4 => 31,
-        5 => 3 + settings::voice_words(bytes, at, 3),
+        5 => 3 + settings::voice_words(bytes, 3),
         _ => 1,
     }
 }
 
-// Replays the records in turn, each on the bank that the one before left.
-pub fn print_all(rt: &impl Print, bytes: &[u8]) -> io::Result<()> {
-    let end = list::words(bytes);
-    let mut bank = spectral_dsp::new_bank();
-    let mut at: usize = 0;
-    while at < end {
-        let call = list::word(bytes, at, 0);
-        print_call(rt, call, bytes, at, &mut bank)?;
-        text::end_line(rt)?;
-        at = list::after(at, words_of(call, bytes, at), end);
-    }
-    Ok(())
+// Makes the call of a record on the bank that the one before left.
+pub fn print_record(rt: &impl Print, bytes: &[u8], bank: &mut Bank) -> io::Result<usize> {
+    let call = list::word(bytes, 0);
+    print_call(rt, call, bytes, bank)?;
+    Ok(words_of(call, bytes))
 }

@@ -1,6 +1,6 @@
-// A list of calls: words of 32 bits, most significant byte first. A word is found by the place of a
-// record and the word's place past it.
-ghost use Rattle.std.specs.Prelude.{◌≡◌, ◌<◌, ◌≤◌, length, IfOk, OnErr};
+// A list of calls: words of 32 bits, most significant byte first. A record is the list from the
+// record's first word on, and its words are found by their number.
+ghost use Rattle.std.specs.Prelude.{◌≡◌, ◌<◌, ◌≤◌, ◌-◌, ◌*◌, length, IfOk, OnErr};
 ghost use Rattle.replay.specs.Counts.{IsPrefixLen};
 
 use std::fs::File;
@@ -8,63 +8,59 @@ use std::io;
 use std::io::Read;
 use std::rt::Files;
 
-// The number of whole words.
-pub fn words(bytes: &[u8]) -> usize {
-    bytes.len() / 4
-}
+pub const WORD_BYTES: usize = 4;
 
-// The word with this number past another; 0 past the list's end.
-pub fn word(bytes: &[u8], at: usize, past: usize) -> u32 {
-    let index = at.wrapping_add(past);
-    if bytes.len() / 4 <= index {
-        return 0;
+// What follows the first words; nothing where there are no more.
+pub fn past(bytes: &[u8], words: usize) -> &[u8]
+    ensures { length result.now ≤ length bytes.now - words * 4 }
+{
+    if bytes.len() / WORD_BYTES <= words {
+        return &[];
     }
-    let first = index * 4;
-    u32::from_be_bytes([
-        bytes[first],
-        bytes[first + 1],
-        bytes[first + 2],
-        bytes[first + 3],
-    ])
+    &bytes[words * WORD_BYTES..]
 }
 
-pub fn float(bytes: &[u8], at: usize, past: usize) -> f32 {
-    float32::bits::of_bits(word(bytes, at, past))
+// The word with this number; 0 past the list's end.
+pub fn word(bytes: &[u8], number: usize) -> u32 {
+    match past(bytes, number).first_chunk::<4>() {
+        Some(word) => u32::from_be_bytes(*word),
+        None => 0,
+    }
 }
 
-pub fn count(bytes: &[u8], at: usize, past: usize) -> usize {
-    word(bytes, at, past) as usize
+pub fn float(bytes: &[u8], number: usize) -> f32 {
+    float32::bits::of_bits(word(bytes, number))
+}
+
+pub fn count(bytes: &[u8], number: usize) -> usize {
+    word(bytes, number) as usize
 }
 
 // A count that can be the greatest, which has no word: the greatest word stands for it.
-pub fn any_count(bytes: &[u8], at: usize, past: usize) -> usize {
-    match word(bytes, at, past) {
+pub fn any_count(bytes: &[u8], number: usize) -> usize {
+    match word(bytes, number) {
         u32::MAX => usize::MAX,
         n => n as usize,
     }
 }
 
 // The byte with this number, counted from a word on; 0 past the list's end.
-pub fn byte(bytes: &[u8], at: usize, past: usize, number: usize) -> u8 {
-    let index = at.wrapping_add(past);
-    if bytes.len() / 4 <= index {
-        return 0;
-    }
-    match bytes.get((index * 4).wrapping_add(number)) {
+pub fn byte(bytes: &[u8], words: usize, number: usize) -> u8 {
+    match past(bytes, words).get(number) {
         Some(byte) => *byte,
         None => 0,
     }
 }
 
-// The place past a record of this many words; the end where there is no such place.
-pub fn after(at: usize, words: usize, end: usize) -> usize
-    requires { at < end }
-    ensures { (at < result) × (result ≤ end) }
+// What follows a record of this many words; nothing where a record has none.
+pub fn after(bytes: &[u8], words: usize) -> &[u8]
+    requires { 0 < length bytes.now }
+    ensures { length result.now < length bytes.now }
 {
-    if words == 0 || end - at < words {
-        return end;
+    if words == 0 {
+        return &[];
     }
-    at + words
+    past(bytes, words)
 }
 
 // Reads a file into the start of the bytes, and answers how many it read.
@@ -74,6 +70,7 @@ pub fn read(rt: &impl Files, path: &str, bytes: &mut [u8]) -> io::Result<usize>
 {
     let mut file = File::open(rt, path)?;
     let mut done: usize = 0;
+    // How many bytes a read brings is known once it is done.
     while done < bytes.len() {
         let n = file.read(&mut bytes[done..])?;
         if n == 0 {

@@ -12,10 +12,10 @@ use std::io;
 const SCENE: u32 = 5;
 
 // Puts the scene of a record in the place of its strip.
-fn keep_scene(bytes: &[u8], at: usize, scenes: &mut [Scene; STRIPS]) {
-    let strip = list::count(bytes, at, 1);
+fn keep_scene(bytes: &[u8], scenes: &mut [Scene; STRIPS]) {
+    let strip = list::count(bytes, 1);
     if strip < STRIPS {
-        scenes[strip] = settings::scene_at(bytes, at, 2, 13);
+        scenes[strip] = settings::scene_at(bytes, 2, 13);
     }
 }
 
@@ -25,12 +25,12 @@ fn joined(high: u32, low: u32) -> u64 {
 
 // The mixer that a record gives. The places past the count are filled too, since a call must not
 // look at them.
-fn given_mixer(bytes: &[u8], at: usize) -> Mixer {
+fn given_mixer(bytes: &[u8]) -> Mixer {
     let mut mixer = spectral_dsp::new_mixer();
-    mixer.count = list::any_count(bytes, at, 1);
-    mixer.served = joined(list::word(bytes, at, 2), list::word(bytes, at, 3));
+    mixer.count = list::any_count(bytes, 1);
+    mixer.served = joined(list::word(bytes, 2), list::word(bytes, 3));
     for place in 0..STRIPS {
-        mixer.strips[place] = list::any_count(bytes, at, 4 + place);
+        mixer.strips[place] = list::any_count(bytes, 4 + place);
     }
     mixer
 }
@@ -73,7 +73,6 @@ fn print_turn(rt: &impl Print, mixer: &mut Mixer) -> io::Result<()> {
 fn print_serve_on(
     rt: &impl Print,
     bytes: &[u8],
-    at: usize,
     scenes: &[Scene; STRIPS],
     mixer: &mut Mixer,
     left: &mut [f32],
@@ -81,8 +80,8 @@ fn print_serve_on(
     curve: &mut [f32],
     table: &mut [f32],
 ) -> io::Result<()> {
-    slice::fill(bytes, at, 4, curve);
-    mask_records::fill_table(bytes, at, 12, list::count(bytes, at, 1), table);
+    slice::fill(bytes, 4, curve);
+    mask_records::fill_table(bytes, 12, list::count(bytes, 1), table);
     let served = spectral_dsp::serve(left, right, curve, scenes, table, mixer);
     print_named(rt, served.named)?;
     text::print_outcome(rt, served.outcome)?;
@@ -95,7 +94,6 @@ fn print_serve_on(
 fn print_serve(
     rt: &impl Print,
     bytes: &[u8],
-    at: usize,
     scenes: &[Scene; STRIPS],
     mixer: &mut Mixer,
 ) -> io::Result<()> {
@@ -104,14 +102,13 @@ fn print_serve(
     let mut right = [mask_records::BEFORE; 8194];
     let mut curve = [0.0f32; 8194];
     let mut table = [0.0f32; 8194];
-    let n = slice::length(bytes, at, 2, &left);
-    let m = slice::length(bytes, at, 3, &right);
-    let points = slice::length(bytes, at, 4, &curve);
-    let entries = slice::length(bytes, at, 13, &table);
+    let n = slice::length(bytes, 2, &left);
+    let m = slice::length(bytes, 3, &right);
+    let points = slice::length(bytes, 4, &curve);
+    let entries = slice::length(bytes, 13, &table);
     print_serve_on(
         rt,
         bytes,
-        at,
         scenes,
         mixer,
         &mut left[..n],
@@ -131,11 +128,10 @@ fn print_call(
     rt: &impl Print,
     call: u32,
     bytes: &[u8],
-    at: usize,
     scenes: &[Scene; STRIPS],
     mixer: &mut Mixer,
 ) -> io::Result<()> {
-    let strip = list::any_count(bytes, at, 1);
+    let strip = list::any_count(bytes, 1);
     match call {
         0 => {
             *mixer = spectral_dsp::new_mixer();
@@ -143,9 +139,9 @@ fn print_call(
         }
         1 => print_request(rt, strip, mixer),
         2 => print_turn(rt, mixer),
-        3 => print_serve(rt, bytes, at, scenes, mixer),
+        3 => print_serve(rt, bytes, scenes, mixer),
         4 => {
-            *mixer = given_mixer(bytes, at);
+            *mixer = given_mixer(bytes);
             print_made(rt, "given", mixer)
         }
         SCENE => print_scene(rt, strip),
@@ -154,32 +150,29 @@ fn print_call(
 }
 
 // The number of words of a record, with the voices of a scene.
-fn words_of(call: u32, bytes: &[u8], at: usize) -> usize {
+fn words_of(call: u32, bytes: &[u8]) -> usize {
     match call {
         0 => 1,
         1 => 2,
         2 => 1,
         3 => 21,
         4 => 20,
-        SCENE => 13 + settings::voice_words(bytes, at, 13),
+        SCENE => 13 + settings::voice_words(bytes, 13),
         _ => 1,
     }
 }
 
-// Replays the records in turn, each on the mixer and the scenes that the one before left.
-pub fn print_all(rt: &impl Print, bytes: &[u8]) -> io::Result<()> {
-    let end = list::words(bytes);
-    let mut scenes = [scene::blank_scene(); STRIPS];
-    let mut mixer = spectral_dsp::new_mixer();
-    let mut at: usize = 0;
-    while at < end {
-        let call = list::word(bytes, at, 0);
-        if call == SCENE {
-            keep_scene(bytes, at, &mut scenes);
-        }
-        print_call(rt, call, bytes, at, &scenes, &mut mixer)?;
-        text::end_line(rt)?;
-        at = list::after(at, words_of(call, bytes, at), end);
+// Makes the call of a record on the mixer and the scenes that the one before left.
+pub fn print_record(
+    rt: &impl Print,
+    bytes: &[u8],
+    scenes: &mut [Scene; STRIPS],
+    mixer: &mut Mixer,
+) -> io::Result<usize> {
+    let call = list::word(bytes, 0);
+    if call == SCENE {
+        keep_scene(bytes, scenes);
     }
-    Ok(())
+    print_call(rt, call, bytes, scenes, mixer)?;
+    Ok(words_of(call, bytes))
 }

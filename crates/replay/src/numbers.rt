@@ -56,13 +56,13 @@ fn print_call(rt: &impl Print, which: u32, a: u32, b: u32, c: u32) -> io::Result
     }
 }
 
-pub fn print_record(rt: &impl Print, bytes: &[u8], at: usize) -> io::Result<usize> {
+pub fn print_record(rt: &impl Print, bytes: &[u8]) -> io::Result<usize> {
     print_call(
         rt,
-        list::word(bytes, at, 0),
-        list::word(bytes, at, 1),
-        list::word(bytes, at, 2),
-        list::word(bytes, at, 3),
+        list::word(bytes, 0),
+        list::word(bytes, 1),
+        list::word(bytes, 2),
+        list::word(bytes, 3),
     )?;
     Ok(4)
 }

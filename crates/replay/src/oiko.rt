@@ -35,12 +35,12 @@ fn print_call(rt: &impl Print, call: u32, first: u32, second: u32) -> io::Result
     }
 }
 
-pub fn print_record(rt: &impl Print, bytes: &[u8], at: usize) -> io::Result<usize> {
+pub fn print_record(rt: &impl Print, bytes: &[u8]) -> io::Result<usize> {
     print_call(
         rt,
-        list::word(bytes, at, 0),
-        list::word(bytes, at, 1),
-        list::word(bytes, at, 2),
+        list::word(bytes, 0),
+        list::word(bytes, 1),
+        list::word(bytes, 2),
     )?;
     Ok(3)
 }

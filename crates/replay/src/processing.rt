@@ -8,13 +8,12 @@ use std::io;
 fn print_build_dual_synthesis_window_on(
     rt: &impl Print,
     bytes: &[u8],
-    at: usize,
     analysis: &mut [f32],
     synthesis: &mut [f32],
 ) -> io::Result<()> {
-    slice::fill(bytes, at, 2, analysis);
-    slice::fill(bytes, at, 10, synthesis);
-    let overlap = list::count(bytes, at, 1);
+    slice::fill(bytes, 2, analysis);
+    slice::fill(bytes, 10, synthesis);
+    let overlap = list::count(bytes, 1);
     text::print_outcome(
         rt,
         processing::build_dual_synthesis_window(analysis, synthesis, overlap),
@@ -23,75 +22,72 @@ fn print_build_dual_synthesis_window_on(
 }
 
 // The list's longest windows have 16,386 values.
-fn print_build_dual_synthesis_window(rt: &impl Print, bytes: &[u8], at: usize) -> io::Result<()> {
+fn print_build_dual_synthesis_window(rt: &impl Print, bytes: &[u8]) -> io::Result<()> {
     print!(rt; "build_dual_synthesis_window")?;
     let mut analysis = [0.0f32; 16386];
     let mut synthesis = [0.0f32; 16386];
-    let n = slice::length(bytes, at, 2, &analysis);
-    let m = slice::length(bytes, at, 10, &synthesis);
-    print_build_dual_synthesis_window_on(rt, bytes, at, &mut analysis[..n], &mut synthesis[..m])
+    let n = slice::length(bytes, 2, &analysis);
+    let m = slice::length(bytes, 10, &synthesis);
+    print_build_dual_synthesis_window_on(rt, bytes, &mut analysis[..n], &mut synthesis[..m])
 }
 
 fn print_soften_spectral_edges_on(
     rt: &impl Print,
     bytes: &[u8],
-    at: usize,
     source: &mut [f32],
     output: &mut [f32],
 ) -> io::Result<()> {
-    slice::fill(bytes, at, 1, source);
-    slice::fill(bytes, at, 9, output);
+    slice::fill(bytes, 1, source);
+    slice::fill(bytes, 9, output);
     text::print_outcome(rt, processing::soften_spectral_edges(source, output))?;
     text::print_hash(rt, output)
 }
 
 // The list's longest gain lists have 8,195 entries.
-fn print_soften_spectral_edges(rt: &impl Print, bytes: &[u8], at: usize) -> io::Result<()> {
+fn print_soften_spectral_edges(rt: &impl Print, bytes: &[u8]) -> io::Result<()> {
     print!(rt; "soften_spectral_edges")?;
     let mut source = [0.0f32; 8195];
     let mut output = [0.0f32; 8195];
-    let n = slice::length(bytes, at, 1, &source);
-    let m = slice::length(bytes, at, 9, &output);
-    print_soften_spectral_edges_on(rt, bytes, at, &mut source[..n], &mut output[..m])
+    let n = slice::length(bytes, 1, &source);
+    let m = slice::length(bytes, 9, &output);
+    print_soften_spectral_edges_on(rt, bytes, &mut source[..n], &mut output[..m])
 }
 
 fn print_smooth_mask_in_db_on(
     rt: &impl Print,
     bytes: &[u8],
-    at: usize,
     current: &mut [f32],
     target: &mut [f32],
 ) -> io::Result<()> {
-    slice::fill(bytes, at, 2, current);
-    slice::fill(bytes, at, 10, target);
-    let elapsed = list::float(bytes, at, 1);
+    slice::fill(bytes, 2, current);
+    slice::fill(bytes, 10, target);
+    let elapsed = list::float(bytes, 1);
     text::print_outcome(rt, processing::smooth_mask_in_db(current, target, elapsed))?;
     text::print_hash(rt, current)
 }
 
 // The list's longest gain lists have 8,195 entries.
-fn print_smooth_mask_in_db(rt: &impl Print, bytes: &[u8], at: usize) -> io::Result<()> {
+fn print_smooth_mask_in_db(rt: &impl Print, bytes: &[u8]) -> io::Result<()> {
     print!(rt; "smooth_mask_in_db")?;
     let mut current = [0.0f32; 8195];
     let mut target = [0.0f32; 8195];
-    let n = slice::length(bytes, at, 2, &current);
-    let m = slice::length(bytes, at, 10, &target);
-    print_smooth_mask_in_db_on(rt, bytes, at, &mut current[..n], &mut target[..m])
+    let n = slice::length(bytes, 2, &current);
+    let m = slice::length(bytes, 10, &target);
+    print_smooth_mask_in_db_on(rt, bytes, &mut current[..n], &mut target[..m])
 }
 
 fn print_spectrum_on(
     rt: &impl Print,
     bytes: &[u8],
-    at: usize,
     window: &mut [f32],
     smooth: &mut [f32],
     block: &mut [f32],
 ) -> io::Result<()> {
-    slice::fill(bytes, at, 3, window);
-    slice::fill(bytes, at, 11, smooth);
-    slice::fill(bytes, at, 19, block);
-    let rate = list::float(bytes, at, 1);
-    let overlap = list::count(bytes, at, 2);
+    slice::fill(bytes, 3, window);
+    slice::fill(bytes, 11, smooth);
+    slice::fill(bytes, 19, block);
+    let rate = list::float(bytes, 1);
+    let overlap = list::count(bytes, 2);
     text::print_prepared(
         rt,
         PreparedSpectrum::new(rate, window, smooth, overlap, block),
@@ -102,18 +98,16 @@ fn print_spectrum_on(
 fn print_spectrum_in(
     rt: &impl Print,
     bytes: &[u8],
-    at: usize,
     window: &mut [f32],
     smooth: &mut [f32],
     block: &mut [f32],
 ) -> io::Result<()> {
-    let n = slice::length(bytes, at, 3, window);
-    let m = slice::length(bytes, at, 11, smooth);
-    let l = slice::length(bytes, at, 19, block);
+    let n = slice::length(bytes, 3, window);
+    let m = slice::length(bytes, 11, smooth);
+    let l = slice::length(bytes, 19, block);
     print_spectrum_on(
         rt,
         bytes,
-        at,
         &mut window[..n],
         &mut smooth[..m],
         &mut block[..l],
@@ -121,20 +115,20 @@ fn print_spectrum_in(
 }
 
 // The list's longest windows have 32,768 values.
-fn print_prepared_spectrum_new(rt: &impl Print, bytes: &[u8], at: usize) -> io::Result<()> {
+fn print_prepared_spectrum_new(rt: &impl Print, bytes: &[u8]) -> io::Result<()> {
     print!(rt; "prepared_spectrum_new")?;
     let mut window = [0.0f32; 32768];
     let mut smooth = [0.0f32; 32768];
     let mut block = [0.0f32; 147457];
-    print_spectrum_in(rt, bytes, at, &mut window, &mut smooth, &mut block)
+    print_spectrum_in(rt, bytes, &mut window, &mut smooth, &mut block)
 }
 
-fn print_call(rt: &impl Print, call: u32, bytes: &[u8], at: usize) -> io::Result<()> {
+fn print_call(rt: &impl Print, call: u32, bytes: &[u8]) -> io::Result<()> {
     match call {
-        0 => print_build_dual_synthesis_window(rt, bytes, at),
-        1 => print_soften_spectral_edges(rt, bytes, at),
-        2 => print_smooth_mask_in_db(rt, bytes, at),
-        3 => print_prepared_spectrum_new(rt, bytes, at),
+        0 => print_build_dual_synthesis_window(rt, bytes),
+        1 => print_soften_spectral_edges(rt, bytes),
+        2 => print_smooth_mask_in_db(rt, bytes),
+        3 => print_prepared_spectrum_new(rt, bytes),
         _ => print!(rt; "no such call"),
     }
 }
@@ -150,8 +144,8 @@ fn words_of(call: u32) -> usize {
     }
 }
 
-pub fn print_record(rt: &impl Print, bytes: &[u8], at: usize) -> io::Result<usize> {
-    let call = list::word(bytes, at, 0);
-    print_call(rt, call, bytes, at)?;
+pub fn print_record(rt: &impl Print, bytes: &[u8]) -> io::Result<usize> {
+    let call = list::word(bytes, 0);
+    print_call(rt, call, bytes)?;
     Ok(words_of(call))
 }

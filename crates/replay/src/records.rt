@@ -15,46 +15,41 @@ const LONGEST: usize = 8000;
 const BEFORE: u8 = 7;
 
 // The record's length, or that of the room for it where that is less.
-fn length(bytes: &[u8], at: usize, past: usize, room: &[u8]) -> usize
+fn length(bytes: &[u8], past: usize, room: &[u8]) -> usize
     ensures { IsPrefixLen result room.now }
 {
-    let n = list::count(bytes, at, past);
+    let n = list::count(bytes, past);
     if n <= room.len() {
         return n;
     }
     room.len()
 }
 
-fn print_write_scene_on(
-    rt: &impl Print,
-    bytes: &[u8],
-    at: usize,
-    record: &mut [u8],
-) -> io::Result<()> {
-    let scene = settings::scene_at(bytes, at, 1, 13);
+fn print_write_scene_on(rt: &impl Print, bytes: &[u8], record: &mut [u8]) -> io::Result<()> {
+    let scene = settings::scene_at(bytes, 1, 13);
     text::print_outcome(rt, spectral_dsp::write_scene(record, scene))?;
     text::print_hash_of_bytes(rt, record)
 }
 
-fn print_write_scene(rt: &impl Print, bytes: &[u8], at: usize) -> io::Result<()> {
+fn print_write_scene(rt: &impl Print, bytes: &[u8]) -> io::Result<()> {
     print!(rt; "write_scene")?;
     let mut room = [BEFORE; LONGEST];
-    let n = length(bytes, at, 12, &room);
-    print_write_scene_on(rt, bytes, at, &mut room[..n])
+    let n = length(bytes, 12, &room);
+    print_write_scene_on(rt, bytes, &mut room[..n])
 }
 
 // The stored byte with this number, or 0 past them.
-fn stored_byte(bytes: &[u8], at: usize, number: usize) -> u8 {
-    if number < list::count(bytes, at, 2) {
-        return list::byte(bytes, at, 3, number);
+fn stored_byte(bytes: &[u8], number: usize) -> u8 {
+    if number < list::count(bytes, 2) {
+        return list::byte(bytes, 3, number);
     }
     0
 }
 
 // Makes the bytes of a record that is read.
-fn fill(bytes: &[u8], at: usize, record: &mut [u8]) {
+fn fill(bytes: &[u8], record: &mut [u8]) {
     for (number, byte) in record.iter_mut().enumerate() {
-        *byte = stored_byte(bytes, at, number);
+        *byte = stored_byte(bytes, number);
     }
 }
 
@@ -87,50 +82,45 @@ fn print_scene_read(rt: &impl Print, read: Result<Scene, Refusal>) -> io::Result
     }
 }
 
-fn print_read_scene_on(
-    rt: &impl Print,
-    bytes: &[u8],
-    at: usize,
-    record: &mut [u8],
-) -> io::Result<()> {
-    fill(bytes, at, record);
+fn print_read_scene_on(rt: &impl Print, bytes: &[u8], record: &mut [u8]) -> io::Result<()> {
+    fill(bytes, record);
     print_scene_read(rt, spectral_dsp::read_scene(record))
 }
 
-fn print_read_scene(rt: &impl Print, bytes: &[u8], at: usize) -> io::Result<()> {
+fn print_read_scene(rt: &impl Print, bytes: &[u8]) -> io::Result<()> {
     print!(rt; "read_scene")?;
     let mut room = [0u8; LONGEST];
-    let n = length(bytes, at, 1, &room);
-    print_read_scene_on(rt, bytes, at, &mut room[..n])
+    let n = length(bytes, 1, &room);
+    print_read_scene_on(rt, bytes, &mut room[..n])
 }
 
-fn print_call(rt: &impl Print, call: u32, bytes: &[u8], at: usize) -> io::Result<()> {
+fn print_call(rt: &impl Print, call: u32, bytes: &[u8]) -> io::Result<()> {
     match call {
-        0 => print_write_scene(rt, bytes, at),
-        1 => print_read_scene(rt, bytes, at),
+        0 => print_write_scene(rt, bytes),
+        1 => print_read_scene(rt, bytes),
         _ => print!(rt; "no such call"),
     }
 }
 
 // The number of words of the stored bytes, of which a record has at most 8,000. The last word may
 // hold fewer than four.
-fn stored_words(bytes: &[u8], at: usize) -> usize
+fn stored_words(bytes: &[u8]) -> usize
     ensures { result ≤ 2000 }
 {
-    (list::count(bytes, at, 2) % (LONGEST + 1) + 3) / 4
+    (list::count(bytes, 2) % (LONGEST + 1) + 3) / 4
 }
 
 // The number of words of a call's record: up to its voices or bytes, and theirs.
-fn words_of(call: u32, bytes: &[u8], at: usize) -> usize {
+fn words_of(call: u32, bytes: &[u8]) -> usize {
     match call {
-        0 => 13 + settings::voice_words(bytes, at, 13),
-        1 => 3 + stored_words(bytes, at),
+        0 => 13 + settings::voice_words(bytes, 13),
+        1 => 3 + stored_words(bytes),
         _ => 1,
     }
 }
 
-pub fn print_record(rt: &impl Print, bytes: &[u8], at: usize) -> io::Result<usize> {
-    let call = list::word(bytes, at, 0);
-    print_call(rt, call, bytes, at)?;
-    Ok(words_of(call, bytes, at))
+pub fn print_record(rt: &impl Print, bytes: &[u8]) -> io::Result<usize> {
+    let call = list::word(bytes, 0);
+    print_call(rt, call, bytes)?;
+    Ok(words_of(call, bytes))
 }

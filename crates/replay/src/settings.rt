@@ -9,30 +9,30 @@ use scene::{MaskConfig, MaskVoice, MotionConfig, Pitch, Scene};
 use voice_records::VoiceRecord;
 
 // The moving field's settings, from four words. A shape's number past the last gives the last.
-pub fn motion_at(bytes: &[u8], at: usize, past: usize) -> MotionConfig {
-    let first = at.wrapping_add(past);
+pub fn motion_at(bytes: &[u8], past: usize) -> MotionConfig {
+    let words = list::past(bytes, past);
     MotionConfig {
-        shape: scene::shape_of(list::word(bytes, first, 0)),
-        depth_db: list::float(bytes, first, 1),
-        phase: list::float(bytes, first, 2),
-        size_octaves: list::float(bytes, first, 3),
+        shape: scene::shape_of(list::word(words, 0)),
+        depth_db: list::float(words, 1),
+        phase: list::float(words, 2),
+        size_octaves: list::float(words, 3),
     }
 }
 
 const SETTINGS_WORDS: usize = 11;
 
 // A mask's settings, from eleven words.
-pub fn config_at(bytes: &[u8], at: usize, past: usize) -> MaskConfig {
-    let first = at.wrapping_add(past);
+pub fn config_at(bytes: &[u8], past: usize) -> MaskConfig {
+    let words = list::past(bytes, past);
     MaskConfig {
-        sample_rate: list::float(bytes, first, 0),
-        fft_size: list::count(bytes, first, 1),
-        note_depth_db: list::float(bytes, first, 2),
-        note_layer_enabled: list::word(bytes, first, 3) != 0,
-        width_cents: list::float(bytes, first, 4),
-        partials: list::count(bytes, first, 5),
-        harmonic_rolloff_db_per_octave: list::float(bytes, first, 6),
-        motion: motion_at(bytes, first, 7),
+        sample_rate: list::float(words, 0),
+        fft_size: list::count(words, 1),
+        note_depth_db: list::float(words, 2),
+        note_layer_enabled: list::word(words, 3) != 0,
+        width_cents: list::float(words, 4),
+        partials: list::count(words, 5),
+        harmonic_rolloff_db_per_octave: list::float(words, 6),
+        motion: motion_at(words, 7),
     }
 }
 
@@ -76,23 +76,23 @@ fn default_voice() -> MaskVoice {
 }
 
 // The first word is 256 times the form of the pitch and the note, the second its other number.
-fn pitch_at(bytes: &[u8], first: usize) -> Pitch {
-    let form = (list::word(bytes, first, 0) / 256 % 256) as u8;
-    let note = (list::word(bytes, first, 0) % 256) as u8;
-    pitch_of(form, note, list::float(bytes, first, 1))
+fn pitch_at(words: &[u8]) -> Pitch {
+    let form = (list::word(words, 0) / 256 % 256) as u8;
+    let note = (list::word(words, 0) % 256) as u8;
+    pitch_of(form, note, list::float(words, 1))
 }
 
-pub fn voice_at(bytes: &[u8], at: usize, past: usize) -> MaskVoice {
-    let first = at.wrapping_add(past);
-    let pitch = pitch_at(bytes, first);
+pub fn voice_at(bytes: &[u8], past: usize) -> MaskVoice {
+    let words = list::past(bytes, past);
+    let pitch = pitch_at(words);
     MaskVoice {
         pitch,
-        level: list::float(bytes, first, 2),
-        pressure: list::float(bytes, first, 3),
-        timbre: list::float(bytes, first, 4),
-        volume_gain: list::float(bytes, first, 5),
-        expression_gain: list::float(bytes, first, 6),
-        pan: list::float(bytes, first, 7),
+        level: list::float(words, 2),
+        pressure: list::float(words, 3),
+        timbre: list::float(words, 4),
+        volume_gain: list::float(words, 5),
+        expression_gain: list::float(words, 6),
+        pan: list::float(words, 7),
     }
 }
 
@@ -115,40 +115,40 @@ pub fn words_of_voice(voice: MaskVoice) -> [u32; VOICE_WORDS] {
 }
 
 // The stored voice with this number, or a default one past them.
-pub fn voice_of(bytes: &[u8], first: usize, number: usize) -> MaskVoice
+pub fn voice_of(words: &[u8], number: usize) -> MaskVoice
     requires { number < 128 }
 {
-    if number < list::count(bytes, first, 1) {
-        return voice_at(bytes, first, 2 + number * VOICE_WORDS);
+    if number < list::count(words, 1) {
+        return voice_at(words, 2 + number * VOICE_WORDS);
     }
     default_voice()
 }
 
 // The first voices, as many as a call takes. A call with more is refused before it reads any.
-pub fn voices_at(bytes: &[u8], at: usize, past: usize) -> [MaskVoice; MOST_VOICES] {
-    let first = at.wrapping_add(past);
+pub fn voices_at(bytes: &[u8], past: usize) -> [MaskVoice; MOST_VOICES] {
+    let words = list::past(bytes, past);
     let mut voices = [default_voice(); MOST_VOICES];
     for number in 0..MOST_VOICES {
-        voices[number] = voice_of(bytes, first, number);
+        voices[number] = voice_of(words, number);
     }
     voices
 }
 
 // The number of words of the voices, of which at most 128 are stored.
-pub fn voice_words(bytes: &[u8], at: usize, past: usize) -> usize
+pub fn voice_words(bytes: &[u8], past: usize) -> usize
     ensures { result ≤ 1026 }
 {
-    let first = at.wrapping_add(past);
-    2 + list::count(bytes, first, 1) % 129 * VOICE_WORDS
+    let words = list::past(bytes, past);
+    2 + list::count(words, 1) % 129 * VOICE_WORDS
 }
 
 // A scene, whose voices need not stand right after its settings.
-pub fn scene_at(bytes: &[u8], at: usize, past: usize, voices_past: usize) -> Scene {
-    let config = config_at(bytes, at, past);
-    let voices = voices_at(bytes, at, voices_past);
+pub fn scene_at(bytes: &[u8], past: usize, voices_past: usize) -> Scene {
+    let config = config_at(bytes, past);
+    let voices = voices_at(bytes, voices_past);
     Scene {
         config,
         voices,
-        count: list::count(bytes, at, voices_past),
+        count: list::count(bytes, voices_past),
     }
 }

@@ -4,10 +4,10 @@ ghost use Rattle.replay.specs.Counts.{Counts};
 use crate::list;
 
 // The slice's length, or that of the room for it where that is less.
-pub fn length(bytes: &[u8], at: usize, past: usize, room: &[f32]) -> usize
+pub fn length(bytes: &[u8], past: usize, room: &[f32]) -> usize
     ensures { Counts result room.now }
 {
-    let n = list::count(bytes, at, past);
+    let n = list::count(bytes, past);
     if n <= room.len() {
         return n;
     }
@@ -36,29 +36,21 @@ fn put(xs: &mut [f32], place: usize, value: f32) {
 }
 
 // Puts the two values at their places.
-pub fn put_both(bytes: &[u8], at: usize, past: usize, xs: &mut [f32]) {
-    let first = at.wrapping_add(past);
-    put(
-        xs,
-        list::count(bytes, first, 4),
-        list::float(bytes, first, 5),
-    );
-    put(
-        xs,
-        list::count(bytes, first, 6),
-        list::float(bytes, first, 7),
-    );
+pub fn put_both(bytes: &[u8], past: usize, xs: &mut [f32]) {
+    let words = list::past(bytes, past);
+    put(xs, list::count(words, 4), list::float(words, 5));
+    put(xs, list::count(words, 6), list::float(words, 7));
 }
 
 // Makes the entries of the slice.
-pub fn fill(bytes: &[u8], at: usize, past: usize, xs: &mut [f32]) {
-    let first = at.wrapping_add(past);
-    let low = list::word(bytes, first, 2);
-    let high = list::word(bytes, first, 3);
-    let mut state = list::word(bytes, first, 1);
+pub fn fill(bytes: &[u8], past: usize, xs: &mut [f32]) {
+    let words = list::past(bytes, past);
+    let low = list::word(words, 2);
+    let high = list::word(words, 3);
+    let mut state = list::word(words, 1);
     for x in xs.iter_mut() {
         state = next(state);
         *x = spread(low, high, state);
     }
-    put_both(bytes, at, past, xs);
+    put_both(bytes, past, xs);
 }

@@ -81,7 +81,8 @@ pub struct MaskConfig {
 }
 
 // A whole scene: its settings, and the voices that count, which stand at the array's start. The
-// drawn curve is not part of it.
+// drawn curve is not part of it. Here and in the calls, voices are an array with a count, as
+// document 01 has it in the core: nothing is allocated.
 #[derive(Clone, Copy, Debug, PartialEq)]
 pub struct Scene {
     pub config: MaskConfig,

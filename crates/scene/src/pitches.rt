@@ -5,6 +5,7 @@ ghost use Rattle.scene.specs.PitchNumbers.{form_of, note_of, number_of, pitch_of
 
 use crate::Pitch;
 
+// A form by its number, as a record in C and a stored record hold it.
 pub const NOTE_FORM: u8 = 0;
 
 pub const HERTZ_FORM: u8 = 1;
@@ -20,7 +21,8 @@ pub fn accepted(pitch: Pitch) -> bool
 }
 
 // The pitch of a form: a note with its semitones, or hertz, where the note is not read. Any other
-// form gives 0 Hz, which lies outside the limits, so that its voice is refused in its turn.
+// form gives 0 Hz, which lies outside the limits, so that its voice is refused in its turn. The
+// numbers stand among others in a record, so that a `From` over three of them would be no plainer.
 #[tactic(auto, unfolding(crate::specs::PitchNumbers::pitch_of))]
 pub fn pitch_of(form: u8, note: u8, number: f32) -> Pitch
     ensures { result ≡ pitch_of form note number }

@@ -9,7 +9,8 @@ use crate::MotionShape;
 #[derive(Clone, Copy, Debug, PartialEq, Eq)]
 pub struct UnknownShape(pub u32);
 
-// The shape with this number, in the Rust's order; 7 and above give the last.
+// The shape with this number, in the Rust's order; 7 and above give the last. It cannot fail, as
+// callers have it; `try_from` refuses what no shape has.
 pub fn shape_of(number: u32) -> MotionShape
     ensures { result ≡ shape_of number }
 {

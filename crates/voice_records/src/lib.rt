@@ -61,7 +61,8 @@ impl From<MaskVoice> for VoiceRecord {
     }
 }
 
-// The voices of an array of records, all 128.
+// The voices of an array of records, all 128, one after the other: std has no `From` between arrays
+// of other types.
 pub fn voices_of(records: [VoiceRecord; MOST_VOICES]) -> [MaskVoice; MOST_VOICES]
     ensures { result ≡ voices_of_record records }
 {

@@ -53,7 +53,8 @@ build_one-requires c =
     let f = tabled-mask-accepted a.manual_mask_db.now a.config a.voices a.count a.table.now (length a.output.now) d in
     let scene = tabled-mask-scene a.manual_mask_db.now a.voices a.count a.config a.table.now (length a.output.now) d (voices-f32 128 a.voices _ c.well_formed.1.1.0) (settings-f32 a.config _ c.well_formed.1.1.1.1.0) in
     let table = tabled-mask-table a.manual_mask_db.now a.voices a.count a.config a.table.now (length a.output.now) d (λ i l. c.shared_slice_known-2-1.given i) in
-    (f.0.0, f.1, f.0.1, f.3, f.2, sound-scene a.config _ a.table.now f.0.1 scene.voices-real scene.settings-real table.entries table.entry-real)
+    let sound = sound-scene a.config _ a.table.now f.0.1 scene.voices-real scene.settings-real table.entries table.entry-real in
+    (f.0.0, f.1, f.0.1, f.3, assumption f.2, assumption sound)
 
 pub returns-clause-result_value : goal.returns-clause-result_value
 returns-clause-result_value c =

@@ -1,7 +1,7 @@
 -- `raise_lobes`: joining the lobes from the current one on to what the bins hold now gives what
 -- joining all of them to what the bins held at entry gives. Assumes nothing.
 use mathlib.Core.Path.{refl, sym, ◌∙◌}
-use Prim.Native.Nat.{◌-◌, ◌≤◌}
+use Prim.Native.Nat.{◌≤◌}
 use native.Mathlib.Nat.{lt_of_le_of_lt}
 use native.Mathlib.Omega.{arith}
 use lib.ListN.{length}

@@ -6,7 +6,6 @@ use lib.ListN.{length}
 use borrow.Author.Rules.{rules}
 use Rattle.lists.specs.Folds.{rest-next, rest-none}
 use Rattle.scene.specs.Accepted.{no_voice}
-use Rattle.mask_builder.specs.Centered.{centered}
 use Rattle.mask_builder.proofs.Every.{every-step, every-stop, every-end}
 use Rattle.mask_builder.proofs.centers.all_centered.Invariants.{at_center}
 use Rattle.mask_builder.proofs.centers.all_centered.Goals as goal

@@ -1,5 +1,4 @@
 -- `raised_together` goes the compact way where its caller allows it. Assumes nothing.
-use mathlib.Core.Path.{refl}
 use Rattle.lobes.specs.Distance.{IfLent}
 use Rattle.openness.proofs.raise.raised_together.Goals as goal
 

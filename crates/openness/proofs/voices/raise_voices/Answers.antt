@@ -1,8 +1,7 @@
 -- `raise_voices`: joining the voices from the current one on to what the bins hold now gives what
 -- joining all of them to what the bins held at entry gives. Assumes nothing.
 use mathlib.Core.Path.{refl, sym, ◌∙◌}
-use mathlib.Core.Bool.{true}
-use Prim.Native.Nat.{◌-◌, ◌≤◌}
+use Prim.Native.Nat.{◌≤◌}
 use native.Mathlib.Omega.{arith}
 use lib.ListN.{length, get_or}
 use Rattle.scene.specs.Accepted.{no_voice}
