@@ -152,7 +152,8 @@ fn move_row(
         × (stop ≤ length current.old)
         × (stop ≤ start + length current_db.now)
         × (stop ≤ start + length target_db.now)
-        × ((i : ℕ) → start ≤ i → i < stop → get_or current_db.now (i - start) nan ≡ decibels_of (get_or current.old i nan)) }
+        × ((i : ℕ) → start ≤ i → i < stop
+        → get_or current_db.now (i - start) nan ≡ decibels_of (get_or current.old i nan)) }
     ensures { current.new ≡ map_range
         (λ i x. nearer blend (decibels_of x) (get_or target_db.now (i - start) nan)) start
         stop current.old }
