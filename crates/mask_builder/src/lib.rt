@@ -132,7 +132,7 @@ pub fn build_two(
     // Centered voices give identical masks; copy rather than rebuild.
     if centers::all_centered(voices, count) {
         build_one(left, curve, voices, count, config, Some(table));
-        right.copy_from_slice(left);
+        slices::copy(left, right);
         return;
     }
     let powers = power::table::power_table();

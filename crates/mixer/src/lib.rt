@@ -3,9 +3,10 @@
 // known here.
 #![tactic(auto)]
 
-ghost use Rattle.std.specs.Prelude.{◌≡◌};
+ghost use Rattle.std.specs.Prelude.{◌≡◌, ◌<◌};
+ghost use Rattle.lists.specs.Closing.{closed};
 ghost use Rattle.answer.specs.Reply.{of_outcome};
-ghost use Rattle.mixer.specs.Mixers.{fresh, request_reply, with_request, mixer_asked};
+ghost use Rattle.mixer.specs.Mixers.{strip_count, fresh, request_reply, with_request, mixer_asked};
 ghost use Rattle.mixer.specs.Mixers.{turn_names, mixer_turned};
 
 use answer::{Outcome, Reason};
@@ -62,6 +63,19 @@ pub fn request(mixer: &mut Mixer, strip: usize) -> Outcome
     Ok(())
 }
 
+// Each strip after the first, up to the last, moves into the place before it. std's `copy_within`
+// does the same, but by memmove, a name that the static library for C would then need from outside.
+fn moved_up(strips: [usize; STRIPS], last: usize) -> [usize; STRIPS]
+    requires { last < strip_count }
+    ensures { result ≡ closed 0 0 last strips }
+{
+    let mut moved = strips;
+    for i in 0..last {
+        moved[i] = strips[i + 1];
+    }
+    moved
+}
+
 // Names the strip that has waited longest, and takes it off.
 pub fn turn(mixer: &mut Mixer) -> Option<usize>
     ensures named_value { result ≡ turn_names mixer.old }
@@ -72,7 +86,7 @@ pub fn turn(mixer: &mut Mixer) -> Option<usize>
         return None;
     }
     let longest = mixer.strips[0];
-    mixer.strips.copy_within(1..count, 0);
+    mixer.strips = moved_up(mixer.strips, count - 1);
     mixer.count = count - 1;
     mixer.served = mixer.served.saturating_add(1);
     Some(longest)

@@ -13,7 +13,7 @@ fn fill_pair(window: &[f32], overlap: usize, block: &mut [f32])
     ensures { block.new ≡ pair_of window.now overlap }
 {
     let size = window.len();
-    block[..size].copy_from_slice(window);
+    slices::copy(window, &mut block[..size]);
     windows::dual_window(window, &mut block[size..], overlap);
 }
 

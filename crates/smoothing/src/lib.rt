@@ -115,7 +115,7 @@ pub fn soften(source: &[f32], output: &mut [f32])
     requires { length source.now ≡ length output.old }
     ensures { output.new ≡ softened_of source.now }
 {
-    output.copy_from_slice(source);
+    slices::copy(source, output);
     if source.len() < 3 {
         return;
     }

@@ -17,7 +17,7 @@ pub returns-then-all_centered : goal.returns-then-all_centered
 returns-then-all_centered c =
     let a = c.args in
     let t = subst T (sym c.if-all_centered.true ∙ c.all_centered.ensures) tt in
-    let built = c.build_one.ensures in record { left_after = built ∙ one-mask a.curve.now a.config (lent a.table.now) left _ t; right_after = c.copy_from_slice.ensures.after ∙ built ∙ one-mask a.curve.now a.config (lent a.table.now) right _ t }
+    let built = c.build_one.ensures in record { left_after = built ∙ one-mask a.curve.now a.config (lent a.table.now) left _ t; right_after = c.copy.ensures ∙ built ∙ one-mask a.curve.now a.config (lent a.table.now) right _ t }
 
 pub finish_two-requires : goal.finish_two-requires
 finish_two-requires c = (search rules, search rules, search rules, search rules)

@@ -8,15 +8,15 @@ use Rattle.windows.specs.Windows.{dual_of}
 use Rattle.prepared_spectrum.proofs.Filled.{fill-last}
 use Rattle.prepared_spectrum.proofs.fill_pair.Goals as goal
 
-pub slice_bounds-copy_from_slice-end-2 : goal.slice_bounds-copy_from_slice-end-2
-slice_bounds-copy_from_slice-end-2 c = sym (length-take-le _ _ (omega arith))
+pub slice_bounds-copy-end-2 : goal.slice_bounds-copy-end-2
+slice_bounds-copy-end-2 c = sym (length-take-le _ _ (omega arith))
 
-pub copy_from_slice-requires : goal.copy_from_slice-requires
-copy_from_slice-requires c = length-take-le _ _ (omega arith)
+pub copy-requires : goal.copy-requires
+copy-requires c = sym (length-take-le _ _ (omega arith))
 
 pub returns : goal.returns
 returns c =
     let w = c.args.window.now in
     let n = length w in
     let rest = drop n c.args.block.now in
-    rw (c.copy_from_slice.ensures.after, c.dual_window.ensures) (fill-last n w rest (dual_of w c.args.overlap) refl)
+    rw (c.copy.ensures, c.dual_window.ensures) (fill-last n w rest (dual_of w c.args.overlap) refl)

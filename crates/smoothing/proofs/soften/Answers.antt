@@ -16,10 +16,10 @@ pub returns-then-source-lt3 : goal.returns-then-source-lt3
 unfolding softened_of
 returns-then-source-lt3 c =
     let s = c.args.source.now in
-    c.copy_from_slice.ensures.after ∙ turned-to (length s - 1) (turned_none (λ b x. softened_at s b) 1 s) (inr refl) (omega arith)
+    c.copy.ensures ∙ turned-to (length s - 1) (turned_none (λ b x. softened_at s b) 1 s) (inr refl) (omega arith)
 
 pub returns : goal.returns
 unfolding softened_of
 returns c =
     let s = c.args.source.now in
-    c.soften_inside.ensures ∙ ap (λ (l : List Float). map_range (λ b x. softened_at s b) 1 (length s - 1) l) c.copy_from_slice.ensures.after
+    c.soften_inside.ensures ∙ ap (λ (l : List Float). map_range (λ b x. softened_at s b) 1 (length s - 1) l) c.copy.ensures
