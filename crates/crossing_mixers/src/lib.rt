@@ -74,15 +74,19 @@ pub fn file(mut mixer: Mixer, strip: usize) -> PlainFiled
 }
 
 // `turn`.
-pub fn take_turn(mut mixer: Mixer) -> PlainTurned
+pub fn take_turn(mixer: Mixer) -> PlainTurned
     ensures { result ≡ plain_turned (turn_names mixer) (mixer_turned mixer) }
 {
-    let named = turn(&mut mixer);
-    PlainTurned {
-        named: named.is_some(),
-        strip: strip_of(named),
+    // The mixer is changed where it is handed back, which spares a copy where nobody waits.
+    let mut turned = PlainTurned {
+        named: false,
+        strip: 0,
         mixer,
-    }
+    };
+    let named = turn(&mut turned.mixer);
+    turned.named = named.is_some();
+    turned.strip = strip_of(named);
+    turned
 }
 
 // The stereo call on a scene. A shape outside 0..7 is refusal 2, after refusal 1.

@@ -2,9 +2,11 @@
 #![tactic(auto)]
 
 ghost use Rattle.std.specs.Prelude.{◌≡◌, map, length};
+ghost use Rattle.answer.specs.Reply.{of_refusal};
 ghost use Rattle.answer.specs.Written.{written};
 ghost use Rattle.crossing.specs.Given.{Given};
 ghost use Rattle.crossing.specs.MaskSettings.{with_settings};
+ghost use Rattle.scene.specs.Made.{blank_scene};
 ghost use Rattle.voice_records.specs.VoiceRecords.{plain_voice};
 ghost use Rattle.record_calls.specs.Records.{record_of, write_reply, read_reply, scene_read};
 ghost use Rattle.crossing_scenes.specs.Scenes.{scene_of, plain_scene};
@@ -103,6 +105,18 @@ pub fn write(record: &mut [u8], plain: PlainScene, place: &mut usize) -> u32
     }
 }
 
+// What a refused read answers. A function of its own, so that a read that is done pays for one
+// scene alone.
+fn refused_read(refusal: Refusal) -> PlainSceneRead
+    ensures { result ≡ plain_read (of_refusal refusal) blank_scene }
+{
+    PlainSceneRead {
+        number: u32::from(refusal.reason.number()),
+        place: refusal.place,
+        scene: PlainScene::from(blank_scene()),
+    }
+}
+
 // `read_scene`.
 pub fn read(record: &[u8]) -> PlainSceneRead
     ensures { result ≡ plain_read (read_reply «record».now)
@@ -114,10 +128,6 @@ pub fn read(record: &[u8]) -> PlainSceneRead
             place: 0,
             scene: PlainScene::from(scene),
         },
-        Err(refusal) => PlainSceneRead {
-            number: u32::from(refusal.reason.number()),
-            place: refusal.place,
-            scene: PlainScene::from(blank_scene()),
-        },
+        Err(refusal) => refused_read(refusal),
     }
 }

@@ -16,11 +16,11 @@ use record_voices::{pitches_allowed, put_voices, voices_at};
 use refusals::{of_settings, of_voices};
 use scene::{Scene, held};
 
-// Refusals 1 to 5 of a scene: the settings, the number of voices, the record's length where it is to
-// be written, and the voices.
-fn of_scene(scene: Scene, lengths: bool) -> Outcome
-    ensures { of_outcome result ≡ first (settings_reply scene.config)
-        (voices_reply scene.voices scene.count lengths) }
+// Refusals 1 to 5 of a scene that is to be written: the settings, the number of voices, the
+// record's length, and the voices.
+fn of_scene(scene: &Scene, lengths: bool) -> Outcome
+    ensures { of_outcome result ≡ first (settings_reply scene.now.config)
+        (voices_reply scene.now.voices scene.now.count lengths) }
 {
     of_settings(scene.config)?;
     of_voices(scene.voices, scene.count, lengths)
@@ -34,7 +34,7 @@ pub fn write_scene(record: &mut [u8], scene: Scene) -> Outcome
 {
     // Over 128 voices are refused before a length counts, so that any length will do for them.
     let length = record_length(held(scene.count));
-    of_scene(scene, record.len() == length)?;
+    of_scene(&scene, record.len() == length)?;
     put_head(record, scene.config, scene.count);
     put_voices(record, RECORD_HEAD, scene.voices, scene.count);
     Ok(())
@@ -67,11 +67,11 @@ pub fn read_scene(record: &[u8]) -> Result<Scene, Refusal>
     let config = settings_at(record);
     // Of over 128 voices, which are refused, the array holds the first.
     let voices = voices_at(record, RECORD_HEAD, held(count));
-    let scene = Scene {
+    of_settings(config)?;
+    of_voices(voices, count, true)?;
+    Ok(Scene {
         config,
         voices,
         count,
-    };
-    of_scene(scene, true)?;
-    Ok(scene)
+    })
 }

@@ -1,11 +1,13 @@
 -- `read_scene` meets its contract: refusal 9, or what the tests answer on the record's fields.
 -- Assumes nothing.
-use Rattle.std.proofs.Common.{ℕ, drop, sym, ap, ◌∙◌, arith}
+use Rattle.std.proofs.Common.{ℕ, drop, sym, ap, ◌∙◌, arith, true}
 use lib.Dec.{T}
 use mathlib.Core.Path.{subst}
 use Rattle.limits.specs.Lengths.{record_head}
 use Rattle.scene.specs.Gathered.{gathered_to}
 use Rattle.scene.proofs.Gathered.{held_fits}
+use Rattle.answer.specs.Reply.{Reply}
+use Rattle.refusals.specs.Masks.{first, voices_reply}
 use Rattle.record_heads.specs.Heads.{count_of}
 use Rattle.record_voices.specs.Voices.{voices_of}
 use Rattle.record_calls.proofs.Reading.{formed, read-refused, read-tested, scene-made}
@@ -42,18 +44,38 @@ voices_at-voices-requires c =
       count_in_bounds = omega (arith, fits.0, c.held.ensures, count, whole);
     }
 
-pub returns-in_err-of_scene : goal.returns-in_err-of_scene
-returns-in_err-of_scene c =
+pub returns-in_err-of_settings : goal.returns-in_err-of_settings
+returns-in_err-of_settings c =
     let bs = c.args.«record».now in
     let form = sym c.well_formed-2.ensures ∙ c.if-not-well_formed.false in
     let count = c.count_of-count.ensures.0 ∙ ap count_of c.head_at.ensures.0 in
     let array =
     c.voices_at-voices.ensures
     ∙ ap (λ (k : ℕ). gathered_to k (voices_of (drop record_head bs) k)) c.held.ensures in
+    let heard = voices_reply c.voices_at-voices.result c.count_of-count.result true in
     let e =
-    c.in_err-of_scene.ensures
+    ap (λ (r : Reply). first r heard) c.in_err-of_settings.ensures
     ∙ sym (read-tested bs _ _ _ c.settings_at-config.ensures count array form) in
     let passed = passed_on _ _ c.from_residual.ensures.1 in
+    record {
+      outcome_value = passed.0 ∙ e;
+      scene_value = passed.1 ∙ scene-refused bs (sym e);
+    }
+
+pub returns-in_err-of_voices : goal.returns-in_err-of_voices
+returns-in_err-of_voices c =
+    let bs = c.args.«record».now in
+    let form = sym c.well_formed-2.ensures ∙ c.if-not-well_formed.false in
+    let count = c.count_of-count.ensures.0 ∙ ap count_of c.head_at.ensures.0 in
+    let array =
+    c.voices_at-voices.ensures
+    ∙ ap (λ (k : ℕ). gathered_to k (voices_of (drop record_head bs) k)) c.held.ensures in
+    let heard = voices_reply c.voices_at-voices.result c.count_of-count.result true in
+    let e =
+    c.in_err-of_voices.ensures
+    ∙ ap (λ (r : Reply). first r heard) c.in_ok-of_settings.ensures
+    ∙ sym (read-tested bs _ _ _ c.settings_at-config.ensures count array form) in
+    let passed = passed_on _ _ c.from_residual-in_err-of_voices.ensures.1 in
     record {
       outcome_value = passed.0 ∙ e;
       scene_value = passed.1 ∙ scene-refused bs (sym e);
@@ -68,7 +90,11 @@ returns c =
     c.voices_at-voices.ensures
     ∙ ap (λ (k : ℕ). gathered_to k (voices_of (drop record_head bs) k)) c.held.ensures in
     let same = c.settings_at-config.ensures in
-    let e = c.in_ok-of_scene.ensures ∙ sym (read-tested bs _ _ _ same count array form) in
+    let heard = voices_reply c.voices_at-voices.result c.count_of-count.result true in
+    let e =
+    c.in_ok-of_voices.ensures
+    ∙ ap (λ (r : Reply). first r heard) c.in_ok-of_settings.ensures
+    ∙ sym (read-tested bs _ _ _ same count array form) in
     record {
       outcome_value = e;
       scene_value = scene-made bs _ _ _ same count array ∙ scene-done bs (sym e);
