@@ -82,7 +82,8 @@ fn print_motion_compensation_gain(rt: &impl Print, bytes: &[u8]) -> io::Result<(
 fn held_at(bytes: &[u8]) -> [u8; HELD_BYTES] {
     let mut held = [0u8; HELD_BYTES];
     for number in 0..HELD_BYTES {
-        held[number] = list::byte(bytes, 3, number);
+        let word = list::word(bytes, 3 + number / list::WORD_BYTES);
+        held[number] = word.to_be_bytes()[number % list::WORD_BYTES];
     }
     held
 }
