@@ -9,7 +9,7 @@ ghost use Rattle.record_law.specs.Law.{ComesBack, WrittenAsRead, OneRecord};
 
 use answer::{Outcome, Refusal};
 use record_calls::{read_scene, write_scene};
-use scene::Scene;
+use scene::{Scene, blank_scene};
 
 // What a read answers.
 pub type SceneRead = Result<Scene, Refusal>;
@@ -24,8 +24,8 @@ pub fn write_then_read(record: &mut [u8], scene: Scene) -> (Outcome, SceneRead)
     (written, read_scene(record))
 }
 
-// Reads a record, and writes its scene to another slice. Where the read is refused nothing is
-// written.
+// Reads a record, and writes its scene to another slice. Where the read is refused that is the blank
+// scene, which no call accepts, so nothing is written.
 pub fn read_then_write(record: &[u8], copy: &mut [u8]) -> (SceneRead, Outcome)
     ensures read_value { of_read result.0 ≡ read_reply «record».now }
     ensures written_as_read { length copy.old ≡ length «record».now →
@@ -33,7 +33,7 @@ pub fn read_then_write(record: &[u8], copy: &mut [u8]) -> (SceneRead, Outcome)
 {
     match read_scene(record) {
         Ok(scene) => (Ok(scene), write_scene(copy, scene)),
-        Err(refusal) => (Err(refusal), Err(refusal)),
+        Err(refusal) => (Err(refusal), write_scene(copy, blank_scene())),
     }
 }
 
